@@ -1,13 +1,11 @@
 -- Whether a layout and a size keep the limits is decided.
 use Rattle.std.proofs.Common.{◌≡◌, ◌⊎◌, inl, inr, ℕ, zero, suc, ◌^◌, ◌<◌, ◌≤◌, refl, sym, subst, arith}
+use Rattle.std.proofs.Math.Nat.{not-suc-le-zero}
 use Rattle.std.proofs.Math.Pow.{pow-lt, pow_mono}
 use Rattle.rbd_kinds.specs.declared.layout.Layout.{Layout}
 use Rattle.rbd_kinds.specs.Striping.{IsLayout, object_of}
 use Rattle.rbd_layout.specs.Asked.{KeepsLimits}
 use Rattle.rbd_layout.proofs.Mixed.{cases_lt}
-
-none_below : (x : ℕ) → x < 0 → ⊥
-none_below x less = omega (arith, less)
 
 le_or_not : (a b : ℕ) → (a ≤ b) ⊎ (a ≤ b → ⊥)
 le_or_not a b = go (cases_lt a b)
@@ -54,7 +52,7 @@ module _ (P : ℕ → Type 0) (decide : (x : ℕ) → P x ⊎ (P x → ⊥)) whe
   all_step n (inl here) (inr fails) = inr (λ all. fails (λ x less. all x (omega (arith, less))))
 
   all_below : (n : ℕ) → ((x : ℕ) → x < n → P x) ⊎ (((x : ℕ) → x < n → P x) → ⊥)
-  all_below zero = inl (λ x less. absurd (none_below x less))
+  all_below zero = inl (λ x less. absurd (not-suc-le-zero less))
   all_below (suc n) = all_step n (decide n) (all_below n)
 
   some_step : (n : ℕ) → P n ⊎ (P n → ⊥) → ((x : ℕ) × (x < n) × P x) ⊎ ((x : ℕ) → x < n → P x → ⊥) → ((x : ℕ) × (x < suc n) × P x) ⊎ ((x : ℕ) → x < suc n → P x → ⊥)
@@ -63,7 +61,7 @@ module _ (P : ℕ → Type 0) (decide : (x : ℕ) → P x ⊎ (P x → ⊥)) whe
   some_step n (inr fails) (inr none) = inr (λ x less p. no_more n fails none x p (up_to n x less))
 
   some_below : (n : ℕ) → ((x : ℕ) × (x < n) × P x) ⊎ ((x : ℕ) → x < n → P x → ⊥)
-  some_below zero = inr (λ x less p. none_below x less)
+  some_below zero = inr (λ x less p. not-suc-le-zero less)
   some_below (suc n) = some_step n (decide n) (some_below n)
 
 -- a power of two with an exponent from a bound on

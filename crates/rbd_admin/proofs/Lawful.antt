@@ -258,7 +258,7 @@ module _ (at : Label → Knowledge) where
     λ a can. lawful_on_done at (learned (told_known site image h bits) site (op.Map image (states.Put (Some (h.snap_seq + 1)) bits))) (taking site snap image next) (lawful_taking site snap image h bits next may lawful) a,
   )
 
-  -- the part that takes a snapshot, by the own look
+  -- the part that takes a snapshot, by the look under the lock
   lawful_copying : (site : SiteId) (snap : List ℕ) (image : ℕ) (h : HeaderView) (next : Plan) → create_refuses snap h ≡ None
       → ((bits : List ℕ) (taken : ℕ) → IsLawful at (taken_known site snap image h bits taken) next)
       → IsLawful at (owning_known true None site image h) (copying site snap image (h.snap_seq + 1) next)
@@ -275,7 +275,7 @@ module _ (at : Label → Knowledge) where
     λ a can. lawful_on_gone (learned (removed_known site image id h) site (op.Map image (states.Remove (Some id)))) next lawful a,
   )
 
-  -- the part that removes a snapshot, by the own look
+  -- the part that removes a snapshot, by the look under the lock
   lawful_removing : (site : SiteId) (image : ℕ) (h : HeaderView) (listed : SnapView) (next : Plan) → snap_in h.snaps listed.id ≡ Some listed → removal_refusal (Some listed) ≡ None
       → ((gone : Answer) → IsGone gone → IsLawful at (unmapped_known site image listed.id h gone) next)
       → IsLawful at (owning_known true None site image h) (removing site image listed.id next)

@@ -69,7 +69,7 @@ removing site image snap next = own site (op.Header image (header.SnapRemove sna
 abbrev pub take : SiteId → (snap : List ℕ) → (image : ℕ) → HeaderView → Plan
 take site snap image h = Note site image (event.SnapCreate snap) (copying site snap image (h.snap_seq + 1) (applied site image))
 
--- by the id that the own look lists under the name
+-- by the id that the look under the lock lists under the name
 abbrev pub remove_listed : SiteId → (snap : List ℕ) → (image : ℕ) → Option SnapView → Plan
 remove_listed site snap image None = refused refusal.NoSnap
 remove_listed site snap image (Some listed) = Note site image (event.SnapRemove snap) (removing site image listed.id (applied site image))

@@ -7,7 +7,7 @@ ghost use Rattle.rbd_admin.specs.Create.{is_create, on_drawn, rest_of_create, Is
 use rbd_header::new_header;
 use rbd_kinds::{
     Answer, Command, DirectoryOp, Event, Fed, HeaderOp, ImageId, Layout, MapOp, Name, NoMemory,
-    Number, Op, OpKind, Refusal, Reply, Shape, SiteId, TryClone, Turn, Want,
+    Number, Op, OpKind, Refusal, Reply, Shape, Shared, SiteId, TryClone, Turn, Want,
 };
 use rbd_layout::{keeps_limits, layout_of, objects};
 use rbd_machine::{Machine, Reason, refusal_of, told_done};
@@ -153,7 +153,9 @@ impl Machine for CreateRequest {
             }
             Stage::Making(image) => {
                 let view = new_header(alloc, self.layout, self.size.get());
-                let op = HeaderOp::Create { view };
+                let op = HeaderOp::Create {
+                    view: Shared::new(alloc, view)?,
+                };
                 Ok(Op::Header { image, op })
             }
         }

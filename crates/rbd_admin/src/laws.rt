@@ -52,9 +52,9 @@ pub fn renames_ask_once()
     ensures { (home : SiteId) (from to : List ℕ) → IsBounded (listing_plan home (Rename from to)) 1 }
 {}
 
-/// A `snap create` has six operations at most, and a `snap rm` five: three up to their own look,
-/// one that changes the header, and two or one on the snapshot's map. So the part that takes a
-/// snapshot has three more than what comes next, and the part that removes one has two.
+/// A `snap create` has six operations at most, and a `snap rm` five: three up to their look under
+/// the lock, one that changes the header, and two or one on the snapshot's map. So the part that
+/// takes a snapshot has three more than what comes next, and the part that removes one has two.
 pub fn snapshots_change_once()
     ensures either { (home : SiteId) (command : Command) → IsBounded (snap_plan home command) 6 }
     ensures removal { (home : SiteId) (image snap : List ℕ) → IsBounded (snap_plan home (SnapRemove image snap)) 5 }
@@ -86,8 +86,8 @@ pub fn listings_are_lawful()
 {}
 
 /// A `snap create` and a `snap rm` are lawful from nothing known: alone on the image, and by what
-/// its own look told, a name is taken that isn't listed, behind a map with the head's states, and a
-/// snapshot is removed that is listed and isn't protected, and then its map.
+/// its look under the lock told, a name is taken that isn't listed, behind a map with the head's
+/// states, and a snapshot is removed that is listed and isn't protected, and then its map.
 pub fn snapshots_are_lawful()
     ensures { (home : SiteId) (command : Command) → IsLawfulRequest (without_labels (snap_plan home command)) }
 {}
@@ -130,8 +130,8 @@ pub fn renames_change_the_name()
 {}
 
 /// A `snap create` is done only by one snapshot that was taken behind two looks and behind its map,
-/// and a `snap rm` by the removal of the one snapshot that its own look listed under the name, and
-/// of its map; neither look refused it.
+/// and a `snap rm` by the removal of the one snapshot that its look under the lock listed under the
+/// name, and of its map; neither look refused it.
 pub fn snapshots_change_behind_two_looks()
     ensures taken { (site : SiteId) (image snap : List ℕ) (feds : List Fed) (steps : List Answered)
         → IsWalk Goto (snap_plan site (SnapCreate image snap)) feds steps (Return Done) → TakesOne site image snap steps }

@@ -26,8 +26,8 @@
 //! | `info`, `snap ls` | `dir-find`, `header-get` | NoImage |
 //! | `du` | `dir-find`, `header-get`, `map-get` | NoImage |
 //! | `rename` | `dir-rename` | NoImage where there is no image of the name, ImageExists where the other is held |
-//! | `snap create` | to its own look, its event, a [`TakeSnap`], applied | NoImage, NonPrimary, SnapExists, BadShape |
-//! | `snap rm` | to its own look, its event, a [`RemoveSnap`], applied | NoImage, NonPrimary, NoSnap, SnapProtected |
+//! | `snap create` | to its look under the lock, its event, a [`TakeSnap`], applied | NoImage, NonPrimary, SnapExists, BadShape |
+//! | `snap rm` | to its look under the lock, its event, a [`RemoveSnap`], applied | NoImage, NonPrimary, NoSnap, SnapProtected |
 //!
 //! A part is what comes behind the event that was noted. It is for whoever does what an event says:
 //! the request that noted it, and the replay of a journal.
@@ -37,17 +37,18 @@
 //! | [`TakeSnap`] | `map-get`, `map-put`, `header-snap-add` | NoImage |
 //! | [`RemoveSnap`] | `header-snap-remove`, `map-remove` | NoImage |
 //!
-//! The way to its own look is `dir-find`, the image's line, alone in it, `header-get`, the lock,
-//! and `header-get` again ([`Approach`](rbd_machine::Approach)). What the own look shows can't
-//! change as long as the session has the lock; the look before spares a request that is refused the
-//! wait for it. The refusals of `snap create` and `snap rm` are tested at both looks, in the order
-//! of the table.
+//! The way to its look under the lock is `dir-find`, the image's line, alone in it, `header-get`,
+//! the lock, and `header-get` again ([`Approach`](rbd_machine::Approach)). What the look under the
+//! lock shows can't change as long as the session has the lock; the look before spares a request
+//! that is refused the wait for it. The refusals of `snap create` and `snap rm` are tested at both
+//! looks, in the order of the table.
 //!
 //! Object maps are kept as Ceph keeps them. An image's map is made before its header, with a state
 //! for each object of its size. A snapshot's map is put before the header lists the snapshot, with
 //! the bits that the head's map was told to have: its id is one more than the last of the header
-//! that the part is made of, that of the own look, and alone on the image nobody takes another. It
-//! is removed once the header doesn't list the snapshot, and one that isn't there is passed over.
+//! that the part is made of, that of the look under the lock, and alone on the image nobody takes
+//! another. It is removed once the header doesn't list the snapshot, and one that isn't there is
+//! passed over.
 //!
 //! A `du` counts the objects of the size that the header tells, and among them those that the
 //! head's map has in another state than 0. A map may have more objects, since it never becomes
@@ -89,8 +90,8 @@
 //! | [`TakeSnap`] | 3 | it holds the name, which `header-snap-add` copies once; the bits of a map are owned once more by `ready`, and once more by their `map-put`: where they are shared no byte is copied |
 //! | [`RemoveSnap`] | 2 | none |
 //!
-//! Neither is made with memory. A `snap create` copies the name at its own look, for its part.
-//! Nothing else takes memory.
+//! Neither is made with memory. A `snap create` copies the name at its look under the lock, for its
+//! part. Nothing else takes memory.
 //!
 //! # How it works
 //!

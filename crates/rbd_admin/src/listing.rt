@@ -14,7 +14,7 @@ use crate::operations::map_get;
 use crate::used::used_among;
 use rbd_kinds::{
     Answer, Command, DirectoryOp, Event, Fed, HeaderView, ImageId, Name, NoMemory, Op, OpKind,
-    Refusal, Reply, SiteId, TryClone, Turn, Want,
+    Refusal, Reply, Shared, SiteId, TryClone, Turn, Want,
 };
 use rbd_layout::objects;
 use rbd_machine::{Machine, Reason, dir_find, header_get, refusal_of, told_image};
@@ -189,7 +189,7 @@ fn renamed(answer: &Answer) -> Reply
 }
 
 /// What is shown of a header, as a reply, where nothing else is to be shown.
-fn reply_with(shown: Shown, header: &HeaderView) -> Result<Option<Reply>, NoMemory>
+fn reply_with(shown: Shown, header: &Shared<HeaderView>) -> Result<Option<Reply>, NoMemory>
     ensures { IfOk result (λ reply. reply ≡ shows shown header.now) }
 {
     match shown {

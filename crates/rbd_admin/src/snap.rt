@@ -21,7 +21,7 @@ use std::alloc::Global;
 /// Takes a snapshot of an image, or removes one.
 ///
 /// ```text
-/// Approaching   to its own look, alone in the image's line   (see `Approach`)
+/// Approaching   to its look under the lock, alone in the image's line   (see `Approach`)
 ///    │             refused: NonPrimary, then SnapExists and BadShape, or NoSnap and SnapProtected
 /// Noting        the event SnapCreate or SnapRemove, in the image's journal
 ///    │
@@ -182,7 +182,7 @@ impl Part for SnapPart {
         }
     }
 
-    fn next(&self) -> Result<Op, NoMemory> {
+    fn next(&self, _alloc: Global) -> Result<Op, NoMemory> {
         match self {
             SnapPart::Take(take) => take.next(),
             SnapPart::Remove(remove) => remove.next(),

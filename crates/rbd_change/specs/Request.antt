@@ -17,7 +17,7 @@ abbrev pub IsApproaching : {P : Type 0} → Stage P → Type 0
 IsApproaching (stage.Approaching way) = Unit {0}
 IsApproaching _ = ⊥
 
--- the image, where it approaches and is at its own look
+-- the image, where it approaches and is at its look under the lock
 abbrev pub owning_in : {P : Type 0} → Stage P → Option ℕ
 owning_in (stage.Approaching way) = owning_at way.stage
 owning_in _ = None
@@ -43,7 +43,7 @@ module _ {C P : Type 0} (refuses : C → HeaderView → Option Refusal) (noted :
   abbrev pub rest_of_change : ChangeRequest C P → Plan
   rest_of_change r = rest_at r.stage r
 
-  -- ---- the memory that an answer needs: at the own look, the part
+  -- ---- the memory that an answer needs: at the look under the lock, the part
 
   abbrev pub HasPart : ChangeRequest C P → HeaderView → Type 0
   HasPart r h = (image : ℕ) → owning_in r.stage ≡ Some image → refuses r.change h ≡ None → noting r image ≡ does r.change r.site image h

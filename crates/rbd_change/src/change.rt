@@ -28,7 +28,7 @@ pub trait Change: Refuses + Drop {
     /// Its event.
     ghost noted: { Self → Event };
 
-    /// The plan from its event on, by the header of its own look.
+    /// The plan from its event on, by the header of its look under the lock.
     ghost does: { Self → SiteId → (image : ℕ) → HeaderView → Plan };
 
     /// What a command asks for: the name of the image, and the change. It takes no memory.

@@ -23,7 +23,7 @@ pub trait ExtentChange: Refuses + Drop {
     /// Its event.
     ghost noted: { Self → Event };
 
-    /// The plan from its event on, by the header of its own look.
+    /// The plan from its event on, by the header of its look under the lock.
     ghost does: { Self → SiteId → (image : ℕ) → HeaderView → Plan };
 
     /// Its event.

@@ -22,7 +22,7 @@ use std::mem::replace;
 /// A request that changes an image object by object beside others, and notes an event.
 ///
 /// ```text
-/// Approaching   to its own look, in the image's line   (see `Approach`)
+/// Approaching   to its look under the lock, in the image's line   (see `Approach`)
 ///    │             refused: by what the change refuses
 /// Noting        its event, in the image's journal
 ///    │
@@ -41,7 +41,8 @@ pub struct ExtentRequest<C, P> {
     site: SiteId,
     change: C,
     stage: Stage<P>,
-    /// The pieces that are left behind the one that it is at, once the own look told the header.
+    /// The pieces that are left behind the one that it is at, once the look under the lock told the
+    /// header.
     pieces: VecDeque<P>,
 }
 
@@ -50,8 +51,12 @@ pub struct ExtentRequest<C, P> {
 enum Stage<P> {
     Approaching(Approach),
     Noting(ImageId),
-    /// At a piece, and whether it has its turn at the piece's object.
-    Acting(ImageId, P, bool),
+    /// At a piece, once it has its turn at the piece's object.
+    Acting {
+        image: ImageId,
+        piece: P,
+        has_turn: bool,
+    },
     Applying(ImageId),
 }
 
@@ -69,7 +74,7 @@ impl<C: ExtentChange> ExtentRequest<C, C::Piece> {
         }
     }
 
-    /// The image, where it approaches and is at its own look.
+    /// The image, where it approaches and is at its look under the lock.
     fn owning(&self) -> Option<ImageId>
         ensures { result ≡ owning_in self.now.stage }
     {
@@ -79,7 +84,7 @@ impl<C: ExtentChange> ExtentRequest<C, C::Piece> {
         }
     }
 
-    /// Takes the memory for its own look: there its pieces are made.
+    /// Takes the memory for its look under the lock: there its pieces are made.
     fn ready_pieces(&mut self, alloc: Global, answer: &Answer) -> Result<(), NoMemory>
         requires at { IsApproaching self.old.stage }
         requires can { CanBeFed (rest_of_extent C.refuses C.noted C.does C.Piece.rest C.Piece.number self.old) (fed_with.Answer answer.now) }
@@ -114,7 +119,7 @@ impl<C: ExtentChange> ExtentRequest<C, C::Piece> {
         drop(replace(&mut self.stage, stage));
     }
 
-    /// Goes on with its way to its own look, and from there.
+    /// Goes on with its way to its look under the lock, and from there.
     fn approach(&mut self, fed: &Fed) -> Turn
         requires at { IsApproaching self.old.stage }
         requires can { CanBeFed (rest_of_extent C.refuses C.noted C.does C.Piece.rest C.Piece.number self.old) fed.now }
@@ -141,7 +146,14 @@ impl<C: ExtentChange> ExtentRequest<C, C::Piece> {
             (without_labels (rest_of_extent C.refuses C.noted C.does C.Piece.rest C.Piece.number self.new)) }
     {
         match self.pieces.pop_front() {
-            Some(piece) => self.go_to(Stage::Acting(image, piece, false)),
+            Some(piece) => {
+                let has_turn = false;
+                self.go_to(Stage::Acting {
+                    image,
+                    piece,
+                    has_turn,
+                });
+            }
             None => self.go_to(Stage::Applying(image)),
         }
         Turn::More
@@ -161,10 +173,14 @@ impl<C: ExtentChange> Machine for ExtentRequest<C, C::Piece> {
                 site,
                 image: *image,
             },
-            Stage::Acting(_, piece, false) => Want::Turn {
+            Stage::Acting {
+                piece,
+                has_turn: false,
+                ..
+            } => Want::Turn {
                 object: piece.object(),
             },
-            Stage::Acting(_, piece, true) => piece.wants(),
+            Stage::Acting { piece, .. } => piece.wants(),
             Stage::Applying(image) => Want::Applied {
                 site,
                 image: *image,
@@ -172,12 +188,15 @@ impl<C: ExtentChange> Machine for ExtentRequest<C, C::Piece> {
         }
     }
 
-    fn next(&self, _alloc: Global) -> Result<Op, NoMemory> {
+    fn next(&self, alloc: Global) -> Result<Op, NoMemory> {
         match &self.stage {
             Stage::Approaching(way) => way.next(),
             Stage::Noting(_) => unreachable!(),
-            Stage::Acting(_, _, false) => unreachable!(),
-            Stage::Acting(_, piece, true) => piece.next(),
+            Stage::Acting {
+                has_turn: false,
+                ..
+            } => unreachable!(),
+            Stage::Acting { piece, .. } => piece.next(alloc),
             Stage::Applying(_) => unreachable!(),
         }
     }
@@ -199,7 +218,11 @@ impl<C: ExtentChange> Machine for ExtentRequest<C, C::Piece> {
         };
         match &mut self.stage {
             Stage::Approaching(_) => self.ready_pieces(alloc, answer),
-            Stage::Acting(_, piece, true) => piece.ready(alloc, answer),
+            Stage::Acting {
+                piece,
+                has_turn: true,
+                ..
+            } => piece.ready(alloc, answer),
             _ => Ok(()),
         }
     }
@@ -211,7 +234,11 @@ impl<C: ExtentChange> Machine for ExtentRequest<C, C::Piece> {
                 let image = *image;
                 self.next_piece(image)
             }
-            Stage::Acting(image, piece, has_turn) => {
+            Stage::Acting {
+                image,
+                piece,
+                has_turn,
+            } => {
                 if !*has_turn {
                     *has_turn = true;
                     return Turn::More;

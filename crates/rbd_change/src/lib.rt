@@ -11,7 +11,7 @@
 //! request.feed(&Fed::Passed)        // More: it has joined the line of image 7, alone
 //! request.feed(&header)             // More, or done where `SizeChange` refuses by this header
 //! request.feed(&Fed::Passed)        // More: the session has the lock
-//! request.ready(alloc, &header)?    // its own look: `SizeChange` makes the `NewSize`
+//! request.ready(alloc, &header)?    // its look under the lock: `SizeChange` makes the `NewSize`
 //! request.feed(&header)             // More
 //! request.wants()                   // its event noted in the journal of image 7
 //! request.event(alloc)?             // Resize, of `SizeChange`
@@ -37,7 +37,7 @@
 //! ```text
 //!                  what a change alone brings          what a change beside others brings
 //! Approaching      `refusal`: why it is refused, at both looks
-//!    │ own look    `part`: what is done behind the     `pieces`: what is done to each object;
+//!    │ under lock  `part`: what is done behind the     `pieces`: what is done to each object;
 //!    │             event; made by this header          made by this header
 //! Noting           `event`
 //!    │
@@ -61,9 +61,9 @@
 //! # Contracts
 //!
 //! [`Change`], [`ExtentChange`], [`Part`] and [`Piece`] are traits. A change says what it `does`
-//! from its own look on: the event, the part or the pieces, and that the event counts as applied.
-//! From that each machine shows once for all its changes that a request stands where its plan
-//! begins ([`ChangeRequest::new`], [`ExtentRequest::new`]), and keeps to it
+//! from its look under the lock on: the event, the part or the pieces, and that the event counts as
+//! applied. From that each machine shows once for all its changes that a request stands where its
+//! plan begins ([`ChangeRequest::new`], [`ExtentRequest::new`]), and keeps to it
 //! ([`Machine`](rbd_machine::Machine)). A [`Change`] also gives the plan of its commands, and says
 //! of a command's change that this is the plan. An [`ExtentRequest`] is made of a change that is
 //! there already, since the change of one command takes memory and that of another takes none; who
@@ -75,7 +75,7 @@
 //! | `serves` | [`Change`] | the commands that ask for it |
 //! | `plan` | [`Change`] | the plan of such a command at a site |
 //! | `noted` | [`Change`], [`ExtentChange`] | its event |
-//! | `does` | [`Change`], [`ExtentChange`] | the plan from its event on, by the header of its own look |
+//! | `does` | [`Change`], [`ExtentChange`] | the plan from its event on, by the header of its look under the lock |
 //! | `rest` | [`Part`] | what is left of a part, with what comes next |
 //! | `tells` | [`Part`] | the answers by which it can go on |
 //! | `is_ready` | [`Part`] | it has the memory that an answer needs |
@@ -91,17 +91,17 @@
 //!
 //! # Cost
 //!
-//! A request holds its change and its part or its pieces, and on its way to its own look the name
-//! of its image. Each call is that of its stage: of the way ([`Approach`](rbd_machine::Approach)),
-//! of the change, or of the part. `new`, `wants` and `feed` take no memory. `ready` makes the part
-//! or the pieces, at the own look.
+//! A request holds its change and its part or its pieces, and on its way to its look under the lock
+//! the name of its image. Each call is that of its stage: of the way
+//! ([`Approach`](rbd_machine::Approach)), of the change, or of the part. `new`, `wants` and `feed`
+//! take no memory. `ready` makes the part or the pieces, at the look under the lock.
 //!
 //! # How it works
 //!
-//! `ready` makes the part at the own look, and puts it beside the stage, since `feed` takes no
-//! memory; it is taken from there once the event is noted. Pieces stand in a queue beside the
-//! stage, and each is taken from there once the one before it has ended. Old values are let go by a
-//! call: a match in place on all variants of a part would be proved once more at each step.
+//! `ready` makes the part at the look under the lock, and puts it beside the stage, since `feed`
+//! takes no memory; it is taken from there once the event is noted. Pieces stand in a queue beside
+//! the stage, and each is taken from there once the one before it has ended. Old values are let go
+//! by a call: a match in place on all variants of a part would be proved once more at each step.
 #![tactic(auto)]
 
 mod change;

@@ -28,7 +28,7 @@ pub trait Part: Drop {
         ensures { (next : Plan) → Wants (rest self.now next) result };
 
     /// The operation that it wants.
-    fn next(&self) -> Result<Op, NoMemory>
+    fn next(&self, alloc: Global) -> Result<Op, NoMemory>
         ensures { (next : Plan) → IfOk result (Asks (rest self.now next)) };
 
     /// Takes the memory for an answer, and changes nothing else, also where it is refused.

@@ -19,7 +19,7 @@ use std::mem::replace;
 /// A request that changes an image alone, and notes an event.
 ///
 /// ```text
-/// Approaching   to its own look, alone in the image's line   (see `Approach`)
+/// Approaching   to its look under the lock, alone in the image's line   (see `Approach`)
 ///    │             refused: by what the change refuses
 /// Noting        its event, in the image's journal
 ///    │
@@ -37,7 +37,7 @@ pub struct ChangeRequest<C, P> {
     site: SiteId,
     change: C,
     stage: Stage<P>,
-    /// What is done behind the event, once the own look told the header.
+    /// What is done behind the event, once the look under the lock told the header.
     part: Option<P>,
 }
 
@@ -65,7 +65,7 @@ impl<C: Change> ChangeRequest<C, C::Part> {
         }
     }
 
-    /// The image, where it approaches and is at its own look.
+    /// The image, where it approaches and is at its look under the lock.
     fn owning(&self) -> Option<ImageId>
         ensures { result ≡ owning_in self.now.stage }
     {
@@ -75,7 +75,7 @@ impl<C: Change> ChangeRequest<C, C::Part> {
         }
     }
 
-    /// Takes the memory for its own look: there its part is made.
+    /// Takes the memory for its look under the lock: there its part is made.
     fn ready_part(&mut self, alloc: Global, answer: &Answer) -> Result<(), NoMemory>
         requires at { IsApproaching self.old.stage }
         requires can { CanBeFed (rest_of_change C.refuses C.noted C.does C.Part.rest self.old) (fed_with.Answer answer.now) }
@@ -110,7 +110,7 @@ impl<C: Change> ChangeRequest<C, C::Part> {
         drop(replace(&mut self.stage, stage));
     }
 
-    /// Goes on with its way to its own look, and from there.
+    /// Goes on with its way to its look under the lock, and from there.
     fn approach(&mut self, fed: &Fed) -> Turn
         requires at { IsApproaching self.old.stage }
         requires can { CanBeFed (rest_of_change C.refuses C.noted C.does C.Part.rest self.old) fed.now }
@@ -131,7 +131,7 @@ impl<C: Change> ChangeRequest<C, C::Part> {
         }
     }
 
-    /// Goes on behind its event, with the part that its own look made.
+    /// Goes on behind its event, with the part that its look under the lock made.
     fn begin_part(&mut self, image: ImageId) -> Turn
         ensures { GoesOn Goto (rest_of_some C.Part.rest self.old.part (applied self.old.site image)) result
             (without_labels (rest_of_change C.refuses C.noted C.does C.Part.rest self.new)) }
@@ -165,11 +165,11 @@ impl<C: Change> Machine for ChangeRequest<C, C::Part> {
         }
     }
 
-    fn next(&self, _alloc: Global) -> Result<Op, NoMemory> {
+    fn next(&self, alloc: Global) -> Result<Op, NoMemory> {
         match &self.stage {
             Stage::Approaching(way) => way.next(),
             Stage::Noting(_) => unreachable!(),
-            Stage::Acting(_, part) => part.next(),
+            Stage::Acting(_, part) => part.next(alloc),
             Stage::Applying(_) => unreachable!(),
         }
     }

@@ -11,13 +11,12 @@ use Rattle.rbd_client.proofs.Kept.{waits_kept, way_kept}
 use Rattle.rbd_kinds.specs.declared.id.SiteId.{SiteId}
 use Rattle.rbd_kinds.specs.declared.layout.Extent.{Extent}
 use Rattle.rbd_kinds.specs.declared.notice.Notice.{Notice}
-use Rattle.rbd_kinds.specs.declared.notice.NoticeKind.{NoticeKind}
-use Rattle.rbd_kinds.specs.declared.notice.NoticeKind.TheVariants as notice
 use Rattle.rbd_line.specs.Line.{member_of}
 use Rattle.rbd_locks.specs.declared.lock_state.LockState.{LockState}
 use Rattle.rbd_locks.specs.Locks.{LocksView, heard, state_at}
 use Rattle.rbd_kinds.specs.Images.{is_at}
 use Rattle.rbd_locks.specs.States.{told}
+use Rattle.rbd_locks.proofs.Lasting.{told_owned}
 use Rattle.rbd_machine.specs.Plan.{Standing}
 use Rattle.rbd_machine.specs.declared.seat.Seat.{Seat}
 use Rattle.rbd_session.specs.Lines.{LinesView, lines_of}
@@ -88,10 +87,6 @@ module _ {R : Type 0} (stands : R → Standing) where
         (way_kept stands slot (state_in slot old.slots).way old.session old.session old.locks new.locks (λ site image w. w) (λ p is. kept p.site p.image) (sound.ways slot)));
     telling = subst IsTelling (sym release) sound.telling;
   }
-
-  told_owned : (kind : NoticeKind) (s : LockState) → (told kind s).owned ≡ s.owned
-  told_owned notice.RequestLock s = refl
-  told_owned kind s = refl
 
   pub heard_owned : (n : Notice) (old new : LocksView) → ((site : SiteId) (image : ℕ) → state_at site image new ≡ heard n site image (state_at site image old))
       → (site : SiteId) (image : ℕ) → IsOwned site image old → IsOwned site image new

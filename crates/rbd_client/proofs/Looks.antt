@@ -1,4 +1,4 @@
--- A request at its own look wants to look at a header of that site.
+-- A request at its look under the lock wants to look at a header of that site.
 use Rattle.std.proofs.Common.{◌≡◌, ℕ, ◌&&◌, cond, Bool, true, false, Option, Some, None, refl, sym, ap, ◌∙◌}
 use Rattle.std.specs.Option.{option_map}
 use Rattle.std.proofs.lemmas.Option.{none-some, same_Some}

@@ -127,7 +127,7 @@ module _ {R : Type 0} (stands : R → Standing) where
         at_look = at;
       }
 
-  -- the request whose way acts waits for its own look
+  -- the request whose way acts waits for its look under the lock
   pub way_waits : (slot : ℕ) (c : ClientView R) (a : Acquire) → IsSoundClient stands c → actor_at stands slot c ≡ actor.Way a → WaitsForLook stands slot a.site a.image c.session
   way_waits slot c a sound acts = by (slot == 0) acts
     where

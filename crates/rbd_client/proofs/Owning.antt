@@ -1,5 +1,6 @@
 -- What an answer leaves of the locks that count as owned.
 use Rattle.std.proofs.Common.{◌≡◌, ℕ, zero, suc, Bool, true, false, cond, not, ◌&&◌, ◌||◌, List, [], ◌∷◌, Option, Some, None, refl, sym, ap, ◌∙◌, true≢false}
+use Rattle.std.proofs.Math.Bool.{and-true}
 use Rattle.rbd_client.specs.declared.slot_state.SlotState.{SlotState}
 use Rattle.rbd_client.specs.declared.slot_state.Way.{Way}
 use Rattle.rbd_client.specs.declared.slot_state.Way.TheVariants as way
@@ -60,12 +61,8 @@ owned_counted : (site : SiteId) (o : Op) (a : Answer) (there : SiteId) (image : 
     → (counted site o a there image s).owned ≡ true
 owned_counted site (op.Header on o) a there image s stays owned = go (is_at site on there image) refl
   where
-    and_true : (b : Bool) → (b && true) ≡ false → b ≡ false
-    and_true true is = is
-    and_true false is = refl
-
     go : (b : Bool) → is_at site on there image ≡ b → (cond b (answered o a s) s).owned ≡ true
-    go true same = owned_answered o a s (and_true (is_end o a) (ap (λ b. is_end o a && b) (sym same) ∙ stays)) owned
+    go true same = owned_answered o a s (sym (and-true (is_end o a)) ∙ ap (λ b. is_end o a && b) (sym same) ∙ stays) owned
     go false other = owned
 owned_counted site o a there image s stays owned = owned
 

@@ -71,13 +71,13 @@ module _ {R : Type 0} (stands : R → Standing) where
       go true is = absurd (true≢false (sym is ∙ releases_nothing_else c.release (due_release c)))
       go false is = is
 
-  -- two images at whose own look one request waits are one
+  -- two images at whose look under the lock one request waits are one
   one_place : (slot : ℕ) (site : SiteId) (image : ℕ) (p : ImageAt) (s : SessionView R) → WaitsForLook stands slot site image s → IsAtOwnLook slot p s → record { site = site; image = image } ≡ p
   one_place slot site image p s w look =
       let same : w.request ≡ look.running = same_Some w.request look.running (sym w.runs ∙ look.runs) in
       same_Some (record { site = site; image = image }) p (sym w.place ∙ ap (λ (r : Running R). r.place) same ∙ look.place)
 
-  -- A request at its own look acts only where the lock counts as owned.
+  -- A request at its look under the lock acts only where the lock counts as owned.
   pub request_owns : (slot : ℕ) (c : ClientView R) → IsSoundClient stands c → actor_at stands slot c ≡ actor.Request → (p : ImageAt) → own_look_at stands slot c.session ≡ Some p
       → IsOwned p.site p.image c.locks
   request_owns slot c sound acts p at = go (state_in slot c.slots).way (sound.ways slot) (subst (λ look. is_request (actor_on (state_in slot c.slots).way look c.locks) ≡ true) at (acts_by_way slot c acts))
@@ -88,7 +88,7 @@ module _ {R : Type 0} (stands : R → Standing) where
       go (way.Taken q) well is =
           subst (λ (x : ImageAt). IsOwned x.site x.image c.locks) (one_place slot q.site q.image p c.session well.0 (at_own_look stands c.session slot p at)) well.1
 
-  -- ---- a request that waits for its own look, and may go on, stands there
+  -- ---- a request that waits for its look under the lock, and may go on, stands there
 
   pub stands_at_look : (slot : ℕ) (site : SiteId) (image : ℕ) (s : SessionView R) → WaitsForLook stands slot site image s → OfRunning (λ r. waits slot (track_of r s.lines) ≡ false) (held_in slot s.slots)
       → own_look_at stands slot s ≡ Some (record { site = site; image = image })
@@ -112,7 +112,7 @@ module _ {R : Type 0} (stands : R → Standing) where
           ∙ ap (λ (q : Running R). own_look_of slot (kind_asked (stands q.request).plan) q.place s.lines) (same_Some r w.request is)
           ∙ placed
 
-  -- ---- the operation of an own look ends no lock
+  -- ---- the operation of a look under the lock ends no lock
 
   look_ends_none : (at site : SiteId) (o : Op) (a : Answer) (there : SiteId) (image : ℕ) → is_look_at at (Some (site, kind_of o)) ≡ true → ends site o a there image ≡ false
   look_ends_none at site (op.Header on header.LockDrop) a there image is = absurd (true≢false (sym is))

@@ -24,7 +24,7 @@ use Rattle.rbd_owner.specs.Release.{begun_release, release_op}
 use Rattle.rbd_session.specs.Lines.{lines_of}
 use Rattle.rbd_session.specs.Session.{SessionView, kind_at, op_at, own_look_at}
 
--- ---- a request at its own look
+-- ---- a request at its look under the lock
 
 -- It goes on where the lock is the session's, and else by the way to it. A quiesce holds it back,
 -- and so does another one that wants the lock.
@@ -65,7 +65,7 @@ releasing None (Some p) = actor.Release (begun_release p.site p.image)
 releasing None None = actor.Nobody
 
 module _ {R : Type 0} where
-  -- no request of the image is past own, or has taken the lock itself
+  -- no request of the image is past its look under the lock, or has taken the lock itself
   abbrev pub is_at_rest : SiteId → (image : ℕ) → ClientView R → Bool
   is_at_rest site image c = not (any_past (lines_of c.session.lines site image)) && not (any_taken site image c.slots)
 

@@ -78,8 +78,8 @@ pub record IsClientAlike {R : Type 0} (stands : R → Standing) (old new : Clien
   pub heard : new.heard ≡ old.heard
 
 -- A request of the client ends a lock only where no other request of the image relies on it. A
--- `close` is alone, and waits for all before it; who removes the header is past own itself, alone,
--- and nobody has taken the lock beside. A release sees to that by itself.
+-- `close` is alone, and waits for all before it; who removes the header is past its look under the
+-- lock itself, alone, and nobody has taken the lock beside. A release sees to that by itself.
 abbrev pub IsAtRest : {R : Type 0} → SiteId → Op → ClientView R → Type 0
 IsAtRest site (op.Header image header.LockDrop) c = is_at_rest site image c ≡ true
 IsAtRest site (op.Header image header.Remove) c = any_taken site image c.slots ≡ false
@@ -91,7 +91,7 @@ DropsAtRest who site o c = Unit {0}
 
 -- ---- what it comes to for the locks
 
--- the own look of a quiesce
+-- the look under the lock of a quiesce
 abbrev pub quiesces : (look : Option ImageAt) → List Coming
 quiesces None = []
 quiesces (Some p) = ByQuiesce p.site p.image ∷ []
@@ -101,7 +101,7 @@ abbrev pub resumes : SiteId → Op → (image : ℕ) → List Coming
 resumes site (op.Directory (directory.Find name)) image = ByResume site image ∷ []
 resumes site o image = []
 
--- its own look begins a quiesce, and its look-up of the image ends one
+-- its look under the lock begins a quiesce, and its look-up of the image ends one
 abbrev pub quiesced_by : Quiescing → (look : Option ImageAt) → SiteId → Op → Answer → List Coming
 quiesced_by quiescing.Begins look site o (answer.Header h) = quiesces look
 quiesced_by quiescing.Ends look site o (answer.Id image) = resumes site o image
@@ -117,7 +117,7 @@ comings_of q look site o fed.Passed = []
 abbrev pub state_on_way : (has_ended : Bool) → Way → SlotState → SlotState
 state_on_way has_ended w s = if has_ended then blank else record { way = w; quiescing = s.quiescing }
 
--- a request whose own look was answered needs no way any more
+-- a request whose look under the lock was answered needs no way any more
 abbrev pub state_behind : (has_ended has_looked : Bool) → SlotState → SlotState
 state_behind has_ended has_looked s =
     if has_ended then blank else if has_looked then record { way = way.Unbegun; quiescing = s.quiescing } else s

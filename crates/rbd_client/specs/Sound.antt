@@ -14,8 +14,8 @@ use Rattle.rbd_session.specs.declared.running.Running.{Running}
 use Rattle.rbd_session.specs.Lines.{lines_of}
 use Rattle.rbd_session.specs.Session.{SessionView, IsSoundSession, held_in, is_look_at, kind_asked, own_look_at, running_at}
 
--- The request in a slot waits for its own look, in the line of an image, and wants that look; and
--- the line lets it go past.
+-- The request in a slot waits for its look under the lock, in the line of an image, and wants that
+-- look; and the line lets it go past.
 pub record WaitsForLook {R : Type 0} (stands : R → Standing) (slot : ℕ) (site : SiteId) (image : ℕ) (s : SessionView R) : Type 0 where
   pub request : Running R
   pub runs : running_at slot s ≡ Some request
@@ -29,8 +29,8 @@ pub record WaitsForLook {R : Type 0} (stands : R → Standing) (slot : ℕ) (sit
 abbrev pub IsOwned : SiteId → (image : ℕ) → LocksView → Type 0
 IsOwned site image locks = IsTrue (state_at site image locks).owned
 
--- A way is that of a request which waits for its own look, to the lock of its image; and one that
--- has taken the lock has it.
+-- A way is that of a request which waits for its look under the lock, to the lock of its image; and
+-- one that has taken the lock has it.
 abbrev pub IsWellOnWay : {R : Type 0} → (stands : R → Standing) → (slot : ℕ) → Way → SessionView R → LocksView → Type 0
 IsWellOnWay stands slot way.Unbegun s locks = Unit {0}
 IsWellOnWay stands slot (way.On a) s locks = WaitsForLook stands slot a.site a.image s
@@ -41,8 +41,8 @@ abbrev pub IsTelling : Option Release → Type 0
 IsTelling None = Unit {0}
 IsTelling (Some r) = r.stage ≡ releasing.Telling
 
--- Each request that is on its way to a lock waits for its own look, and one that has taken the lock
--- itself has it.
+-- Each request that is on its way to a lock waits for its look under the lock, and one that has
+-- taken the lock itself has it.
 pub record IsSoundClient {R : Type 0} (stands : R → Standing) (c : ClientView R) : Type 0 where
   pub session : IsSoundSession stands c.session
   pub slots : length c.slots ≡ 65

@@ -36,7 +36,7 @@ impl Actor {
     }
 }
 
-/// Who acts for a request at its own look, by what is counted of the image's lock.
+/// Who acts for a request at its look under the lock, by what is counted of the image's lock.
 fn at_look(state: &LockState, at: &ImageAt) -> Actor
     ensures { result ≡ actor_by state.now at.now.site at.now.image }
 {
@@ -49,7 +49,7 @@ fn at_look(state: &LockState, at: &ImageAt) -> Actor
     Actor::Way(Acquire::new(at.site, at.image, state.watched))
 }
 
-/// Who acts for a request that has begun no way: at its own look the lock decides.
+/// Who acts for a request that has begun no way: at its look under the lock the lock decides.
 fn before_way(look: Option<ImageAt>, locks: &Locks) -> Actor
     ensures { result ≡ actor_at_look look locks.now }
 {

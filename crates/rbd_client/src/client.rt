@@ -280,8 +280,8 @@ impl<R: Request> Client<R> {
         self.heard.as_slice()
     }
 
-    /// Whether no request of an image relies on its lock: none is past own, or has taken the lock
-    /// itself. It takes no memory.
+    /// Whether no request of an image relies on its lock: none is past its look under the lock, or
+    /// has taken the lock itself. It takes no memory.
     pub fn is_at_rest(&self, at: &ImageAt) -> bool
         ensures rest { result ≡ is_at_rest at.now.site at.now.image self.now }
         ensures sound { IsSoundClient R.stands self.now }

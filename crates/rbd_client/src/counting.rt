@@ -7,7 +7,7 @@ use rbd_kinds::{Answer, DirectoryOp, Fed, ImageAt, ImageId, Op, SiteId};
 use rbd_locks::Locks;
 
 /// Counts an operation of the client that was answered, and the quiesce that the request begins at
-/// its own look or ends. It takes no memory.
+/// its look under the lock or ends. It takes no memory.
 pub fn count(
     locks: &mut Locks,
     quiescing: Quiescing,

@@ -65,8 +65,8 @@ impl SlotState {
         }
     }
 
-    /// Behind an answer to the request: one that has ended leaves nothing, and one whose own look
-    /// was answered needs no way any more.
+    /// Behind an answer to the request: one that has ended leaves nothing, and one whose look under
+    /// the lock was answered needs no way any more.
     pub fn behind(self, has_ended: bool, has_looked: bool) -> Self
         ensures { result ≡ state_behind has_ended has_looked self }
     {

@@ -19,16 +19,16 @@ ghost use Rattle.rbd_session.specs.Session.{own_look_at};
 
 use rbd_course::Request;
 
-/// A request at its own look is asked for it only where the lock counts as the client's.
+/// A request at its look under the lock is asked for it only where the lock counts as the client's.
 pub fn own_looks_need_the_lock<R: Request>()
     ensures { (c : ClientView R) (slot : ℕ) (p : ImageAt)
         → IsSoundClient R.stands c → own_look_at R.stands slot c.session ≡ Some p → actor_at R.stands slot c ≡ actor.Request
         → IsOwned p.site p.image c.locks }
 {}
 
-/// A lock that counts as the client's does so as long as a request of the image is past its own look
-/// or has taken the lock itself, whatever the client is answered. Only a header that one of them
-/// removes takes the lock with it: until then nothing is changed without the lock.
+/// A lock that counts as the client's does so as long as a request of the image is past its look
+/// under the lock or has taken the lock itself, whatever the client is answered. Only a header that
+/// one of them removes takes the lock with it: until then nothing is changed without the lock.
 pub fn locks_last_while_requests_rely<R: Request>()
     ensures { (c d : ClientView R) (slot : ℕ) (site there : Site) (image : ℕ) (op : Op) (f : Fed) (result : Option Reply)
         → IsSoundClient R.stands c → op_wanted R.stands slot c ≡ Some (site, op) → DropsAtRest (actor_at R.stands slot c) site op c
@@ -37,8 +37,8 @@ pub fn locks_last_while_requests_rely<R: Request>()
         → IsOwned there image c.locks → IsOwned there image d.locks }
 {}
 
-/// A quiesced image, and a lock that was asked for, hold back each request at its own look that has
-/// begun no way to the lock: its slot waits.
+/// A quiesced image, and a lock that was asked for, hold back each request at its look under the
+/// lock that has begun no way to the lock: its slot waits.
 pub fn quiesced_and_asked_hold_back<R: Request>()
     ensures { (c : ClientView R) (slot : ℕ) (p : ImageAt)
         → IsSoundClient R.stands c → own_look_at R.stands slot c.session ≡ Some p → (state_in slot c.slots).way ≡ way.Unbegun
@@ -46,7 +46,8 @@ pub fn quiesced_and_asked_hold_back<R: Request>()
 {}
 
 /// A release begins only where its lock was asked for and counts as the client's, the image isn't
-/// quiesced, and no request of the image is past own or has taken the lock itself.
+/// quiesced, and no request of the image is past its look under the lock or has taken the lock
+/// itself.
 pub fn releases_wait_for_requests<R: Request>()
     ensures { (c : ClientView R) (r : Release)
         → IsSoundClient R.stands c → actor_at R.stands 0 c ≡ actor.Release r → DropsALock r

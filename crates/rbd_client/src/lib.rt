@@ -4,54 +4,56 @@
 //! ```text
 //! let mut client: Client<SessionRequest<Follower>> = Client::new(alloc, c1, SiteId::A)?;
 //! let one = client.submit(alloc, 3, write, Quiescing::Leaves)?;  // slot 1
-//! ..                                        // dir-find, header-get: it waits for its own look
+//! ..                              // dir-find, header-get: it waits for its look under the lock
 //! client.kind(one)                          // site A, watch: the lock isn't this client's yet
 //! let actor = client.actor(one);            // its way to the lock
 //! client.ready(alloc, one, &actor, &done)?;
 //! client.feed(one, &actor, SiteId::A, &watch, &done)     // None
 //! client.kind(one)                          // site A, lock-take
 //! ..                                        // done: the lock is taken
-//! client.kind(one)                          // site A, header-get: its own look
-//! ..                                        // it is past own, and changes the image
+//! client.kind(one)                          // site A, header-get: its look under the lock
+//! ..                                        // it is past that look, and changes the image
 //! client.hear(&request_lock)?;              // another client wants the lock
-//! client.kind(Slot(0))                      // None: a request of the image is past own
+//! client.kind(Slot(0))                      // None: a request of the image is past it
 //! ..                                        // the write has replied
 //! client.kind(Slot(0))                      // site A, lock-drop: the release
 //! ```
 //!
 //! # Rules
 //!
-//! A request that changes an image goes through the image's line as `rbd_session` says. At its own
-//! look, once the line lets it go on, the lock decides:
+//! A request that changes an image goes through the image's line as `rbd_session` says. At its look
+//! under the lock, once the line lets it go on, the lock decides:
 //!
 //! ```text
-//! own look ──quiesced, or asked for──▶ waits
-//!    │ the lock is the client's ─────▶ its own look, and on
+//! look under the lock ──quiesced, or asked for──▶ waits
+//!    │ the lock is the client's ─────▶ that look, and on
 //!    │ it isn't
 //!    ▼
-//! its way to the lock (rbd_owner) ──taken──▶ its own look, and on
+//! its way to the lock (rbd_owner) ──taken──▶ that look, and on
 //!    └──none, fenced──▶ its reply: it leaves its line and its slot
 //! ```
 //!
 //! - A request that is on its way goes on there whatever comes, and one that has taken the lock
 //!   itself isn't held back by a later wish of another client.
 //! - **The release** (slot 0) begins where another client asked for the lock, the image isn't
-//!   quiesced, and no request of the image is past own or has taken the lock itself. Of several
-//!   images it takes the first by site, then by id. One that has begun goes on to its end.
-//! - A `close` makes no own look, so neither the lock, a quiesce nor a wish holds it back; it is
-//!   alone in its line, and drops the lock behind all requests before it. What a session counts of
-//!   its answers is `rbd_locks`'s.
-//! - A `quiesce` holds its image from its own look on (`Quiescing::Begins`), and a `resume` ends
-//!   that by its look-up of the image (`Quiescing::Ends`). Whoever submits a request says which of
-//!   them it is.
+//!   quiesced, and no request of the image is past its look under the lock or has taken the lock
+//!   itself. Of several images it takes the first by site, then by id. One that has begun goes on
+//!   to its end.
+//! - A `close` makes no look under the lock, so neither the lock, a quiesce nor a wish holds it
+//!   back; it is alone in its line, and drops the lock behind all requests before it. What a
+//!   session counts of its answers is `rbd_locks`'s.
+//! - A `quiesce` holds its image from its look under the lock on (`Quiescing::Begins`), and a
+//!   `resume` ends that by its look-up of the image (`Quiescing::Ends`). Whoever submits a request
+//!   says which of them it is.
 //! - A notice that another client wants a lock is noted where the lock counts as this client's, and
 //!   passed over for good where it doesn't. What it is told by others is kept (`heard`).
 //!
-//! So a request comes past own only where the lock counts as the client's, and it counts so on, as
-//! long as a request of the image is past own or has taken it itself. Only the removal of the header
-//! ends it sooner (`rm`): the lock goes with the header, and who removed it, alone, changes nothing
-//! by the lock any more. That the lock counts as owned doesn't say that it is: another client may
-//! have fenced this one and taken it, and then the fence refuses whatever is still sent.
+//! So a request comes past its look under the lock only where the lock counts as the client's, and
+//! it counts so on, as long as a request of the image is past its look under the lock or has taken
+//! it itself. Only the removal of the header ends it sooner (`rm`): the lock goes with the header,
+//! and who removed it, alone, changes nothing by the lock any more. That the lock counts as owned
+//! doesn't say that it is: another client may have fenced this one and taken it, and then the fence
+//! refuses whatever is still sent.
 //!
 //! # Contracts
 //!
@@ -66,9 +68,9 @@
 //! | `specs/Sound.antt` | what holds of each client |
 //! | `specs/Laws.antt` | what the laws speak of |
 //!
-//! [`laws`] says that nobody is asked for an own look without the lock, that a lock lasts while a
-//! request relies on it, that a quiesced image and a wanted lock hold requests back, and when a
-//! release begins.
+//! [`laws`] says that nobody is asked for a look under the lock without the lock, that a lock lasts
+//! while a request relies on it, that a quiesced image and a wanted lock hold requests back, and
+//! when a release begins.
 //!
 //! # Cost
 //!
@@ -79,11 +81,11 @@
 //!
 //! # How it works
 //!
-//! A session knows no lock, and a lock no request. A client asks its session at whose own look a
-//! slot stands, its locks what is counted there, and lets one of three act: the request, its way,
-//! or the release. What acts is found anew at each look, so nothing has to be kept up to date but
-//! by the answers. Within one poll nothing else acts: so a poll finds it once, and hands it to `next`,
-//! `ready` and `feed`.
+//! A session knows no lock, and a lock no request. A client asks its session at whose look under
+//! the lock a slot stands, its locks what is counted there, and lets one of three act: the request,
+//! its way, or the release. What acts is found anew at each look, so nothing has to be kept up to
+//! date but by the answers. Within one poll nothing else acts: so a poll finds it once, and hands
+//! it to `next`, `ready` and `feed`.
 #![tactic(auto)]
 
 mod actor;

@@ -10,7 +10,7 @@ pub enum Way {
     Unbegun,
     /// It is on its way.
     On(Acquire),
-    /// It has taken the lock itself, and its own look is still to come.
+    /// It has taken the lock itself, and its look under the lock is still to come.
     Taken(ImageAt),
 }
 

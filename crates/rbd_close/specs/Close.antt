@@ -90,7 +90,7 @@ joining site image = Await (wait.Join site image sharing.Alone) (holding site im
 abbrev pub close : SiteId → (name : List ℕ) → Plan
 close site name = find site name (joining site)
 
--- ---- quiesce: a change that ends at its own look, and refuses no header
+-- ---- quiesce: a change that ends at its look under the lock, and refuses no header
 
 abbrev pub quiesced : (image : ℕ) → HeaderView → Plan
 quiesced image h = done

@@ -43,8 +43,8 @@ use std::alloc::Global;
 /// It wants to join its line and then to hold, as a change does, since a wait has no other words.
 /// The session knows by the command what to make of them: a close takes no lock, so it is fed at
 /// its `Hold` as soon as every earlier request in the line has ended, and neither a quiesce nor an
-/// asking holds it back. As it is alone, later requests wait until it has ended. It makes no own
-/// look, so it is never past one, and doesn't hold a release back.
+/// asking holds it back. As it is alone, later requests wait until it has ended. It makes no look
+/// under the lock, so it is never past one, and doesn't hold a release back.
 #[derive(Debug, Drop)]
 pub struct Close {
     site: SiteId,

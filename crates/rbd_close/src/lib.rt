@@ -22,18 +22,18 @@
 //! | command | steps | refused |
 //! |---|---|---|
 //! | `close` | `dir-find`, alone in the line, `lock-drop`; where that is `done`, `notify` ReleasedLock; then `unwatch` | NoImage |
-//! | `quiesce` | to its own look, alone | NoImage |
+//! | `quiesce` | to its look under the lock, alone | NoImage |
 //! | `resume` | `dir-find` | NoImage |
 //! | `tell` | `dir-find`, `notify` Custom | NoImage |
 //!
 //! - An operation that is answered `none` ends a request with NoImage, and one that is answered
 //!   `fenced` with Fenced.
-//! - **`close`** ([`Close`]) takes no lock and makes no own look. It gives up what the session has,
-//!   or may have: where its `lock-drop` is answered `changed`, the lock is another's or nobody's,
-//!   and then there is nothing to tell, but the watch still ends. Whatever the `lock-drop` is
-//!   answered, the session counts the lock as let go from then on (`rbd_owner`), an asking as
-//!   answered, and a quiesce as ended (own).
-//! - **`quiesce`** ([`Quiesce`]) goes the way of a change to its own look
+//! - **`close`** ([`Close`]) takes no lock and makes no look under the lock. It gives up what the
+//!   session has, or may have: where its `lock-drop` is answered `changed`, the lock is another's
+//!   or nobody's, and then there is nothing to tell, but the watch still ends. Whatever the
+//!   `lock-drop` is answered, the session counts the lock as let go from then on (`rbd_owner`), an
+//!   asking as answered, and a quiesce as ended (own).
+//! - **`quiesce`** ([`Quiesce`]) goes the way of a change to its look under the lock
 //!   ([`Approach`](rbd_machine::Approach)), and refuses nothing by the header: a secondary may be
 //!   quiesced. The session counts the image as quiesced from that look on.
 //! - **`resume`** ([`Resume`]) joins no line, since the requests in it wait for it. It ends the

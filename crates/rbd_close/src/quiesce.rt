@@ -14,15 +14,15 @@ use std::alloc::Global;
 /// writes for a snapshot; that a session does so by a command, for its own requests alone, is own).
 ///
 /// ```text
-/// Approaching   to its own look, alone in the image's line
+/// Approaching   to its look under the lock, alone in the image's line
 ///    │ header
 ///    ▼
 /// Done
 /// ```
 ///
 /// It waits for the image's lock as a change does, so every change before it has ended, and it
-/// refuses nothing by the header: a secondary may be quiesced. From its own look on the session
-/// lets no request of the image's line go past the lock.
+/// refuses nothing by the header: a secondary may be quiesced. From its look under the lock on the
+/// session lets no request of the image's line go past the lock.
 #[derive(Debug, Drop)]
 pub struct Quiesce {
     way: Approach,

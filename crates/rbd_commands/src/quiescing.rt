@@ -5,12 +5,12 @@ ghost use Rattle.rbd_commands.specs.Quiescing.{quiescing_of};
 use crate::command::Command;
 
 /// What a request does to a quiesce of its image in its session (own). A quiesce holds back the
-/// requests that change the image, each at its own look.
+/// requests that change the image, each at its look under the lock.
 #[derive(Clone, Copy, Debug, PartialEq, Eq)]
 pub enum Quiescing {
     /// It leaves it as it is.
     Leaves,
-    /// Its own look begins one (`quiesce`).
+    /// Its look under the lock begins one (`quiesce`).
     Begins,
     /// Its look-up of the image ends one (`resume`).
     Ends,

@@ -23,7 +23,7 @@ use Rattle.rbd_machine.specs.Plan.{Plan}
 use Rattle.rbd_machine.specs.Steps as steps
 use Rattle.rbd_machine.specs.Steps.{not_there, on_id, on_header, on_done, unless, change}
 
--- ---- a change on its way to its own look
+-- ---- a change on its way to its look under the lock
 
 -- its place, and its course up to that look
 abbrev pub place_at : (alone : Bool) → SiteId → (image : ℕ) → Stage → Place
@@ -77,7 +77,7 @@ module _ (e : Option Extent) (at : Label → Course) where
   orderly_unless c None next orderly = orderly refl
   orderly_unless c (Some r) next orderly = tt
 
-  -- a change, whatever it does behind its own look
+  -- a change, whatever it does behind its look under the lock
   pub orderly_change : (s : SiteId) (name : List ℕ) (sharing : Sharing) (refuses : HeaderView → Option Refusal) (act : ℕ → HeaderView → Plan)
       → ((image : ℕ) (h : HeaderView) → IsHeaderInForm h → refuses h ≡ None → IsOrderly e at true (own_course e (is_alone sharing) s image h) (act image h))
       → IsOrderly e at true beginning (change s name sharing refuses act)

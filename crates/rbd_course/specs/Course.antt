@@ -40,7 +40,7 @@ pub record Course : Type 0 where
 abbrev pub beginning : Course
 beginning = record { place = None; turn = None; due = []; objects = [] }
 
--- ---- its own look
+-- ---- its look under the lock
 
 -- the objects of an extent by a header. An extent that isn't within the size has none, since its
 -- request is refused.
@@ -96,7 +96,7 @@ abbrev pub held_stage : Stage → Stage
 held_stage stage.Past = stage.Past
 held_stage _ = stage.Waiting
 
--- who is past own already stays so
+-- who is past its look under the lock already stays so
 abbrev pub held : Option Place → Option Place
 held None = None
 held (Some p) = Some (record p { stage = held_stage p.stage })

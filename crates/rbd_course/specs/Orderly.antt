@@ -32,8 +32,8 @@ MayWait fresh c (wait.Applied site image) = IsInLine site image c.place
 MayWait fresh c (wait.Leave site image) = IsInLine site image c.place
 
 -- It keeps to its line, whatever its operations are answered of what they can give: its note, at
--- whose end it takes its tickets, stands directly behind its own look. A label is gone to on the
--- course that belongs there.
+-- whose end it takes its tickets, stands directly behind its look under the lock. A label is gone
+-- to on the course that belongs there.
 abbrev pub IsOrderly : Option Extent → (at : Label → Course) → (fresh : Bool) → Course → Plan → Type 0
 IsOrderly e at fresh c (Ask site why op next) = (c.due ≡ []) × ((answer : Answer) → CanGive op answer → IsOrderly e at true (answered e c site op answer) (next answer))
 IsOrderly e at fresh c (Await wait next) = MayWait fresh c wait × IsOrderly e at false (waited c wait) next

@@ -19,7 +19,7 @@
 //! Join, shared      Passed          7, Joined        none  []      []
 //! header-get 7      a header        7, Joined        none  []      []       the first look
 //! Hold              Passed          7, Waiting       none  []      []
-//! header-get 7      a header        7, Past          none  [0, 1]  []       its own look
+//! header-get 7      a header        7, Past          none  [0, 1]  []       its look under the lock
 //! Note              Passed          7, Past          none  []      [0, 1]   it has its tickets
 //! Turn 0            Passed          7, Past          0     []      [0, 1]
 //! ..                                                                        the piece of object 0
@@ -31,11 +31,12 @@
 //!
 //! # Rules
 //!
-//! - The *own look* of a request is its next look at the header of the image whose line it is in,
-//!   once it has waited for the lock. Told the header, it is past it, and stays so in that line.
-//! - At its own look a request beside others is due the objects of its extent, by the layout that
-//!   this look told. An extent that doesn't end within the size has none. A request that is alone,
-//!   or changes no extent, is due none.
+//! - The *look under the lock* of a request is its next look at the header of the image whose line
+//!   it is in, once it has waited for the lock. Told the header, it is past it, and stays so in
+//!   that line.
+//! - At its look under the lock a request beside others is due the objects of its extent, by the
+//!   layout that this look told. An extent that doesn't end within the size has none. A request
+//!   that is alone, or changes no extent, is due none.
 //! - A piece ends where the next turn is awaited, or that the event counts as applied. Then the
 //!   first of its objects goes.
 //!
@@ -52,8 +53,8 @@
 //! | waits for its turn at an object | this is the first of its objects, behind the piece before |
 //! | goes to a label | its course is the one that belongs to the label |
 //!
-//! So the note at whose end it takes its tickets stands directly behind its own look: no operation
-//! comes between them, and nothing is due where one is asked for.
+//! So the note at whose end it takes its tickets stands directly behind its look under the lock: no
+//! operation comes between them, and nothing is due where one is asked for.
 //!
 //! # What a session asks of its requests
 //!

@@ -1,7 +1,7 @@
 /// How far a request has come in an image's line.
 ///
 /// ```text
-/// Joined ──it waits for the lock──▶ Waiting ──its own look is answered──▶ Past
+/// Joined ──it waits for the lock──▶ Waiting ──its look under the lock is answered──▶ Past
 /// ```
 #[derive(Clone, Copy, Debug, PartialEq, Eq)]
 pub enum Stage {
@@ -9,6 +9,6 @@ pub enum Stage {
     Joined,
     /// Its next look at the image's header is its own, under the lock.
     Waiting,
-    /// Its own look was answered, and it may change the image.
+    /// Its look under the lock was answered, and it may change the image.
     Past,
 }

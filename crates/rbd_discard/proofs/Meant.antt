@@ -30,7 +30,7 @@ use Rattle.rbd_discard.proofs.Ended.{Does, IsCutOff, pieces_end}
 use Rattle.rbd_discard.proofs.Refusing.{IsDone, refusing_pieces}
 
 module _ (site : SiteId) (name : List ℕ) (e : Extent) where
-  -- what it does behind its own look
+  -- what it does behind its look under the lock
   does_own : (r : Reply) (image : ℕ) (own : HeaderView) (feds : List Fed) (steps : List Answered) → IsWalk Goto (zero site e image own) feds steps (Return r)
       → Does r (pieces_zeroed site image own (pieces_of own.layout e)) steps
   does_own r image own feds steps walk =
@@ -60,7 +60,7 @@ module _ (site : SiteId) (name : List ℕ) (e : Extent) where
       let c = changed (Return r) kind site name sharing.Discard (write_refuses e) (zero site e) feds steps walk in
       none (pieces_zeroed site c.image c.own (pieces_of c.own.layout e)) c.rest (does_own r c.image c.own c.more c.rest c.walk)
 
-  -- ---- refused behind its own look
+  -- ---- refused behind its look under the lock
 
   module _ (x : Refusal) (steps : List Answered) (c : Changed (Return (reply.Refused x)) site name (write_refuses e) (zero site e) steps) where
     -- the fence alone refuses it there

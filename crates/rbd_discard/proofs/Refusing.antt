@@ -1,4 +1,5 @@
--- Behind its own look a discard is refused by the fence alone, where the image has no parent.
+-- Behind its look under the lock a discard is refused by the fence alone, where the image has no
+-- parent.
 use Rattle.std.proofs.Common.{◌≡◌, inl, inr, ℕ, Bool, true, false, List, [], ◌∷◌, Option, None, refl, ap, sym, subst}
 use Rattle.rbd_kinds.specs.declared.answer.Answer.{Answer}
 use Rattle.rbd_kinds.specs.declared.answer.Answer.TheVariants as answer

@@ -112,8 +112,8 @@ impl Part for DiscardTurn {
         self.piece.wants()
     }
 
-    fn next(&self) -> Result<Op, NoMemory> {
-        self.piece.next()
+    fn next(&self, alloc: Global) -> Result<Op, NoMemory> {
+        self.piece.next(alloc)
     }
 
     fn ready(&mut self, _alloc: Global, _answer: &Answer) -> Result<(), NoMemory> {

@@ -19,7 +19,8 @@ ghost use Rattle.rbd_meaning.specs.Parentless.{AreParentless};
 ghost use Rattle.rbd_request.specs.Write.{objects_of};
 ghost use Rattle.rbd_discard.specs.Discard.{discard, discard_plan, zero};
 
-/// A discard has three operations at most for each piece behind its own look, and three before.
+/// A discard has three operations at most for each piece behind its look under the lock, and three
+/// before.
 pub fn discards_are_bounded()
     ensures pieces { (site : SiteId) (e : Extent) (image : ℕ) (h : HeaderView)
         → IsBounded (zero site e image h) (3 * length (pieces_of h.layout e)) }
@@ -28,8 +29,8 @@ pub fn discards_are_bounded()
 {}
 
 /// A discard waits for its turn at the objects of its pieces, the pieces of its extent by the
-/// layout that its own look told, one after another and at no others. They ascend, as those of a
-/// write do.
+/// layout that its look under the lock told, one after another and at no others. They ascend, as
+/// those of a write do.
 pub fn turns_are_those_of_the_pieces()
     ensures { (site : SiteId) (e : Extent) (image : ℕ) (h : HeaderView) → AreTurns (zero site e image h) (objects_of (pieces_of h.layout e)) }
 {}
@@ -40,14 +41,14 @@ pub fn labels_stand_at_operations()
 {}
 
 /// A discard is lawful from nothing known: each piece becomes zeros under the snapshot context and
-/// within the size that the own look told, at its turn. An object's state is raised before it may
-/// come to be there, and set to 0 only once it is gone.
+/// within the size that the look under the lock told, at its turn. An object's state is raised
+/// before it may come to be there, and set to 0 only once it is gone.
 pub fn discards_are_lawful()
     ensures { (home : SiteId) (command : Command) → IsLawfulRequest (without_labels (discard_plan home command)) }
 {}
 
-/// A discard is done only when each of its pieces became zeros by its own look, one after another,
-/// and it has done nothing else but to look up its image and look at its header.
+/// A discard is done only when each of its pieces became zeros by its look under the lock, one
+/// after another, and it has done nothing else but to look up its image and look at its header.
 pub fn discards_are_whole()
     ensures { (site : SiteId) (name : List ℕ) (e : Extent) (feds : List Fed) (steps : List Answered)
         → IsWalk Goto (discard site name e) feds steps (Return Done) → DiscardsWhole site name e steps }

@@ -28,23 +28,24 @@
 //! It is refused as a write of the same range is, in this order, at both looks. Any operation may
 //! be answered `fenced`, which ends the request with Fenced.
 //!
-//! The pieces are those of the range by the striping that the own look told (Ceph: RBD striping),
-//! object by object in the order of their numbers, under the snapshot context of that header. They
-//! are made at the own look, before the event is noted. What makes the bytes of a piece zeros is
-//! told by the table in `rbd_zero`. It depends on whether the piece has all bytes of its object
-//! below the size, and on whether the object is inside the overlap: an object that loses all its
-//! bytes goes, where no parent's bytes would show in its place (Ceph: RBD discard).
+//! The pieces are those of the range by the striping that the look under the lock told (Ceph: RBD
+//! striping), object by object in the order of their numbers, under the snapshot context of that
+//! header. They are made at the look under the lock, before the event is noted. What makes the
+//! bytes of a piece zeros is told by the table in `rbd_zero`. It depends on whether the piece has
+//! all bytes of its object below the size, and on whether the object is inside the overlap: an
+//! object that loses all its bytes goes, where no parent's bytes would show in its place (Ceph: RBD
+//! discard).
 //!
 //! # Contracts
 //!
 //! The request meets the contract of `Machine` in `rbd_machine`: it says of each step that it is
 //! the next of a *plan*, a tree of steps. `specs/Discard.antt` has the plan: what a discard does at
-//! its own look (`zero`), the whole (`discard`), what is left of it (`rest_of_request`), and for
-//! which answers it has the memory (`IsReady`). What it refuses, and what its replies mean,
+//! its look under the lock (`zero`), the whole (`discard`), what is left of it (`rest_of_request`),
+//! and for which answers it has the memory (`IsReady`). What it refuses, and what its replies mean,
 //! stands in `rbd_meaning`. [`laws`] says what such a plan comes to: a discard is done only when
-//! each of its pieces became zeros by its own look, its turns are those at the objects of its
-//! pieces, its replies are meant, and how many operations it has. Where it is refused behind its
-//! own look, it has done the first operations of a whole discard, and no others.
+//! each of its pieces became zeros by its look under the lock, its turns are those at the objects
+//! of its pieces, its replies are meant, and how many operations it has. Where it is refused behind
+//! its look under the lock, it has done the first operations of a whole discard, and no others.
 //!
 //! That its replies are meant is said of images without a parent. Inside an overlap a `data-zero`
 //! may be answered `none`, where the object was never copied up, and that ends the request with

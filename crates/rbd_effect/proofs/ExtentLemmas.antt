@@ -13,6 +13,7 @@ use Rattle.rbd_layout.specs.Pieces.{IsHeld, part_at, parts_at, with_place}
 use Rattle.rbd_layout.proofs.Cover.{cover, map-range}
 use Rattle.rbd_layout.proofs.Limits.{Shape, shape_of}
 use Rattle.rbd_layout.proofs.Mixed.{cases_lt}
+use Rattle.rbd_layout.proofs.Places.{held_at_start}
 use Rattle.rbd_layout.proofs.Walk.{next_row, same_row, whole_object as linear}
 use Rattle.rbd_stands.specs.Condition.{extents_of}
 use Rattle.rbd_stands.specs.Effect.{joined, places_below, whole_object}
@@ -160,12 +161,6 @@ no_extents l n o end past =
 
 -- ---- a whole object
 
-none_first : (l : Layout) (n : ℕ) → IsHeld l n 0 0
-none_first l n = record {
-  within = omega arith;
-  each = λ o _. ((λ (less : o < 0). absurd (omega arith)), (λ (less : byte_at l n o < 0). absurd (omega arith)));
-}
-
 held_within : (l : Layout) (n size held : ℕ) → IsHeldBelow l n size held → IsHeld l n size (min held l.object)
 held_within l n size held is = record {
   within = omega arith;
@@ -174,7 +169,7 @@ held_within l n size held is = record {
 
 pub whole_places : (l : Layout) → IsLayout l → (size n held : ℕ) → IsHeldBelow l n size held → extents_between l n 0 (min held l.object) ≡ whole_object l size n
 whole_places l is size n held below =
-    ap (joined l) (sym (cover l is n 0 size 0 (min held l.object) (none_first l n) (subst (λ (x : ℕ). IsHeld l n x (min held l.object)) from_none (held_within l n size held below))))
+    ap (joined l) (sym (cover l is n 0 size 0 (min held l.object) (held_at_start l n) (subst (λ (x : ℕ). IsHeld l n x (min held l.object)) from_none (held_within l n size held below))))
   where
     from_none : size ≡ 0 + size
     from_none = omega arith

@@ -61,7 +61,7 @@ release_is_no_way None (Some p) = refl
 release_is_no_way None None = refl
 
 module _ {R : Type 0} (stands : R → Standing) (changes : Bool) (c : ClientView R) (tame : IsTame stands changes c) (slot : ℕ) where
-  -- only a change stands at its own look
+  -- only a change stands at its look under the lock
   changes_there : (p : ImageAt) → own_look_at stands slot c.session ≡ Some p → changes ≡ true
   changes_there p at = by changes refl
     where

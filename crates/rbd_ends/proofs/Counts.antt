@@ -1,5 +1,5 @@
 -- What a session counts of locks where nobody asks for one, and no image is quiesced.
-use Rattle.std.proofs.Common.{◌≡◌, ℕ, ◌==◌, ◌&&◌, Bool, true, false, cond, Option, None, refl, ap}
+use Rattle.std.proofs.Common.{◌≡◌, ℕ, ◌==◌, ◌&&◌, Bool, true, false, cond, Option, None, refl, ap, ◌∙◌}
 use Rattle.std.proofs.lemmas.Bool.{true≢false}
 use Rattle.rbd_client.specs.Feeding.{comings_of, quiesced_by}
 use Rattle.rbd_commands.specs.declared.quiescing.Quiescing.{Quiescing}
@@ -23,6 +23,7 @@ use Rattle.rbd_locks.specs.declared.lock_state.LockState.{LockState}
 use Rattle.rbd_locks.specs.Comings.{ByAnswer, ByResume, after_all, after_one}
 use Rattle.rbd_locks.specs.Locks.{heard}
 use Rattle.rbd_locks.specs.States.{answered, resumed, told}
+use Rattle.rbd_locks.proofs.Lasting.{told_owned}
 use Rattle.rbd_ends.proofs.Owners.{asks_for_lock, ends_lock, gives_up}
 
 -- neither quiesced nor asked for
@@ -83,13 +84,8 @@ told_free (notice.Custom bytes) s none free = free
 pub heard_free : (n : Notice) (there : SiteId) (image : ℕ) (s : LockState) → asks_for_lock n.kind ≡ false → IsFree s → IsFree (heard n there image s)
 heard_free n there image s none free = either IsFree (is_at n.site n.image there image) (told n.kind) s free (told_free n.kind s none)
 
-told_owned : (k : NoticeKind) (s : LockState) → s.owned ≡ true → (told k s).owned ≡ true
-told_owned notice.RequestLock s is = is
-told_owned notice.ReleasedLock s is = is
-told_owned (notice.Custom bytes) s is = is
-
 pub heard_owned : (n : Notice) (there : SiteId) (image : ℕ) (s : LockState) → s.owned ≡ true → (heard n there image s).owned ≡ true
-heard_owned n there image s is = either (λ x. x.owned ≡ true) (is_at n.site n.image there image) (told n.kind) s is (told_owned n.kind s)
+heard_owned n there image s is = either (λ x. x.owned ≡ true) (is_at n.site n.image there image) (told n.kind) s is (λ owned. told_owned n.kind s ∙ owned)
 
 -- ---- a lock that counts as the session's
 

@@ -44,7 +44,7 @@ use Rattle.rbd_ends.proofs.Counts.{IsFree, IsNoQuiesce, fed_free}
 use Rattle.rbd_ends.proofs.Ways.{IsEarly, IsFreeFor, is_early, way_stays_early}
 use Rattle.rbd_world.proofs.Answered.{answered_place}
 
--- ---- a request that comes to no own look
+-- ---- a request that comes to no look under the lock
 
 -- It waits for nothing and is in no line, or looks at no header.
 abbrev pub ComesToNoLook : {R : Type 0} → (stands : R → Standing) → Running R → Type 0
@@ -162,7 +162,7 @@ pub unbegun_may : (changes : Bool) → MayBeOnWay changes way.Unbegun
 unbegun_may true = tt
 unbegun_may false = tt
 
--- the request's own look, or its end, leaves its way as it was or takes it away
+-- the request's look under the lock, or its end, leaves its way as it was or takes it away
 behind_may : (changes ended looked : Bool) (s : SlotState) → MayBeOnWay changes s.way → MayBeOnWay changes (state_behind ended looked s).way
 behind_may changes true looked s may = unbegun_may changes
 behind_may changes false true s may = unbegun_may changes

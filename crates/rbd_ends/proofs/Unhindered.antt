@@ -1,7 +1,7 @@
 -- A world in which nobody has to wait for a lock, and what each event leaves of that: one session's
 -- clients alone take locks, nobody is stopped, and no image is quiesced.
 use Rattle.std.proofs.Common.{◌≡◌, ◌⊎◌, inl, inr, ℕ, ◌==◌, ◌&&◌, ◌||◌, cond, Bool, true, false, [], ◌∷◌, append-nil, is_some, Option, Some, None, refl, sym, ap, ◌∙◌, subst}
-use Rattle.std.proofs.lemmas.Bool.{cases_eq, eq-eqb, eqb-true, false≢true, ne_eqb, true≢false}
+use Rattle.std.proofs.lemmas.Bool.{and_right, cases_eq, eq-eqb, eqb-true, false≢true, ne_eqb, true≢false}
 use Rattle.std.proofs.lemmas.Option.{none-some, same_Some}
 use Rattle.std.proofs.lemmas.List.Folds.{list_any-append}
 use Rattle.rbd_client.specs.Client.{ClientView}
@@ -344,11 +344,7 @@ module _ {R : Type 0} (stands : R → Standing) (changer : ℕ) where
       owners_then at image who is = go (this_or_other s at)
         where
           here : gives_up image o ≡ false → gives_up_at s o s image ≡ false
-          here no_more = ap (λ b. is_there s s && b) no_more ∙ and_false (is_there s s)
-            where
-              and_false : (b : Bool) → (b && false) ≡ false
-              and_false true = refl
-              and_false false = refl
+          here no_more = ap (λ b. is_there s s && b) no_more ∙ and_right (is_there s s) false refl
 
           kept : Keeps c.session.instance (gives_up image o) (owner_at (records_in s old.sites) image) who → c.session.instance ≡ who → gives_up_at s o s image ≡ false
           kept keeps mine = here (of (gives_up image o) keeps.kept)

@@ -19,7 +19,7 @@ use crate::headers::header;
 use crate::maps::states;
 use crate::text::bytes;
 use crate::words::{LATER, ME, OWNER};
-use rbd_kinds::{Answer, Bytes, ImageId, Instance, Instances, Names, NoMemory, SnapId};
+use rbd_kinds::{Answer, Bytes, ImageId, Instance, Instances, Names, NoMemory, Shared, SnapId};
 use std::alloc::Global;
 
 /// The answers that are words alone.
@@ -44,7 +44,7 @@ fn header_told(alloc: Global, words: &str) -> Result<Option<Answer>, NoMemory>
     ensures { IfOk result (λ told. IfSome told IsFit) }
 {
     match header(alloc, words)? {
-        Some(header) => Ok(Some(Answer::Header(header))),
+        Some(header) => Ok(Some(Answer::Header(Shared::new(alloc, header)?))),
         None => Ok(None),
     }
 }

@@ -25,12 +25,11 @@ pub fn total(parts: &[Part]) -> Option<usize>
 fn can_give_bytes(op: &Op, bytes: &Bytes) -> bool
     ensures { result ≡ true → CanGive op.now (of_answer.Bytes bytes.now) }
 {
-    match op {
-        Op::Data {
-            image: _,
-            object: _,
-            op: DataOp::Read { snap: _, parts },
-        } => total(parts.as_slice()) == Some(bytes.len()),
+    let Op::Data { op, .. } = op else {
+        return false;
+    };
+    match &**op {
+        DataOp::Read { snap: _, parts } => total(parts.as_slice()) == Some(bytes.len()),
         _ => false,
     }
 }

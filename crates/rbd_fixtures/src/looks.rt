@@ -22,7 +22,7 @@ use crate::text::{behind, bytes, has};
 use crate::words::IMAGE;
 use rbd_kinds::{
     Answer, Bytes, DataOp, DirectoryOp, HeaderOp, Instance, Instances, MapOp, NoMemory, Op, Part,
-    SessionNo,
+    SessionNo, Shared,
 };
 use std::alloc::Global;
 
@@ -91,7 +91,7 @@ fn header_told(alloc: Global, look: &str) -> Result<Option<Answer>, NoMemory>
         return Ok(Some(Answer::Absent));
     }
     match header(alloc, look)? {
-        Some(header) => Ok(Some(Answer::Header(header))),
+        Some(header) => Ok(Some(Answer::Header(Shared::new(alloc, header)?))),
         None => Ok(None),
     }
 }
@@ -150,8 +150,13 @@ fn plain(alloc: Global, op: &Op, look: &str) -> Result<Option<Answer>, NoMemory>
         Op::Data {
             image: _,
             object,
-            op: DataOp::Read { snap: _, parts },
-        } => bytes_told(alloc, parts.as_slice(), held(look, *object)),
+            op: on_object,
+        } => match &**on_object {
+            DataOp::Read { snap: _, parts } => {
+                bytes_told(alloc, parts.as_slice(), held(look, *object))
+            }
+            _ => Ok(done(op)),
+        },
         _ => Ok(done(op)),
     }
 }

@@ -1,5 +1,5 @@
-//! Rows of a text that answer a machine. Each is what the machine wants next, and behind a `=>` what
-//! it is answered, where that is an operation. The last row is its reply:
+//! Rows of a text that answer a machine. Each is what the machine wants next, and behind a `=>`
+//! what it is answered, where that is an operation. The last row is its reply:
 //!
 //! ```text
 //! dir-find disk => id-7

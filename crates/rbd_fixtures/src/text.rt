@@ -4,8 +4,8 @@ ghost use Rattle.std.specs.Prelude.{◌≡◌, true, false, Ok};
 use rbd_kinds::NoMemory;
 use std::alloc::Global;
 
-/// Whether what is asked holds, and could be found out. A test asks once: each way out of a function
-/// that owns a request costs the proof seconds.
+/// Whether what is asked holds, and could be found out. A test asks once: each way out of a
+/// function that owns a request costs the proof seconds.
 pub fn holds<E: Drop>(found_out: Result<bool, E>) -> bool
     ensures { result ≡ true → found_out ≡ Ok true }
 {

@@ -291,21 +291,16 @@ pub fn operation_into(log: &mut String, op: &Op) -> Result<(), NoMemory> {
 
 /// Writes where in the image the parts of a read or a write lie, as ` of 4094`.
 pub fn places_into(log: &mut String, op: &Op) -> Result<(), NoMemory> {
-    match op {
-        Op::Data {
-            image: _,
-            object: _,
-            op: DataOp::Read { snap: _, parts },
-        } => each_place_into(log, parts.as_slice()),
-        Op::Data {
-            image: _,
-            object: _,
-            op: DataOp::Write {
-                context: _,
-                must: _,
-                parts,
-                bytes: _,
-            },
+    let Op::Data { op, .. } = op else {
+        return Ok(());
+    };
+    match &**op {
+        DataOp::Read { snap: _, parts } => each_place_into(log, parts.as_slice()),
+        DataOp::Write {
+            context: _,
+            must: _,
+            parts,
+            bytes: _,
         } => each_place_into(log, parts.as_slice()),
         _ => Ok(()),
     }

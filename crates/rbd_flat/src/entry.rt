@@ -1,5 +1,5 @@
 use crate::effect::Effect;
-use rbd_kinds::{Instance, Reply, SessionNo, SiteId};
+use rbd_kinds::{Instance, Reply, SessionNo, Shared, SiteId};
 
 /// Why an operation was done.
 #[derive(Clone, Copy, Debug, PartialEq, Eq, Hash)]
@@ -14,7 +14,8 @@ pub enum Cause {
     House(Instance),
 }
 
-/// One entry of the history. `number` is the operation's in its site's log, from 1.
+/// One entry of the history. `number` is the operation's in its site's log, from 1. (An effect is
+/// large, and few entries have one: so it is shared.)
 #[derive(Debug, Drop)]
 pub enum Entry {
     /// A session began the command of this line.
@@ -27,7 +28,7 @@ pub enum Entry {
         cause: Cause,
         site: SiteId,
         number: u64,
-        effect: Effect,
+        effect: Shared<Effect>,
     },
     /// An operation that leaves the flat site as it was.
     Look {

@@ -3,7 +3,7 @@ use Rattle.std.proofs.Common.{◌≡◌, ℕ, suc, ◌+◌, ◌-◌, ◌≤◌, 
 use Rattle.std.specs.Prelude.{◌==◌, ◌&&◌, ◌||◌, not, nat_le, nat_lt, IsTrue, option_map}
 use Rattle.std.specs.Int.{w64, to_be_bytes}
 use Rattle.std.proofs.lemmas.Bool.{and_parts, leb-true, eqb-true, ltb-false, not-false, not_from_false}
-use Rattle.std.proofs.lemmas.List.{take-append-drop, length-take, length-drop}
+use Rattle.std.proofs.lemmas.List.{nil_from_length, take-append-drop, length-take, length-drop}
 use Rattle.byteorder.specs.Endian.{big_number}
 use Rattle.byteorder.specs.Numbers.{big_from-take}
 use Rattle.rbd_values.specs.Name.{IsName}
@@ -74,10 +74,7 @@ sound Resize body allowed fits e = sound_resize body allowed fits e
 sound SnapCreate body allowed fits e = record { in_range = sound_name body allowed e; kind_is = refl; body_is = refl }
 sound SnapRemove body allowed fits e = record { in_range = sound_name body allowed e; kind_is = refl; body_is = refl }
 sound SnapRollback body allowed fits e = record { in_range = sound_name body allowed e; kind_is = refl; body_is = refl }
-sound Demote body allowed fits e = record { in_range = tt; kind_is = refl; body_is = sym (empty body (eqb-true _ _ allowed)) } where
-  empty : (xs : List ℕ) → length xs ≡ 0 → xs ≡ []
-  empty [] h = refl
-  empty (x ∷ xs) h = absurd cc
+sound Demote body allowed fits e = record { in_range = tt; kind_is = refl; body_is = sym (nil_from_length body (eqb-true _ _ allowed)) }
 
 named : (kind : Option Kind) (byte : ℕ) (rest : List ℕ) → fault_of_kind kind byte rest ≡ None → (k : Kind) × (kind ≡ Some k) × (fault_after k rest ≡ None)
 named None byte rest e = absurd cc

@@ -32,8 +32,8 @@
 //! 1. no byte: Short; a first byte that is no kind: BadKind of it;
 //! 2. fewer than 5 bytes: Short; a length that the kind doesn't allow: BadLength of it;
 //! 3. fewer bytes than the length says: Short;
-//! 4. a discard of 0 bytes, or one that ends past 2^63: BadLength of its number of bytes; a write that ends
-//!    past it: BadLength of the body's length; a size past it: BadLength of the size;
+//! 4. a discard of 0 bytes, or one that ends past 2^63: BadLength of its number of bytes; a write
+//!    that ends past it: BadLength of the body's length; a size past it: BadLength of the size;
 //! 5. a byte that isn't of a name: BadText of its place in the frame.
 //!
 //! # Cost

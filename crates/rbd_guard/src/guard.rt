@@ -17,13 +17,13 @@ use std::collections::HashMap;
 use std::marker::Model;
 
 /// The tickets of one session's requests. Contracts see each object's `queue` and each request's
-/// `list`, both earliest first, the `object_of` and the `request_of` each ticket that is in, how
-/// many tickets were `drawn`, and for how many more there is room.
+/// `list`, both earliest first, the `object_of` and the `request_of` each queued ticket, how many
+/// tickets were `drawn`, and for how many more there is room.
 #[derive(Debug, Drop)]
 pub struct Guard {
     /// The places of the tickets that are in.
     slab: Slab,
-    /// The place of each ticket that is in, by its number.
+    /// The place of each queued ticket, by its number.
     places: HashMap<u64, usize>,
     /// The ends of each object's queue that isn't empty.
     queues: HashMap<u64, Ends>,
@@ -163,7 +163,7 @@ impl Guard {
         ticket_at(&self.slab, ends_of(&self.lists, request as u64).first)
     }
 
-    /// Takes a ticket that is in away. Every other order stays. It takes no memory.
+    /// Takes a queued ticket away. Every other order stays. It takes no memory.
     pub fn leave(&mut self, ticket: Ticket)
         requires { IsSome (object_of ticket self.old) }
         ensures queue { (o : ℕ) → queue o self.new ≡ without ticket (queue o self.old) }

@@ -54,8 +54,8 @@ pub fn leaving_all()
         → IsFalse (is_in one gone) → IsFalse (is_in other gone) → is_ahead one other (without_all gone tickets) ≡ is_ahead one other tickets }
 {}
 
-/// A ticket that is in stands in one queue, that of its object, and in one list, that of its
-/// request, once in each; and its number is below that of each ticket that is given from now on.
+/// A queued ticket stands in one queue, that of its object, and in one list, that of its request,
+/// once in each; and its number is below that of each ticket that is given from now on.
 pub fn tickets_differ()
     ensures one_queue { (g : Tickets) → IsSoundGuard g → (ticket object other : ℕ)
         → IsTrue (is_in ticket (queue object g)) → IsTrue (is_in ticket (queue other g)) → object ≡ other }

@@ -20,15 +20,15 @@
 //! # Contracts
 //!
 //! Contracts see each object's `queue` and each request's `list`, as lists of tickets, earliest
-//! first. They see the `object_of` and the `request_of` each ticket that is in, how many tickets
-//! were `drawn`, and beside them `reserved`: for how many calls of `enter` there is room. Each call
-//! says what becomes of every queue and every list. No order of all tickets is told.
+//! first. They see the `object_of` and the `request_of` each queued ticket, how many tickets were
+//! `drawn`, and beside them `reserved`: for how many calls of `enter` there is room. Each call says
+//! what becomes of every queue and every list. No order of all tickets is told.
 //!
 //! A ticket is seen as its number. Each is the count of those drawn before it, and `drawn` only
 //! rises. So a ticket that has left equals no later one, as long as it is of the same guard.
 //!
-//! What holds of each guard (`IsSound`) is a clause of each call: a ticket that is in stands once,
-//! in the queue of its object and in the list of its request alone. What entering and leaving do to
+//! What holds of each guard (`IsSound`) is a clause of each call: a queued ticket stands once, in
+//! the queue of its object and in the list of its request alone. What entering and leaving do to
 //! the order of tickets is said in [`laws`].
 //!
 //! # Cost
@@ -41,15 +41,15 @@
 //!
 //! # How it works
 //!
-//! Each ticket that is in stands at a place of one slab (`slab`), a vector whose places are named
-//! by index. A place holds the ticket's number, and is linked with the places before and after it
-//! in the queue of its object, and the same in the list of its request. Free places are linked
-//! through the slab too. One whose ticket left is taken again by a later `enter`, so the slab is
-//! only as long as the most tickets that were ever in at a time.
+//! Each queued ticket stands at a place of one slab (`slab`), a vector whose places are named by
+//! index. A place holds the ticket's number, and is linked with the places before and after it in
+//! the queue of its object, and the same in the list of its request. Free places are linked through
+//! the slab too. One whose ticket left is taken again by a later `enter`, so the slab is only as
+//! long as the most tickets that were ever in at a time.
 //!
 //! Beside the slab there are three hash tables: the first and the last place of each queue that
-//! isn't empty, the same of each list, and the place of each number that is in. A ticket is copied,
-//! and is seen as its number, so it can't carry a place that contracts don't see.
+//! isn't empty, the same of each list, and the place of each queued number. A ticket is copied, and
+//! is seen as its number, so it can't carry a place that contracts don't see.
 //!
 //! The type keeps that both directions of each link agree, that a queue read from its first place
 //! is all of it, and that each place in use stands in one queue and in one list. A free place

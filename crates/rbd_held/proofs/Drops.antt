@@ -1,5 +1,5 @@
 -- A request ends a lock only where nobody else of the client relies on it: it drops one where the
--- image is at rest, and removes a header where it is past its own look, alone.
+-- image is at rest, and removes a header where it is past its look under the lock, alone.
 use Rattle.std.proofs.Common.{◌≡◌, ◌≢◌, ◌⊎◌, inl, inr, ℕ, suc, ◌==◌, ◌&&◌, ◌||◌, not, cond, Bool, true, false, List, [], ◌∷◌, Option, Some, None, refl, sym, ap, ◌∙◌, subst, true≢false}
 use Rattle.std.specs.List.{list_all}
 use Rattle.std.specs.Prelude.{IsSome}
@@ -55,7 +55,8 @@ use Rattle.rbd_session.proofs.OwnLooks.{at_own_look}
 
 -- ---- in one line
 
--- One that is alone and may pass is the first. Behind it nobody may, until it is past own.
+-- One that is alone and may pass is the first. Behind it nobody may, until it is past its look
+-- under the lock.
 alone_goes_first : (line : List Member) (slot other : ℕ) (m n : Member) → slot ≢ other → member_of slot line ≡ Some m → member_of other line ≡ Some n → is_alone m.sharing ≡ true → is_past m.stage ≡ false
     → may_pass slot line ≡ true → may_pass other line ≡ true → ⊥
 alone_goes_first [] slot other m n differ here there alone waits may also = none-some m here
@@ -201,7 +202,7 @@ module _ {R : Type 0} (stands : R → Standing) (c : ClientView R) (knows : ℕ 
 
 -- ---- the removal of a header
 
--- who owns an image alone, behind its own look, is past it in the image's line, alone
+-- who owns an image alone, behind its look under the lock, is past it in the image's line, alone
 module _ {R : Type 0} (stands : R → Standing) (c : ClientView R) (knows : ℕ → Knowledge) (sound : IsSoundClient stands c) (all : AllKnow stands knows c.session)
     (slot : ℕ) (site : SiteId) (image : ℕ) (condition : HeaderView → Type 0) (owns : OwnsAlone (knows slot) site image condition) where
   abbrev line_there : List Member
@@ -220,7 +221,7 @@ module _ {R : Type 0} (stands : R → Standing) (c : ClientView R) (knows : ℕ 
       let m = owner_runs stands c.session knows sound.session all slot r runs site image own owns.is in
       record { member = m.member; found = m.found; alone = sym m.alone ∙ owns.meets.0; past = m.past refl }
 
-  -- so no other one may go past its own look
+  -- so no other one may go past its look under the lock
   nobody_passes : (other : ℕ) (n : Member) → slot ≢ other → member_of other line_there ≡ Some n → may_pass other line_there ≡ true → ⊥
   nobody_passes other n differ found may =
       let m = is_past_alone in

@@ -1,4 +1,4 @@
--- Who knows a header is past own, and has the lock.
+-- Who knows a header is past its look under the lock, and has the lock.
 use Rattle.std.proofs.Common.{◌≡◌, ℕ, true, Option, Some, None, refl, sym, ap, ◌∙◌, true≢false}
 use Rattle.std.specs.Prelude.{IsSome, is_some}
 use Rattle.rbd_client.specs.declared.actor.Actor.{Actor}
@@ -24,7 +24,7 @@ use Rattle.rbd_session.specs.Lines.{lines_of}
 use Rattle.rbd_site.specs.Records.{Records}
 
 module _ {R : Type 0} (stands : R → Standing) (c : ClientView R) (knows : ℕ → Knowledge) (sound : IsSoundClient stands c) (all : AllKnow stands knows c.session) where
-  -- somebody is past own in the line of an image whose header is known
+  -- somebody is past its look under the lock in the line of an image whose header is known
   pub known_is_past : (slot : ℕ) (site : SiteId) (image : ℕ) → IsSome (known_header (knows slot) site image) → any_past (lines_of c.session.lines site image) ≡ true
   known_is_past slot site image some = by (own_of (knows slot).owns site image) refl some
     where

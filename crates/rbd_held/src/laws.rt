@@ -54,10 +54,10 @@ pub fn headers_are_known_by_locks<R: Request>()
         → IsTrueOf site r me knows c → KnowsByLock site r me (knows slot) }
 {}
 
-/// Whoever acts may look at what it looks at, drop the lock that it drops, and change the object that
-/// it changes: beside each other request of the client, by the lines of its session, and beside each
-/// of another client that knows headers by its locks, by the lock. A way looks at no header, and
-/// changes nothing.
+/// Whoever acts may look at what it looks at, drop the lock that it drops, and change the object
+/// that it changes: beside each other request of the client, by the lines of its session, and
+/// beside each of another client that knows headers by its locks, by the lock. A way looks at no
+/// header, and changes nothing.
 pub fn whoever_acts_may_act<R: Request>()
     ensures own { (c : ClientView R) (knows : ℕ → Knowledge) (slot other : ℕ) (site : Site) (op : Op) (r : Records) (me you : Instance)
         → IsSoundClient R.stands c → AllKnow R.stands knows c.session → slot ≢ other → op_wanted R.stands slot c ≡ Some (site, op)
@@ -70,8 +70,8 @@ pub fn whoever_acts_may_act<R: Request>()
 {}
 
 /// A request of a client drops the lock of an image only where no other one relies on it: none is
-/// past own, and none has taken the lock itself. And it removes a header only where none has taken
-/// the lock itself. So a client may be fed whatever is wanted of it.
+/// past its look under the lock, and none has taken the lock itself. And it removes a header only
+/// where none has taken the lock itself. So a client may be fed whatever is wanted of it.
 pub fn locks_are_dropped_at_rest<R: Request>()
     ensures { (c : ClientView R) (knows : ℕ → Knowledge) (slot : ℕ) (site : Site) (op : Op)
         → IsSoundClient R.stands c → AllKnow R.stands knows c.session → op_wanted R.stands slot c ≡ Some (site, op)
@@ -109,9 +109,9 @@ pub fn answers_leave_clients_true<R: Request>()
         → IsTrueOf there q me (knows_fed knows slot result (plan_of R.stands (running_at slot c.session)) (Answered (answer_to r me op)) (actor_at R.stands slot c)) d }
 {}
 
-/// Whatever another instance does that is permitted to it leaves a client true, where it knows truly,
-/// headers by its locks, and goes beside the client's requests with what it does. So do the store's
-/// own steps.
+/// Whatever another instance does that is permitted to it leaves a client true, where it knows
+/// truly, headers by its locks, and goes beside the client's requests with what it does. So do the
+/// store's own steps.
 pub fn others_leave_clients_true<R: Request>()
     ensures operation { (c : ClientView R) (knows : ℕ → Knowledge) (site : Site) (r : Records) (me you : Instance) (j : Knowledge) (op : Op)
         → IsTrueOf site r me knows c → you ≢ me → IsTrueAt site r you j → KnowsByLock site r you j → Permits j site op

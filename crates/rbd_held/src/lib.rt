@@ -13,7 +13,7 @@
 //! block-add         done                 client 1 is fenced   nothing
 //! lock-break 7      done                 nothing              nothing           nobody's
 //! lock-take 7       done                 (it has ended)       the lock of 7     client 0's
-//! header-get 7      its own look, told                        the lock of 7
+//! header-get 7      its look under the lock                   the lock of 7
 //! ```
 //!
 //! # Rules
@@ -26,8 +26,8 @@
 //!   the take up to that of the drop or to the header's end, unless the client is fenced: then the
 //!   lock may be broken.
 //! - Where a request knows a header the lock counts as the client's: it came to know it by its own
-//!   look, under the lock, and the lock lasts while it does. Who removes a header is alone, and knows
-//!   it no more.
+//!   look, under the lock, and the lock lasts while it does. Who removes a header is alone, and
+//!   knows it no more.
 //! - So a request that knows a header has the lock, and two clients never know the header of one
 //!   image at a time, but for one that is fenced and does nothing by it any more.
 //!

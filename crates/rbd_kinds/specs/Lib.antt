@@ -6,6 +6,7 @@ pub mod Frame
 pub mod Header
 pub mod Images
 pub mod Instances
+pub mod Maps
 pub mod Operation
 pub mod OperationKind
 pub mod Parts

@@ -16,6 +16,6 @@ are_apart sharing.Flatten sharing.Discard = true
 are_apart sharing.Flatten sharing.Flatten = true
 are_apart _ _ = false
 
--- whether two may be past their own looks at once
+-- whether two may be past their looks under the lock at once
 abbrev pub go_together : (one other : Sharing) → Bool
 go_together one other = not (is_alone one) && (not (is_alone other) && not (are_apart one other))

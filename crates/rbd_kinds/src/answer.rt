@@ -5,9 +5,10 @@ ghost use Rattle.rbd_kinds.specs.Answer.{answer_word};
 use crate::header::HeaderView;
 use crate::id::{Ids, ImageId, Instance, Instances, SnapId};
 use crate::journal::{JournalView, Position, Tag};
-use rbd_values::{Bytes, Names, NoMemory, TryClone};
+use rbd_values::{Bytes, Names, NoMemory, Shared, TryClone};
 
-/// The answer to an operation.
+/// The answer to an operation. What a header or a journal tells is large, and shared: so an answer
+/// is no larger than a few words, whatever it is.
 #[derive(Debug, Drop)]
 pub enum Answer {
     Done,
@@ -20,7 +21,7 @@ pub enum Answer {
     Names(Names),
     Ids(Ids),
     Instances(Instances),
-    Header(HeaderView),
+    Header(Shared<HeaderView>),
     /// The snapshot that was made.
     Snap(SnapId),
     /// Who has the lock.
@@ -32,7 +33,7 @@ pub enum Answer {
     Bits(Bytes),
     Tag(Tag),
     Frame { position: Position, frame: Bytes },
-    Spans(JournalView),
+    Spans(Shared<JournalView>),
     /// The instance is in the site's blocklist.
     Fenced,
 }

@@ -6,14 +6,14 @@ use crate::header::{HeaderView, Role, SnapStatus};
 use crate::id::{Instance, SnapId};
 use crate::notice::NoticeKind;
 use crate::operation_kind::OpKind;
-use rbd_values::{Name, NoMemory, TryClone};
+use rbd_values::{Name, NoMemory, Shared, TryClone};
 
 /// An operation on an image's header, with its exclusive lock and its watchers (Ceph:
 /// `rbd_header.<id>`). The instance that does it is who takes or drops the lock, watches, and
 /// notifies.
 #[derive(Debug, Drop)]
 pub enum HeaderOp {
-    Create { view: HeaderView },
+    Create { view: Shared<HeaderView> },
     Get,
     /// Sets the size in bytes.
     SetSize { size: u64 },

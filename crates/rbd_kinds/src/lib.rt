@@ -56,7 +56,7 @@ pub use operation::Op;
 pub use operation_kind::OpKind;
 pub use rbd_commands::{Command, FillLength, Payload, ReadLength, Refusal, Shape};
 pub use rbd_values::{
-    AskedName, AtMost, Bytes, Growing, Name, Names, NoMemory, Number, Sequence, TryClone,
+    AskedName, AtMost, Bytes, Growing, Name, Names, NoMemory, Number, Sequence, Shared, TryClone,
     is_name_byte,
 };
 pub use reply::{MirrorState, Reply};

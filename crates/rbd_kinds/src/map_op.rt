@@ -1,5 +1,6 @@
 //! Operations on an image's object maps.
 ghost use Rattle.std.specs.Prelude.{◌≡◌};
+ghost use Rattle.rbd_kinds.specs.Maps.{map_snap};
 ghost use Rattle.rbd_kinds.specs.OperationKind.{map_kind};
 
 use crate::id::SnapId;
@@ -48,6 +49,23 @@ impl MapOp {
                 state: _,
             } => OpKind::MapSet,
             MapOp::Remove { snap: _ } => OpKind::MapRemove,
+        }
+    }
+
+    /// The snapshot on whose map it is, or none where it is on the head's.
+    pub fn snap(&self) -> Option<SnapId>
+        ensures { result ≡ map_snap self.now }
+    {
+        match self {
+            MapOp::Resize { count: _ } => None,
+            MapOp::Get { snap } => *snap,
+            MapOp::Put { snap, bits: _ } => *snap,
+            MapOp::Set {
+                snap,
+                object: _,
+                state: _,
+            } => *snap,
+            MapOp::Remove { snap } => *snap,
         }
     }
 }

@@ -1,5 +1,6 @@
 //! Single operations on single objects of a site.
-ghost use Rattle.std.specs.Prelude.{◌≡◌};
+ghost use Rattle.std.specs.Prelude.{◌≡◌, IfOk};
+ghost use Rattle.rbd_kinds.specs.declared.operation.Op.TheVariants as of_op;
 ghost use Rattle.rbd_kinds.specs.OperationKind.{kind_of};
 
 use crate::children_op::ChildrenOp;
@@ -10,7 +11,8 @@ use crate::id::{ImageId, Instance};
 use crate::journal_op::JournalOp;
 use crate::map_op::MapOp;
 use crate::operation_kind::OpKind;
-use rbd_values::{NoMemory, TryClone};
+use rbd_values::{NoMemory, Shared, TryClone};
+use std::alloc::Global;
 
 /// One operation on one object of a site: which object, and what is done to it. Each is one step,
 /// whole or not at all (Ceph: the operations of librados and of the object class `rbd`). There are
@@ -30,11 +32,12 @@ pub enum Op {
         image: ImageId,
         op: HeaderOp,
     },
-    /// On a data object of an image, by its number.
+    /// On a data object of an image, by its number. (Its parts are many, and shared: so an
+    /// operation is small, whatever it is.)
     Data {
         image: ImageId,
         object: u64,
-        op: DataOp,
+        op: Shared<DataOp>,
     },
     /// On an object map of an image.
     Map {
@@ -49,6 +52,22 @@ pub enum Op {
 }
 
 impl Op {
+    /// An operation on a data object of an image.
+    pub fn on_object(
+        alloc: Global,
+        image: ImageId,
+        object: u64,
+        op: DataOp,
+    ) -> Result<Self, NoMemory>
+        ensures { IfOk result (λ made. made ≡ of_op.Data image object op) }
+    {
+        Ok(Op::Data {
+            image,
+            object,
+            op: Shared::new(alloc, op)?,
+        })
+    }
+
     /// Which operation it is, without its object and its parts.
     pub fn kind(&self) -> OpKind
         ensures { result ≡ kind_of self.now }

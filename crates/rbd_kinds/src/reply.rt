@@ -2,7 +2,7 @@
 use crate::header::{HeaderView, Role, Snaps};
 use crate::id::Ids;
 use rbd_commands::Refusal;
-use rbd_values::{Bytes, Name, Names};
+use rbd_values::{Bytes, Name, Names, Shared};
 
 /// The reply to a command.
 #[derive(Debug, Drop)]
@@ -18,7 +18,7 @@ pub enum Reply {
     /// The snapshots of an image, oldest first.
     Snaps(Snaps),
     /// What an image's header tells.
-    Info(HeaderView),
+    Info(Shared<HeaderView>),
     /// How many of an image's objects are used, and how many it has by its size.
     Used {
         used: u64,

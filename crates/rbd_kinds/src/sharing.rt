@@ -2,8 +2,8 @@
 ghost use Rattle.std.specs.Prelude.{◌≡◌};
 ghost use Rattle.rbd_kinds.specs.Sharing.{are_apart, go_together, is_alone};
 
-/// Beside which other requests of its session and its image a request may be past its own look, the
-/// look under the lock (own; Ceph: one client's requests share its lock).
+/// Beside which other requests of its session and its image a request may be past its look under
+/// the lock (own; Ceph: one client's requests share its lock).
 #[derive(Clone, Copy, Debug, PartialEq, Eq)]
 pub enum Sharing {
     /// Beside none: it changes more than bytes.
@@ -27,7 +27,7 @@ impl Sharing {
         }
     }
 
-    /// Whether two requests may be past their own looks at once.
+    /// Whether two requests may be past their looks under the lock at once.
     pub fn goes_with(&self, other: &Sharing) -> bool
         ensures { result ≡ go_together self.now other.now }
     {

@@ -27,6 +27,7 @@ use Rattle.rbd_kinds.specs.declared.operation.Op.{Op}
 use Rattle.rbd_kinds.specs.declared.operation.Op.TheVariants as op
 use Rattle.rbd_header.specs.Header.{with_size, with_snap, without_snap}
 use Rattle.rbd_line.specs.Line.{is_past}
+use Rattle.rbd_line.proofs.Fair.{stays_past}
 use Rattle.rbd_machine.specs.Knowledge.{ImageMaps, ImageObjects, Knowledge, Own, learned_of_map, learned_of_object, looked_by, looked_owning, own_of, is_at, told_of, with_header, header_told, first_told, learned, learned_of_directory, learned_of_header, learned_of_listing, passed, held, left}
 use Rattle.rbd_machine.specs.Wait.{Wait}
 use Rattle.rbd_machine.specs.Wait as wait
@@ -46,11 +47,6 @@ held_waits : (s : Stage) → has_just_joined (held_stage s) ≡ false
 held_waits stage.Joined = refl
 held_waits stage.Waiting = refl
 held_waits stage.Past = refl
-
-held_past : (s : Stage) → is_past s ≡ true → is_past (held_stage s) ≡ true
-held_past stage.Joined is = is
-held_past stage.Waiting is = is
-held_past stage.Past is = is
 
 -- a newcomer that waits isn't past
 held_behind : (s : Stage) → has_just_joined s ≡ true → is_past (held_stage s) ≡ true → ⊥
@@ -92,7 +88,7 @@ module _ (site : SiteId) (image : ℕ) (o : Own) where
       }
       by false = owns
 
-  -- at its own look it is past it
+  -- at its look under the lock it is past it
   looked_in : (s : SiteId) (i : ℕ) (h : HeaderView) (place : Option Place) → is_own_at s i place ≡ true → is_at site image o.site o.image ≡ true → OwnsIn site image o place
       → OwnsIn site image (told_of s i (first_told h) o) (past place)
   looked_in s i h None own there owns = owns
@@ -171,7 +167,7 @@ module _ (e : Option Extent) (k : Knowledge) (c : Course) (t : IsTied k c) where
     turn = λ site image some. t.turn site image (told_knew s site i image (option_map edit) k.owns (edit_knew s i edit (own_of k.owns s i)) some);
   }
 
-  -- it knows no header before its own look
+  -- it knows no header before its look under the lock
   nothing_known_yet : (s : SiteId) (i : ℕ) → is_own_at s i c.place ≡ true → (site : SiteId) (image : ℕ) (o : Option Own) → own_of k.owns site image ≡ o → IsSome (header_of_own o) → ⊥
   nothing_known_yet s i own site image None is some = true≢false (sym some)
   nothing_known_yet s i own site image (Some o) is some = by c.place own (t.owns site image o is)
@@ -190,7 +186,7 @@ module _ (e : Option Extent) (k : Knowledge) (c : Course) (t : IsTied k c) where
           let past = past_else p.stage owns.waits (sym (ap (λ b. b && is_waiting p.stage) owns.there) ∙ other) in
           true≢false (sym (owns.told past) ∙ ap is_some none)
 
-  -- behind its own look, where it has no turn yet
+  -- behind its look under the lock, where it has no turn yet
   looked_tied : (s : SiteId) (i : ℕ) (h : HeaderView) (turn : Option ℕ) (maps : List ImageMaps) (objects : List ImageObjects) → is_own_at s i c.place ≡ true
       → (IsSome (header_changed (first_told h) (own_of k.owns s i)) → turn ≡ c.turn)
       → IsTied (header_told s i (first_told h) (record k { turn = turn; maps = maps; objects = objects })) (looked e h c)
@@ -294,7 +290,7 @@ module _ (e : Option Extent) (k : Knowledge) (c : Course) (t : IsTied k c) where
   map_tied s i (states.Remove view) answer.Done = maps_tied _
   map_tied s i _ _ = t
 
-  -- no turn is had before the own look
+  -- no turn is had before the look under the lock
   pub answered_tied : (s : SiteId) (o : Op) (a : Answer) → ((i : ℕ) → is_own_at s i c.place ≡ true → c.turn ≡ None) → IsTied (learned k s o a) (answered e c s o a)
   answered_tied s (op.Directory o) a quiet = directory_tied s o a
   answered_tied s (op.Header i o) a quiet = header_tied s i o a (quiet i)
@@ -327,7 +323,7 @@ module _ (k : Knowledge) (c : Course) (t : IsTied k c) (site : SiteId) (image : 
     there = owns.there;
     alone = owns.alone;
     waits = held_waits p.stage;
-    past = λ some. held_past p.stage (owns.past some);
+    past = λ some. stays_past p.stage ∙ owns.past some;
     told = λ past. absurd (held_behind p.stage new past);
   }
 

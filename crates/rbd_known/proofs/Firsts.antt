@@ -12,7 +12,7 @@ pub one_first : (xs : List ℕ) (a b : ℕ) → begins_with a xs ≡ true → be
 one_first [] a b one other = absurd (true≢false (sym one))
 one_first (x ∷ xs) a b one other = sym (eqb-true x a one) ∙ eqb-true x b other
 
--- who isn't past own holds nothing, so that none of those has a turn
+-- who isn't past its look under the lock holds nothing, so that none of those has a turn
 none_first : (n object : ℕ) (ms : List Member) → list_all (λ m. not (is_past m.stage)) ms ≡ true → Each IsFairMember ms → has_turn n object ms ≡ true → ⊥
 none_first n object [] none fair is = true≢false (sym is)
 none_first n object (m ∷ ms) none fair is = by (holds object m) refl is (none_first n object ms (and_parts (not (is_past m.stage)) (list_all (λ m. not (is_past m.stage)) ms) none).1 fair.1)
@@ -44,7 +44,8 @@ module _ (n object slot : ℕ) (f : Member → Member) where
       by false false at out is rest =
           subst (λ b. begins_with n (slots (cond b (m ∷ filter (holds object) (changed slot f ms)) (filter (holds object) (changed slot f ms)))) ≡ true) (sym out) (rest is)
 
-  -- and where nobody behind the changed one is past own, whatever that one holds then
+  -- and where nobody behind the changed one is past its look under the lock, whatever that one
+  -- holds then
   pub before_first : n ≢ slot → (ms : List Member) → none_past_behind slot ms ≡ true → Each IsFairMember ms → has_turn n object ms ≡ true → has_turn n object (changed slot f ms) ≡ true
   before_first differ [] none fair is = is
   before_first differ (m ∷ ms) none fair is = by (eqb m.slot slot) (holds object m) refl refl none is (λ later. before_first differ ms later fair.1)

@@ -34,7 +34,7 @@ use Rattle.rbd_known.proofs.Along.{left_knows_none}
 use Rattle.rbd_known.proofs.There.{owner_there}
 use Rattle.rbd_known.proofs.Turning.{noted_keeps_turns, own_held, own_joined, own_noted, turn_answered, waited_keeps_turns}
 
--- ---- no turn before the own look
+-- ---- no turn before the look under the lock
 
 pub quiet_before : (slot : ℕ) (t : Track) → IsSomewhere slot t → AreFair t.lines → HasNext slot t → (s : SiteId) (i : ℕ) → is_own_at s i (course_of slot t).place ≡ true → t.turn ≡ None
 quiet_before slot t (inl nowhere) fair next s i own = absurd (true≢false (sym own ∙ ap (is_own_at s i) (nowhere_course slot t nowhere)))

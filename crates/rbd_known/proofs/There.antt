@@ -43,7 +43,7 @@ owner_there slot site image o t (inr (p, m, there)) owns =
       told = at.told;
     }
 
--- who may go on to its own look may pass
+-- who may go on to its look under the lock may pass
 pub may_of : (own may : Bool) → own ≡ true → (own && not may) ≡ false → may ≡ true
 may_of true true is waits = refl
 may_of true false is waits = absurd (true≢false waits)

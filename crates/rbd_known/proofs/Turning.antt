@@ -1,7 +1,7 @@
 -- Turns in the lines of a session: who has one keeps it, whatever another request does, and its own
 -- until it ends the piece.
-use Rattle.std.proofs.Common.{◌≡◌, ◌≢◌, ◌⊎◌, inl, inr, ℕ, cond, not, Bool, true, false, List, [], ◌∷◌, ◌++◌, Option, Some, None, refl, sym, ap, ◌∙◌, subst}
-use Rattle.std.proofs.lemmas.Bool.{true≢false, or_parts}
+use Rattle.std.proofs.Common.{◌≡◌, ◌≢◌, ◌⊎◌, inl, inr, ℕ, cond, Bool, true, false, List, [], ◌∷◌, ◌++◌, Option, Some, None, refl, sym, ap, ◌∙◌, subst}
+use Rattle.std.proofs.lemmas.Bool.{not-false, or_parts}
 use Rattle.std.proofs.lemmas.List.{append-nil}
 use Rattle.std.proofs.lemmas.Option.{same_Some}
 use Rattle.rbd_kinds.specs.declared.sharing.Sharing.{Sharing}
@@ -116,11 +116,7 @@ module _ (slot object : ℕ) where
 
 -- the turn that it has is that of the object of its piece, where it may go on
 pub turn_of_goes : (slot : ℕ) (t : Track) → waits slot t ≡ false → (object : ℕ) → t.turn ≡ Some object → has_turn slot object (line_in t.place t.lines) ≡ true
-turn_of_goes slot t goes object is = by (has_turn slot object (line_in t.place t.lines)) (sym (ap (λ turn. lacks_turn slot turn (line_in t.place t.lines)) is) ∙ (or_parts (awaits_line slot t) (awaits_turn slot t) goes).1)
-  where
-    by : (b : Bool) → not b ≡ false → b ≡ true
-    by true is = refl
-    by false is = absurd (true≢false is)
+turn_of_goes slot t goes object is = not-false (has_turn slot object (line_in t.place t.lines)) (sym (ap (λ turn. lacks_turn slot turn (line_in t.place t.lines)) is) ∙ (or_parts (awaits_line slot t) (awaits_turn slot t) goes).1)
 
 -- so it is behind an answer
 pub turn_answered : (slot : ℕ) (e : Option Extent) (t : Track) (s : SiteId) (o : Op) (a : Answer)

@@ -6,8 +6,8 @@ use Rattle.rbd_line.specs.Line.{is_past}
 use Rattle.rbd_machine.specs.Knowledge.{Knowledge, Own, own_of, is_at}
 use Rattle.rbd_rely.specs.Truth.{known_header}
 
--- It is in this image's line, alone there exactly where it owns alone, and waits for its own look
--- or is past it. It is past it exactly where it knows the header, which that look told.
+-- It is in this image's line, alone there exactly where it owns alone, and waits for its look under
+-- the lock or is past it. It is past it exactly where it knows the header, which that look told.
 pub record OwnsAt (site : SiteId) (image : ℕ) (o : Own) (p : Place) : Type 0 where
   pub there : is_at site image p.site p.image ≡ true
   pub alone : o.alone ≡ p.alone

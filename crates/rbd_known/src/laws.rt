@@ -58,8 +58,8 @@ pub fn ready_requests_know_the_same<R: Request>()
 {}
 
 /// A request that may go on may do what it asks for, whatever another one of its session knows: the
-/// line lets it look under the lock only where neither is alone that knows the header, and change an
-/// object only in its turn, when the other knows nothing of that object.
+/// line lets it look under the lock only where neither is alone that knows the header, and change
+/// an object only in its turn, when the other knows nothing of that object.
 pub fn who_may_go_on_may_act<R: Request>()
     ensures { (s : SessionView R) (slot other : ℕ) (r : Running R) (knows : ℕ → Knowledge) (site : Site) (why : Reason) (op : Op) (next : Answer → Plan)
         → IsSoundSession R.stands s → AllKnow R.stands knows s → slot ≢ other

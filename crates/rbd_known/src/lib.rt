@@ -9,7 +9,7 @@
 //! slot 1, a `write` of image 7     the line of 7        what slot 1 knows
 //! dir-find                         joined, shared       nothing
 //! header-get                       waiting              that it waits for 7, not alone
-//! header-get, its own look         past                 the header of 7
+//! header-get, under the lock       past                 the header of 7
 //! data-write ..                    past
 //! (it has ended)                   (it has left)        nothing
 //! ```
@@ -17,16 +17,16 @@
 //! # Rules
 //!
 //! - A request owns no image but that of its line, alone exactly where it joined alone. It knows a
-//!   header of it only past its own look.
-//! - So a request that may go on to its own look finds nobody beside it that knows the header and
-//!   is alone, and is alone itself only where nobody knows it.
+//!   header of it only past its look under the lock.
+//! - So a request that may go on to its look under the lock finds nobody beside it that knows the
+//!   header and is alone, and is alone itself only where nobody knows it.
 //! - Where others change the image too, it knows of a single object only in its turn there: that it
 //!   raised the object's state, or removed the object. It has that turn in its line as long as it
-//!   knows so, whatever others do, since tickets are taken in the order of the line. So who may go on
-//!   in its turn finds nobody else that knows anything of the object.
+//!   knows so, whatever others do, since tickets are taken in the order of the line. So who may go
+//!   on in its turn finds nobody else that knows anything of the object.
 //! - A request that waits for nothing (a look, a listing, a `create`, a `rename`, a `resume`, a
-//!   `tell`) owns nothing, and removes no image. A `close` and a `quiesce` wait in the line of their
-//!   image, as a change does.
+//!   `tell`) owns nothing, and removes no image. A `close` and a `quiesce` wait in the line of
+//!   their image, as a change does.
 //!
 //! # Contracts
 //!

@@ -99,7 +99,7 @@ Any-cases : {X : Type 0} (P : X → Type 0) (x : X) (xs : List X) → Any P (x �
 Any-cases P x xs (zero, y, less, is, h) = inl (subst P (sym is) h)
 Any-cases P x xs (suc k, y, less, is, h) = inr (k, y, omega arith, is, h)
 
-Any-none : {X : Type 0} (P : X → Type 0) → Any P [] → ⊥
+pub Any-none : {X : Type 0} (P : X → Type 0) → Any P [] → ⊥
 Any-none P (k, y, less, is, h) = omega arith
 
 Among-append_left : (x : ℕ) (xs ys : List ℕ) → Among x xs → Among x (xs ++ ys)

@@ -6,7 +6,7 @@ use Rattle.std.proofs.lemmas.List.{length_push, get_or_append_left}
 use Rattle.std.proofs.lemmas.List.Elements.{All-push, All-weaker}
 use Rattle.std.proofs.lemmas.List.Quantifiers.{all_pairs_push, Any-push}
 use Rattle.std.proofs.lemmas.Bool.{eqb-true, false≢true}
-use Rattle.std.proofs.Math.Nat.{mul-le-mul_right, div-mul-le_self}
+use Rattle.std.proofs.Math.Nat.{mul-le-mul_right, div-mul-le_self, not-suc-le-zero}
 use Rattle.rbd_kinds.specs.declared.layout.Layout.{Layout}
 use Rattle.rbd_kinds.specs.declared.layout.Part.{Part}
 use Rattle.rbd_kinds.specs.declared.layout.Extent.{Extent}
@@ -86,16 +86,13 @@ pub record Gathered (l : Layout) (e : Extent) (n : ℕ) (pieces : List Piece) : 
 -- no place of the extent lies in an object before those of its first byte's set
 pub gather_begins : (l : Layout) → IsLayout l → (e : Extent) → Gathered l e (object_of l e.at / l.count * l.count) []
 gather_begins l h e = record {
-  parts = λ k d less. absurd (not_below k less);
-  touched = λ k d less. absurd (not_below k less);
-  ascending = λ i j d _ less. absurd (not_below j less);
-  before = λ k d less. absurd (not_below k less);
+  parts = λ k d less. absurd (not-suc-le-zero less);
+  touched = λ k d less. absurd (not-suc-le-zero less);
+  ascending = λ i j d _ less. absurd (not-suc-le-zero less);
+  before = λ k d less. absurd (not-suc-le-zero less);
   whole = λ x le _ less. absurd (earlier x le less);
 }
   where
-    not_below : (k : ℕ) → k < 0 → ⊥
-    not_below k h' = omega arith
-
     earlier : (x : ℕ) → e.at ≤ x → object_of l x < object_of l e.at / l.count * l.count → ⊥
     earlier x le less =
         let set : object_of l e.at / l.count ≤ object_of l x / l.count = set_at_most l h e.at x le in

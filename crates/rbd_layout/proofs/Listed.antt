@@ -5,7 +5,7 @@ use Rattle.std.specs.List.{range_with_len, flat_map}
 use Rattle.std.proofs.lemmas.List.Elements.{All-nil, All-cons, All-head, All-tail, All-map, All-weaker, All-filter, filter_passes}
 use Rattle.std.proofs.lemmas.List.Kept.{AllPairs-cons, AllPairs-filter}
 use Rattle.std.proofs.lemmas.Bool.Decides.{eqb_tells, nat_tests}
-use Rattle.std.proofs.Math.Nat.{mul-le-mul_left}
+use Rattle.std.proofs.Math.Nat.{mul-le-mul_left, not-suc-le-zero}
 use Rattle.rbd_kinds.specs.declared.layout.Layout.{Layout}
 use Rattle.rbd_kinds.specs.declared.layout.Part.{Part}
 use Rattle.rbd_kinds.specs.declared.layout.Extent.{Extent}
@@ -41,9 +41,6 @@ next_offset l h x same = go (cases_lt (offset_of l x + 1) (offset_of l (x + 1)))
         absurd (omega (arith, here, there, up, on))
     go (inr (inl e)) = sym e
     go (inr (inr less)) = absurd (omega (arith, later))
-
-none_below : (j : ℕ) → j < 0 → ⊥
-none_below j less = omega arith
 
 -- the parts of some places of one object
 record Listed (l : Layout) (n : ℕ) (xs : List ℕ) (parts : List Part) : Type 0 where
@@ -150,7 +147,7 @@ listed_at : (l : Layout) → IsLayout l → (n a len : ℕ) → Listed l n (filt
 listed_at l h n a zero = record {
   each = All-nil (IsPart l n);
   cover = refl;
-  apart = λ i j d _ less. absurd (none_below j less);
+  apart = λ i j d _ less. absurd (not-suc-le-zero less);
 }
 listed_at l h n a (suc len) = go (eqb_tells (object_of l a) n) (listed_at l h n (a + 1) len)
   where
@@ -178,7 +175,7 @@ parts_listed l h e object =
 
 -- the pieces of objects that come one after another
 ascending_pieces : (l : Layout) (e : Extent) (a n : ℕ) → AllPairs (λ p q. p.object < q.object) (map (piece_in l e) (range_with_len a n))
-ascending_pieces l e a zero = λ i j d _ less. absurd (none_below j less)
+ascending_pieces l e a zero = λ i j d _ less. absurd (not-suc-le-zero less)
 ascending_pieces l e a (suc n) =
     AllPairs-cons (λ p q. p.object < q.object) (piece_in l e a) (map (piece_in l e) (range_with_len (a + 1) n)) (above (a + 1) n (omega arith)) (ascending_pieces l e (a + 1) n)
   where

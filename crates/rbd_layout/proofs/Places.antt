@@ -1,7 +1,7 @@
 -- Places in objects, for a layout that keeps the limits.
 use Rattle.std.proofs.Common.{◌≡◌, ℕ, ◌+◌, ◌-◌, ◌*◌, ◌/◌, ◌%◌, ◌<◌, ◌≤◌, ◌⊎◌, inl, inr, refl, sym, ap, subst, arith}
 use Rattle.std.proofs.lemmas.Nat.{div-mul-add, div-add-mod', le-div, div_below}
-use Rattle.std.proofs.Math.Nat.{mul-le-mul_right, mul-le-mul_left, mod-lt, div-mul-le_self, div-eq_of_lt}
+use Rattle.std.proofs.Math.Nat.{mul-le-mul_right, mul-le-mul_left, mod-lt, div-mul-le_self, div-eq_of_lt, not-suc-le-zero}
 use Rattle.rbd_kinds.specs.declared.layout.Layout.{Layout}
 use Rattle.rbd_kinds.specs.Striping.{IsLayout, IsObjectCount, units_per_object, object_of, offset_of, byte_at, stripe_of, position_of}
 use Rattle.rbd_layout.specs.Pieces.{IsHeld}
@@ -95,6 +95,10 @@ held_none l h n m greater = record {
         let less : byte_at l (object_of l m) (offset_of l m) < byte_at l n o =
         set_lt l.unit l.count (units_per_object l) (object_of l m) (offset_of l m) n o (omega (arith, s.unit_least)) s.count_least greater (rw (← s.whole) place) in
         omega arith
+
+-- below the first byte of the image an object has none
+pub held_at_start : (l : Layout) (n : ℕ) → IsHeld l n 0 0
+held_at_start l n = record { within = omega arith; each = λ o _. ((λ less. absurd (not-suc-le-zero less)), (λ less. absurd (not-suc-le-zero less))) }
 
 -- of the object itself, those before the byte
 pub held_own : (l : Layout) → IsLayout l → (m : ℕ) → IsHeld l (object_of l m) m (offset_of l m)

@@ -7,7 +7,7 @@ use Rattle.std.proofs.lemmas.List.Concat.{flat_map-append}
 use Rattle.std.proofs.lemmas.List.Elements.{All-push, All-weaker}
 use Rattle.std.proofs.lemmas.List.Quantifiers.{all_pairs_push}
 use Rattle.std.proofs.lemmas.Nat.{div-mul-add, mod-mul-add, div-add-mod'}
-use Rattle.std.proofs.Math.Nat.{mul-le-mul_right, mod-lt, div-one, mod-one, mod-eq_of_lt}
+use Rattle.std.proofs.Math.Nat.{mul-le-mul_right, mod-lt, div-one, mod-one, mod-eq_of_lt, not-suc-le-zero}
 use Rattle.rbd_kinds.specs.declared.layout.Layout.{Layout}
 use Rattle.rbd_kinds.specs.declared.layout.Part.{Part}
 use Rattle.rbd_kinds.specs.declared.layout.Extent.{Extent}
@@ -85,16 +85,13 @@ pub walk_begins : (l : Layout) → (n from end : ℕ) → from ≤ end → Walke
 walk_begins l n from end le =
     let none : from - from ≡ 0 = omega arith in
     record {
-      each = λ k d less. absurd (not_below k less);
+      each = λ k d less. absurd (not-suc-le-zero less);
       places = rw none refl;
-      apart = λ i j d _ less. absurd (not_below j less);
-      before = λ _ k d less. absurd (not_below k less);
+      apart = λ i j d _ less. absurd (not-suc-le-zero less);
+      before = λ _ k d less. absurd (not-suc-le-zero less);
       begun = omega arith;
       within = le;
     }
-  where
-    not_below : (k : ℕ) → k < 0 → ⊥
-    not_below k h = omega arith
 
 part_here : (l : Layout) → IsLayout l → (run : ℕ) → IsRun l run → (n offset len : ℕ) → 0 < len → offset % run + len ≤ run → offset + len ≤ l.object
     → IsPart l n (record { offset = offset; at = byte_at l n offset; len = len })

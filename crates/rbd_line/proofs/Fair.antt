@@ -190,9 +190,9 @@ quiet_fair slot f ms q fair each =
       passing = pair_map LetsPass LetsPass (put slot f) ms (quiet_pair (put slot f) (quiet_put slot f q)) fair.passing;
     }
 
--- ---- one waits for its own look
+-- ---- one waits for its look under the lock
 
-stays_past : (s : Stage) → is_past (held_stage s) ≡ is_past s
+pub stays_past : (s : Stage) → is_past (held_stage s) ≡ is_past s
 stays_past stage.Joined = refl
 stays_past stage.Waiting = refl
 stays_past stage.Past = refl
@@ -214,7 +214,7 @@ held_fair slot ms fair =
     quiet_fair slot held ms quiet_held fair
     (each_map IsFairMember IsFairMember (put slot held) ms (λ m. put_keeps IsFairMember slot held m (held_member m)) fair.each)
 
--- ---- one goes past its own look
+-- ---- one goes past its look under the lock
 
 pub and_left : (a b : Bool) → (a && b) ≡ true → a ≡ true
 and_left true b h = refl

@@ -3,7 +3,7 @@ use Rattle.std.proofs.Common.{◌≡◌, ℕ, Bool, true, false, cond, not, ◌&
 use Rattle.std.specs.List.{slice_get}
 use Rattle.std.specs.Option.{is_some}
 use Rattle.std.specs.Prelude.{IsOk, IfOk}
-use Rattle.std.proofs.lemmas.Bool.{eq-eqb, ne_eqb, eqb-true, eqb-false, cond-true, cond-false}
+use Rattle.std.proofs.lemmas.Bool.{and_right, eq-eqb, ne_eqb, eqb-true, eqb-false, cond-true, cond-false}
 use Rattle.std.proofs.lemmas.List.{map-append}
 use Rattle.std.proofs.lemmas.Option.{none-some, same_Some}
 use Rattle.rbd_kinds.proofs.Plain.{eqb_flip}
@@ -270,13 +270,9 @@ nothing_drops g slot r none = by (eqb slot r) refl
 pub no_next : (g : Tickets) (slot object : ℕ) → None ≡ slice_get (list slot g) 0 → false ≡ begins_with object (held_by slot g) && begins_with slot (holders object g)
 no_next g slot object none = ap (λ l. begins_with object l && begins_with slot (holders object g)) (sym (nothing_held g slot none))
 
-and_false : (b : Bool) → false ≡ b && false
-and_false true = refl
-and_false false = refl
-
 pub no_first : (g : Tickets) (slot object : ℕ) → None ≡ slice_get (queue object g) 0 → false ≡ begins_with object (held_by slot g) && begins_with slot (holders object g)
 no_first g slot object none =
-    and_false (begins_with object (held_by slot g))
+    sym (and_right (begins_with object (held_by slot g)) false refl)
     ∙ ap (λ l. begins_with object (held_by slot g) && begins_with slot l) (sym (empty_holders g object (is_empty (queue object g) none)))
 
 pub turn_is : (g : Tickets) (slot object first next : ℕ) → IsSoundGuard g → AreApart (held_by slot g) → Some next ≡ slice_get (list slot g) 0 → Some first ≡ slice_get (queue object g) 0

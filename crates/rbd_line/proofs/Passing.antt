@@ -7,9 +7,6 @@ use Rattle.std.proofs.lemmas.Bool.{eq-eqb, ne_eqb, eqb-true, cond-true, cond-fal
 use Rattle.std.proofs.lemmas.List.{length-map}
 use Rattle.std.proofs.lemmas.Option.{none-some, same_Some}
 use Rattle.std.proofs.Math.Bool.{and-false}
-use Rattle.rbd_course.specs.declared.stage.Stage.{Stage}
-use Rattle.rbd_course.specs.declared.stage.Stage.TheVariants as stage
-use Rattle.rbd_course.specs.Course.{held_stage}
 use Rattle.rbd_guard.specs.Order.{is_in}
 use Rattle.rbd_guard.proofs.Apart.{head_in}
 use Rattle.rbd_kinds.specs.Sharing.{go_together, is_alone}
@@ -17,7 +14,7 @@ use Rattle.rbd_kinds.specs.declared.sharing.Sharing.{Sharing}
 use Rattle.rbd_line.specs.Line.{Member, member_of, is_member, ahead, behind, is_past, lets_pass, is_let_pass, may_pass, holds, slots, none_past_behind, has_turn, joined, held, passed, entered, next_piece, changed, without, Each, EachPair, LetsPass, IsFairLine, is_shared_past, is_shared_past_in, may_enter, objects_in, objects_of, IsFairMember}
 use Rattle.rbd_line.specs.Steady.{IsSteady}
 use Rattle.rbd_line.specs.Turns.{begins_with}
-use Rattle.rbd_line.proofs.Fair.{put, put_is, put_keeps, absent_change, rest_out, in_slots, each_true, and_left, and_right}
+use Rattle.rbd_line.proofs.Fair.{put, put_is, put_keeps, absent_change, rest_out, in_slots, stays_past, each_true, and_left, and_right}
 use Rattle.rbd_line.proofs.Few.{few}
 use Rattle.rbd_line.proofs.Keeping.{found_has, is_found}
 use Rattle.rbd_line.proofs.Together.{alone_with_none, flips}
@@ -92,12 +89,7 @@ one_first a b (x ∷ xs) h k = sym (eqb-true x a h) ∙ eqb-true x b k
 -- ---- a member that changes
 
 pub held_is_steady : IsSteady held
-held_is_steady = record { slot = λ m. refl; sharing = λ m. refl; past = λ m. by m.stage }
-  where
-    by : (s : Stage) → is_past s ≡ true → is_past (held_stage s) ≡ true
-    by stage.Joined h = h
-    by stage.Waiting h = h
-    by stage.Past h = h
+held_is_steady = record { slot = λ m. refl; sharing = λ m. refl; past = λ m h. stays_past m.stage ∙ h }
 
 pub passed_is_steady : IsSteady passed
 passed_is_steady = record { slot = λ m. refl; sharing = λ m. refl; past = λ m h. refl }

@@ -1,4 +1,4 @@
--- Who is past own in a line.
+-- Who is past its look under the lock in a line.
 use Rattle.std.proofs.Common.{◌≡◌, ℕ, eqb, Bool, true, false, cond, ◌||◌, List, [], ◌∷◌, Some, refl, sym, ap, ◌∙◌, true≢false}
 use Rattle.std.proofs.lemmas.Bool.{eq-eqb}
 use Rattle.std.specs.Option.{is_some}
@@ -8,7 +8,7 @@ use Rattle.rbd_line.specs.Line.{Member, any_past, is_past, member_of, slots}
 use Rattle.rbd_line.proofs.Fair.{rest_out, slots_in}
 use Rattle.rbd_line.proofs.Keeping.{is_found}
 
--- somebody is past own, and is found
+-- somebody is past its look under the lock, and is found
 pub record IsPastIn (ms : List Member) : Type 0 where
   pub member : Member
   pub found : member_of member.slot ms ≡ Some member

@@ -28,7 +28,7 @@ pub record Holds (held_of holders : ℕ → List ℕ) (items : List Standing) (m
 holds_them : (held_of holders : ℕ → List ℕ) (items : List Standing) (members : List Member) → members_of held_of items ≡ members → IsKept held_of holders members → Holds held_of holders items members
 holds_them held_of holders items members seen kept = record { seen = seen; kept = subst (IsKept held_of holders) (sym seen) kept }
 
--- whether anybody is past own is told by where they stand
+-- whether anybody is past its look under the lock is told by where they stand
 pub any_past_seen : (held_of : ℕ → List ℕ) (items : List Standing) → list_any (λ (s : Standing). is_past s.stage) items ≡ any_past (members_of held_of items)
 any_past_seen held_of [] = refl
 any_past_seen held_of (s ∷ items) = ap (λ b. is_past s.stage || b) (any_past_seen held_of items)

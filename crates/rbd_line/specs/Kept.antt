@@ -9,7 +9,7 @@ use Rattle.rbd_line.specs.Line.{Member, is_member, holds, slots, IsFairLine}
 abbrev pub member : (held : ℕ → List ℕ) → Standing → Member
 member held s = record { slot = s.slot; sharing = s.sharing; stage = s.stage; objects = held s.slot }
 
--- a standing where the one at a slot waits, or is past its own look
+-- a standing where the one at a slot waits, or is past its look under the lock
 abbrev pub held_at : (slot : ℕ) → Standing → Standing
 held_at slot s = cond (s.slot == slot) (record s { stage = held_stage s.stage }) s
 

@@ -45,20 +45,21 @@ abbrev pub is_past : Stage → Bool
 is_past stage.Past = true
 is_past _ = false
 
--- whether a member is there and past its own look
+-- whether a member is there and past its look under the lock
 abbrev pub is_past_in : Option Member → Bool
 is_past_in None = false
 is_past_in (Some m) = is_past m.stage
 
--- whether anybody is past its own look
+-- whether anybody is past its look under the lock
 abbrev pub any_past : List Member → Bool
 any_past members = list_any (λ m. is_past m.stage) members
 
--- it is past its own look, and not alone
+-- it is past its look under the lock, and not alone
 abbrev pub is_shared_past : Member → Bool
 is_shared_past m = is_past m.stage && not (is_alone m.sharing)
 
--- whether a member lets one that is behind it pass: it is past its own look, and they go together
+-- whether a member lets one that is behind it pass: it is past its look under the lock, and they go
+-- together
 abbrev pub lets_pass : Sharing → Member → Bool
 lets_pass sharing m = is_past m.stage && go_together m.sharing sharing
 
@@ -66,7 +67,7 @@ abbrev pub is_let_pass : Option Member → (ahead : List Member) → Bool
 is_let_pass None ahead = false
 is_let_pass (Some m) ahead = list_all (lets_pass m.sharing) ahead
 
--- whether a member may go past its own look: each one ahead of it lets it
+-- whether a member may go past its look under the lock: each one ahead of it lets it
 abbrev pub may_pass : (slot : ℕ) → List Member → Bool
 may_pass slot members = is_let_pass (member_of slot members) (ahead slot members)
 
@@ -94,7 +95,7 @@ has_turn slot object members = begins_with slot (slots (filter (holds object) me
 abbrev pub comes_next : (slot object : ℕ) → List Member → Bool
 comes_next slot object members = begins_with object (objects_of slot members)
 
--- whether a slot is past its own look and shared, so that it takes tickets
+-- whether a slot is past its look under the lock and shared, so that it takes tickets
 abbrev pub is_shared_past_in : Option Member → Bool
 is_shared_past_in None = false
 is_shared_past_in (Some m) = is_shared_past m
@@ -102,7 +103,7 @@ is_shared_past_in (Some m) = is_shared_past m
 abbrev pub may_enter : (slot : ℕ) → List Member → Bool
 may_enter slot members = is_shared_past_in (member_of slot members)
 
--- whether nobody behind a slot is past its own look
+-- whether nobody behind a slot is past its look under the lock
 abbrev pub none_past_behind : (slot : ℕ) → List Member → Bool
 none_past_behind slot members = list_all (λ m. not (is_past m.stage)) (behind slot members)
 
@@ -111,7 +112,7 @@ none_past_behind slot members = list_all (λ m. not (is_past m.stage)) (behind s
 abbrev pub joined : (slot : ℕ) → Sharing → Member
 joined slot sharing = record { slot = slot; sharing = sharing; stage = stage.Joined; objects = [] }
 
--- a member that waits for its own look: one that is past it already stays so
+-- a member that waits for its look under the lock: one that is past it already stays so
 abbrev pub held : Member → Member
 held m = record m { stage = held_stage m.stage }
 
@@ -143,11 +144,11 @@ abbrev pub EachPair : (Member → Member → Type 0) → List Member → Type 0
 EachPair P [] = Unit {0}
 EachPair P (m ∷ members) = Each (P m) members × EachPair P members
 
--- who is past its own look was let pass by each one ahead of it
+-- who is past its look under the lock was let pass by each one ahead of it
 abbrev pub LetsPass : (earlier later : Member) → Type 0
 LetsPass earlier later = IsTrue (is_past later.stage) → IsTrue (lets_pass later.sharing earlier)
 
--- only a shared member that is past its own look holds objects, each of them once
+-- only a shared member that is past its look under the lock holds objects, each of them once
 pub record IsFairMember (m : Member) : Type 0 where
   pub slot_from : 1 ≤ m.slot
   pub slot_to : m.slot ≤ 64

@@ -7,8 +7,8 @@ ghost use Rattle.rbd_kinds.specs.declared.sharing.Sharing.{Sharing};
 ghost use Rattle.rbd_line.specs.Line.{Member, member_of, is_member, ahead, is_past, may_pass, may_enter, holds, objects_of, has_turn, none_past_behind, joined, held, passed, entered, next_piece, changed, without, IsFairLine};
 ghost use Rattle.rbd_line.specs.Steady.{IsSteady};
 
-/// While a member that is alone is past its own look, no other member is. Nobody behind one that is
-/// alone may pass.
+/// While a member that is alone is past its look under the lock, no other member is. Nobody behind
+/// one that is alone may pass.
 pub fn alone_is_alone()
     ensures past { (members : List Member) (one other : Member) → IsFairLine members
         → member_of one.slot members ≡ Some one → member_of other.slot members ≡ Some other → one.slot ≢ other.slot
@@ -18,9 +18,9 @@ pub fn alone_is_alone()
         → IsTrue (is_alone one.sharing) → IsTrue (is_member one.slot (ahead other members)) → IsFalse (may_pass other members) }
 {}
 
-/// Two that don't go together aren't past their own looks at once, and the later one waits for the
-/// end of the earlier: a flatten for that of each discard and flatten ahead of it, and a discard
-/// for that of each flatten.
+/// Two that don't go together aren't past their looks under the lock at once, and the later one
+/// waits for the end of the earlier: a flatten for that of each discard and flatten ahead of it,
+/// and a discard for that of each flatten.
 pub fn who_doesnt_go_together_waits()
     ensures past { (members : List Member) (one other : Member) → IsFairLine members
         → member_of one.slot members ≡ Some one → member_of other.slot members ≡ Some other → one.slot ≢ other.slot
@@ -109,8 +109,8 @@ pub fn finding()
     ensures slot { (members : List Member) (slot : ℕ) (m : Member) → member_of slot members ≡ Some m → m.slot ≡ slot }
 {}
 
-/// Who goes past its own look holds no object yet, and may take tickets if it is shared, one after
-/// another. Each goes behind those that it has, and the first goes with its piece.
+/// Who goes past its look under the lock holds no object yet, and may take tickets if it is shared,
+/// one after another. Each goes behind those that it has, and the first goes with its piece.
 pub fn taking_tickets()
     ensures none_yet { (members : List Member) (m : Member) → IsFairLine members → member_of m.slot members ≡ Some m
         → IsFalse (is_past m.stage) → m.objects ≡ [] }

@@ -14,8 +14,8 @@ use std::alloc::Global;
 use std::marker::Model;
 
 /// The line of one image in one session. Contracts see its `members` in line order, each with its
-/// slot, beside which others it goes, its stage and its objects, and for how many more tickets there
-/// is room.
+/// slot, beside which others it goes, its stage and its objects, and for how many more tickets
+/// there is room.
 #[derive(Debug, Drop)]
 pub struct Line {
     /// The members in the order in which they joined.
@@ -67,8 +67,8 @@ impl Line {
         join_at(&mut self.standings, slot, sharing);
     }
 
-    /// The request in a slot waits for its own look: one that is past it stays so. A slot that
-    /// isn't in the line changes nothing. It takes no memory.
+    /// The request in a slot waits for its look under the lock: one that is past it stays so. A
+    /// slot that isn't in the line changes nothing. It takes no memory.
     pub fn hold(&mut self, slot: Slot)
         ensures members { self.new.members ≡ changed slot held self.old.members }
         ensures reserved { self.new.reserved ≡ self.old.reserved }
@@ -77,9 +77,9 @@ impl Line {
         hold_at(&mut self.standings, slot);
     }
 
-    /// Whether the request in a slot may go past its own look: each one ahead of it is past its own,
-    /// and they go together. So nobody is ahead of one that is alone. A slot that isn't in the line
-    /// may not. It takes no memory.
+    /// Whether the request in a slot may go past its look under the lock: each one ahead of it is
+    /// past its own, and they go together. So nobody is ahead of one that is alone. A slot that
+    /// isn't in the line may not. It takes no memory.
     pub fn may_pass(&self, slot: Slot) -> bool
         ensures may { result ≡ may_pass slot self.now.members }
         ensures sound { IsFairLine self.now.members }
@@ -91,7 +91,7 @@ impl Line {
         }
     }
 
-    /// The request in a slot goes past its own look, when its own look was answered. It takes no
+    /// The request in a slot goes past its look under the lock, which was answered. It takes no
     /// memory.
     pub fn pass(&mut self, slot: Slot)
         requires { IsTrue (may_pass slot self.old.members) }
@@ -119,7 +119,7 @@ impl Line {
         sharing_of(self.standings.as_slice(), slot)
     }
 
-    /// Whether anybody in the line is past its own look. It takes no memory.
+    /// Whether anybody in the line is past its look under the lock. It takes no memory.
     pub fn is_any_past(&self) -> bool
         ensures past { result ≡ any_past self.now.members }
         ensures sound { IsFairLine self.now.members }
@@ -140,8 +140,8 @@ impl Line {
     }
 
     /// The request in a slot takes a ticket for an object, behind those that it has. It is shared
-    /// and past its own look, and nobody behind it is past its own yet: so tickets are taken in the
-    /// step in which it passes. It takes no memory.
+    /// and past its look under the lock, and nobody behind it is past its own yet: so tickets are
+    /// taken in the step in which it passes. It takes no memory.
     pub fn enter(&mut self, slot: Slot, object: u64)
         requires member { IsTrue (may_enter slot self.old.members) }
         requires last { IsTrue (none_past_behind slot self.old.members) }

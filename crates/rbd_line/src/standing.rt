@@ -62,7 +62,7 @@ fn is_letting_pass(standing: &Standing, sharing: Sharing) -> bool
     is_past(standing.stage) && standing.sharing.goes_with(&sharing)
 }
 
-/// Whether any member is past its own look.
+/// Whether any member is past its look under the lock.
 pub fn is_any_past(members: &[Standing]) -> bool
     ensures { result ≡ list_any (λ s. is_past s.stage) members.now }
 {
@@ -94,7 +94,7 @@ pub fn join_at(members: &mut Vec<Standing>, slot: Slot, sharing: Sharing)
     pushed.unwrap();
 }
 
-/// The slot waits for its own look: one that is past it stays so.
+/// The slot waits for its look under the lock: one that is past it stays so.
 pub fn hold_at(members: &mut Vec<Standing>, slot: Slot)
     ensures members { members.new.items ≡ map (held_at slot) members.old.items }
     ensures room { vec_capacity members.new ≡ vec_capacity members.old }
@@ -128,7 +128,7 @@ fn held_stage(stage: Stage) -> Stage
     }
 }
 
-/// The slot is past its own look.
+/// The slot is past its look under the lock.
 pub fn pass_at(members: &mut Vec<Standing>, slot: Slot)
     ensures members { members.new.items ≡ map (passed_at slot) members.old.items }
     ensures room { vec_capacity members.new ≡ vec_capacity members.old }

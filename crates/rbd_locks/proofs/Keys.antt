@@ -1,5 +1,6 @@
 -- Images that were asked for, as an ordered set has them.
-use Rattle.std.proofs.Common.{◌≡◌, ℕ, Bool, true, false, cond, ◌&&◌, ◌||◌, List, [], ◌∷◌, Option, Some, None, refl, sym, ap, subst, ◌∙◌, Bor}
+use Rattle.std.proofs.Common.{◌≡◌, ℕ, Bool, true, false, cond, ◌||◌, List, [], ◌∷◌, Option, Some, None, refl, sym, ap, subst, ◌∙◌, Bor}
+use Rattle.std.proofs.Math.Bool.{and-true}
 use Rattle.std.proofs.lemmas.Bool.{true≢false, eqb-true}
 use Rattle.std.specs.BTreeMap.{is_at as is_tied}
 use Rattle.std.specs.BTreeMap.Range.{range_contains}
@@ -37,10 +38,6 @@ updated old new s i is changes t k =
 
 -- ---- the first behind one
 
-and_true : (b : Bool) → (b && true) ≡ b
-and_true true = refl
-and_true false = refl
-
 one_of : {X : Type 0} (b : Bool) (x : X) (xs : List X) (y : Option X) → slice_get xs 0 ≡ y → slice_get (cond b (x ∷ xs) xs) 0 ≡ cond b (Some x) y
 one_of true x xs y is = refl
 one_of false x xs y is = is
@@ -53,7 +50,7 @@ first_of_filter test (x ∷ xs) = one_of (test x) x (filter test xs) (find test 
 pub first_in_range : (before : ImageAt) (ks : List ImageAt) → find (range_contains ord.cmp-value.it (Excluded before) Unbounded) ks ≡ next_behind (Some before) ks
 first_in_range before [] = refl
 first_in_range before (k ∷ ks) =
-    let behind = and_true (is_lt (ord.cmp-value.it before k)) ∙ ap is_lt (in_order before.site before.image k.site k.image) in
+    let behind = and-true (is_lt (ord.cmp-value.it before k)) ∙ ap is_lt (in_order before.site before.image k.site k.image) in
     λ j. cond (behind j) (Some k) (first_in_range before ks j)
 
 pub told_first : {X : Type 0} (told : Option (Bor X)) (xs rest : List X) → MatchOption told ((xs ≡ []) × (rest ≡ [])) (λ x. xs ≡ x.now ∷ rest)

@@ -42,7 +42,7 @@ answered_owned on header.Watch answer.Done s = refl
 answered_owned on header.Unwatch a s = refl
 answered_owned on o a s = refl
 
-told_owned : (k : NoticeKind) (s : LockState) → (told k s).owned ≡ s.owned
+pub told_owned : (k : NoticeKind) (s : LockState) → (told k s).owned ≡ s.owned
 told_owned notice.RequestLock s = refl
 told_owned k s = refl
 

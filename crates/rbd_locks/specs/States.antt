@@ -45,7 +45,7 @@ abbrev pub told : NoticeKind → LockState → LockState
 told notice.RequestLock s = record { owned = s.owned; watched = s.watched; asked = if s.owned then true else s.asked; quiesced = s.quiesced }
 told k s = s
 
--- the own look of a `quiesce` found a header
+-- the look under the lock of a `quiesce` found a header
 abbrev pub quieted : LockState → LockState
 quieted s = record { owned = s.owned; watched = s.watched; asked = s.asked; quiesced = true }
 

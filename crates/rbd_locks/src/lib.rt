@@ -25,12 +25,12 @@
 //! | *owned* | a `lock-take` that is done | the answer of a `lock-drop`, or a `header-remove` done |
 //! | *watched* | a `watch` that is done | the answer of an `unwatch` |
 //! | *asked* | a RequestLock that is heard while owned | a `lock-take` done, or the end of *owned* |
-//! | *quiesced* | the own look of a `quiesce` | the look-up of a `resume`, or the end of *owned* |
+//! | *quiesced* | the look under the lock of a `quiesce` | the look-up of a `resume`, or the end of *owned* |
 //!
 //! - *Owned* is that the lock is its own, and *asked* that another one wants it.
 //! - The answer of a `lock-drop` or an `unwatch` ends something whatever it is: `done`, `changed`,
-//!   `none` or `fenced`. Whichever it is, the session may not count on the lock, or on its watch, any
-//!   more.
+//!   `none` or `fenced`. Whichever it is, the session may not count on the lock, or on its watch,
+//!   any more.
 //! - A header that the session removed takes the lock with it. One that it couldn't remove leaves
 //!   the lock as it was.
 //! - A RequestLock that is heard without the lock is passed over for good, also where the session
@@ -63,9 +63,10 @@
 //! | `specs/Comings.antt` | whatever comes, one after another |
 //!
 //! [`laws`] says, of whatever comes: that a lock counts as owned exactly from a `lock-take` that is
-//! done to the next answer of a `lock-drop` or `header-remove` that is done, by the operations of the
-//! session on that image alone (`owns_after`); that only a lock that counts as owned is asked for; how long an asking stays; and
-//! that other images stay as they were. And that `next_asked` tells the least.
+//! done to the next answer of a `lock-drop` or `header-remove` that is done, by the operations of
+//! the session on that image alone (`owns_after`); that only a lock that counts as owned is asked
+//! for; how long an asking stays; and that other images stay as they were. And that `next_asked`
+//! tells the least.
 //!
 //! # Cost
 //!

@@ -80,7 +80,7 @@ impl LockState {
         }
     }
 
-    /// Behind the own look of a `quiesce`.
+    /// Behind the look under the lock of a `quiesce`.
     pub(crate) fn quieted(&self) -> Self
         ensures { result ≡ quieted self.now }
     {

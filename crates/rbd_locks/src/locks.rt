@@ -105,7 +105,7 @@ impl Locks {
         }
     }
 
-    /// The own look of a `quiesce` found the image's header. It takes no memory.
+    /// The look under the lock of a `quiesce` found the image's header. It takes no memory.
     pub fn quiesce(&mut self, at: &ImageAt)
         requires { 0 < self.old.room }
         ensures { (site : Site) (image : ℕ) → state_at site image self.new ≡ changed_at at.now.site at.now.image quieted site image (state_at site image self.old) }

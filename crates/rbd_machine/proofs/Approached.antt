@@ -1,4 +1,4 @@
--- What a change on its way to its own look knows.
+-- What a change on its way to its look under the lock knows.
 use Rattle.std.proofs.Common.{◌≡◌, ℕ, Option, Some, None, refl, subst}
 use Rattle.rbd_kinds.specs.declared.answer.Answer.TheVariants as answer
 use Rattle.rbd_kinds.specs.declared.header.HeaderView.{HeaderView}
@@ -21,7 +21,7 @@ is_owning (stage.Looking i) image is = cc
 is_owning (stage.Holding i) image is = cc
 is_owning (stage.Owning i) image is = cc
 
--- the header of its own look is in form
+-- the header of its look under the lock is in form
 pub owning_form : (a : Approach) (refuses : HeaderView → Option Refusal) (act : ℕ → HeaderView → Plan) (image : ℕ) (h : HeaderView)
     → owning_at a.stage ≡ Some image → CanBeFed (rest_of a refuses act) (fed.Answer (answer.Header h)) → IsHeaderInForm h
 owning_form a refuses act image h at can =

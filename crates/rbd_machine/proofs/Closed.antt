@@ -8,7 +8,7 @@ use Rattle.rbd_kinds.specs.declared.id.SiteId.{SiteId}
 use Rattle.rbd_commands.specs.declared.refusal.Refusal.{Refusal}
 use Rattle.rbd_machine.specs.Label.{Label}
 use Rattle.rbd_machine.specs.Plan.{Plan, IsClosed}
-use Rattle.rbd_machine.specs.Steps.{unless, not_there, on_id, on_header, on_done, change, looked, holding, owned, joining}
+use Rattle.rbd_machine.specs.Steps.{unless, not_there, on_id, on_header, on_bits, on_done, change, looked, holding, owned, joining}
 
 module _ (labels : Label → Plan) where
   pub closed_not_there : (a : Answer) → IsClosed labels (not_there a)
@@ -22,6 +22,10 @@ module _ (labels : Label → Plan) where
   pub closed_on_header : (next : HeaderView → Plan) → ((h : HeaderView) → IsClosed labels (next h)) → (a : Answer) → IsClosed labels (on_header next a)
   closed_on_header next closed (answer.Header h) = closed h
   closed_on_header next closed a = closed_not_there a
+
+  pub closed_on_bits : (next : List ℕ → Plan) → ((bits : List ℕ) → IsClosed labels (next bits)) → (a : Answer) → IsClosed labels (on_bits next a)
+  closed_on_bits next closed (answer.Bits bits) = closed bits
+  closed_on_bits next closed a = closed_not_there a
 
   pub closed_on_done : (next : Plan) → IsClosed labels next → (a : Answer) → IsClosed labels (on_done next a)
   closed_on_done next closed answer.Done = closed

@@ -43,7 +43,7 @@ left_here s image (o ∷ owns) = by (is_at s image o.site o.image) refl (left_he
     by true is rest = rest
     by false is rest = ap (λ b. cond b (Some o) (own_of (left s image owns) s image)) is ∙ rest
 
--- ---- a change at its own look: it owns its image, by the header that this look told
+-- ---- a change at its look under the lock: it owns its image, by the header that this look told
 
 abbrev pub own_at : (alone : Bool) → SiteId → (image : ℕ) → HeaderView → Own
 own_at alone s image h = record { site = s; image = image; alone = alone; header = Some h }

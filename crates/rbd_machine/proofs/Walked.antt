@@ -17,7 +17,7 @@ use Rattle.rbd_kinds.specs.declared.reply.Reply.{Reply}
 use Rattle.rbd_kinds.specs.declared.reply.Reply.TheVariants as reply
 use Rattle.rbd_machine.specs.Path.{Answered, IsWalk, found, looked_at}
 use Rattle.rbd_machine.specs.Plan.{Plan, Ask, Await, Note, Return, Goto}
-use Rattle.rbd_machine.specs.Steps.{not_there, unless, on_id, on_header, on_done, change, joining, looking, looked, holding, owning, owned}
+use Rattle.rbd_machine.specs.Steps.{not_there, unless, on_id, on_header, on_bits, on_done, change, joining, looking, looked, holding, owning, owned}
 use Rattle.rbd_machine.specs.Label.{Label}
 use Rattle.rbd_machine.specs.Wait.{Wait}
 use Rattle.rbd_machine.specs.Wait as wait
@@ -59,6 +59,11 @@ pub record ToldHeader (last : Plan) (next : HeaderView → Plan) (a : Answer) (f
   pub is : a ≡ answer.Header header
   pub walk : IsWalk Goto (next header) feds steps last
 
+pub record ToldBits (last : Plan) (next : List ℕ → Plan) (a : Answer) (feds : List Fed) (steps : List Answered) : Type 0 where
+  pub bits : List ℕ
+  pub is : a ≡ answer.Bits bits
+  pub walk : IsWalk Goto (next bits) feds steps last
+
 pub record ToldDone (last : Plan) (next : Plan) (a : Answer) (feds : List Fed) (steps : List Answered) : Type 0 where
   pub is : a ≡ answer.Done
   pub walk : IsWalk Goto next feds steps last
@@ -72,7 +77,7 @@ pub record WentPast (last : Plan) (refusal : Option Refusal) (next : Plan) (feds
   pub may : refusal ≡ None
   pub walk : IsWalk Goto next feds steps last
 
--- a change came to its own look, and what it did then
+-- a change came to its look under the lock, and what it did then
 pub record Changed (last : Plan) (site : SiteId) (name : List ℕ) (refuses : HeaderView → Option Refusal) (act : ℕ → HeaderView → Plan) (steps : List Answered) : Type 0 where
   pub image : ℕ
   pub first : HeaderView
@@ -143,6 +148,10 @@ module _ (last : Plan) (kind : EndsUnrefused last) where
   pub told_header : (next : HeaderView → Plan) (a : Answer) (feds : List Fed) (steps : List Answered) → IsWalk Goto (on_header next a) feds steps last → ToldHeader last next a feds steps
   told_header next (answer.Header h) feds steps walk = record { header = h; is = refl; walk = walk }
   told_header next a feds steps walk = absurd (nothing_ends_otherwise a feds steps walk)
+
+  pub told_bits : (next : List ℕ → Plan) (a : Answer) (feds : List Fed) (steps : List Answered) → IsWalk Goto (on_bits next a) feds steps last → ToldBits last next a feds steps
+  told_bits next (answer.Bits bits) feds steps walk = record { bits = bits; is = refl; walk = walk }
+  told_bits next a feds steps walk = absurd (nothing_ends_otherwise a feds steps walk)
 
   pub told_done : (next : Plan) (a : Answer) (feds : List Fed) (steps : List Answered) → IsWalk Goto (on_done next a) feds steps last → ToldDone last next a feds steps
   told_done next answer.Done feds steps walk = record { is = refl; walk = walk }

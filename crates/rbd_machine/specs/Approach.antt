@@ -1,4 +1,4 @@
--- Where a change is on its way to its own look.
+-- Where a change is on its way to its look under the lock.
 use Rattle.std.specs.Prelude.{◌≡◌, ℕ, List, Option, Some, None}
 use Rattle.rbd_kinds.specs.declared.answer.Answer.TheVariants as answer
 use Rattle.rbd_kinds.specs.declared.directory_op.DirectoryOp.TheVariants as directory
@@ -43,7 +43,7 @@ CanBeFedAt (stage.Holding image) name fed.Passed = Unit {0}
 CanBeFedAt (stage.Owning image) name (fed.Answer a) = CanGive (op.Header image header.Get) a
 CanBeFedAt _ name f = ⊥
 
--- It is at its own look, and was told a header that refuses nothing.
+-- It is at its look under the lock, and was told a header that refuses nothing.
 pub record IsOwned (refuses : HeaderView → Option Refusal) (act : ℕ → HeaderView → Plan) (image : ℕ) (h : HeaderView) (to : Plan) (old : Approach) : Type 0 where
   pub stage : old.stage ≡ stage.Owning image
   pub may : refuses h ≡ None
@@ -59,7 +59,7 @@ Approaches refuses act f to progress.More old new = IsGoing to (rest_of new refu
 Approaches refuses act f to (progress.Refused r) old new = to ≡ refused r
 Approaches refuses act f to (progress.Ended image) old new = OwnedBy refuses act image f to old
 
--- the image, where it is at its own look
+-- the image, where it is at its look under the lock
 abbrev pub owning_at : Stage → Option ℕ
 owning_at (stage.Owning image) = Some image
 owning_at _ = None

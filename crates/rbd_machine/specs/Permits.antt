@@ -30,8 +30,8 @@ use Rattle.rbd_layout.specs.Pieces.{IsIn, IsPart}
 use Rattle.rbd_map.specs.States.{states_of}
 use Rattle.rbd_machine.specs.Knowledge.{Knowledge, MapsKnown, ObjectsKnown, own_of, is_absent, is_drawn, is_fenced_by, is_gone, is_raised, maps_of, objects_of}
 
--- It has the image's lock, and by its own look, with its own changes since, the header meets a
--- condition.
+-- It has the image's lock, and by its look under the lock, with its own changes since, the header
+-- meets a condition.
 pub record OwnsBy (k : Knowledge) (site : SiteId) (image : ℕ) (condition : (alone : Bool) → HeaderView → Type 0) : Type 0 where
   pub alone : Bool
   pub header : HeaderView

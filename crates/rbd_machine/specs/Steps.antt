@@ -93,7 +93,7 @@ find site name next = own site (op.Directory (directory.Find name)) (on_id next)
 abbrev pub look : SiteId → (image : ℕ) → (HeaderView → Plan) → Plan
 look site image next = own site (op.Header image header.Get) (on_header next)
 
--- ---- the way of a change to its own look
+-- ---- the way of a change to its look under the lock
 --
 -- It finds its image and joins the line of the image's requests, looks at the header, and waits for
 -- the lock. Then it looks again, since the header may have changed meanwhile, and what it sees now

@@ -1,4 +1,4 @@
-//! The way of a change to its own look.
+//! The way of a change to its look under the lock.
 ghost use Rattle.std.specs.Prelude.{◌≡◌, ℕ, Option, IfOk};
 ghost use Rattle.rbd_kinds.specs.declared.header.HeaderView.{HeaderView};
 ghost use Rattle.rbd_kinds.specs.declared.machine.Fed.TheVariants as fed_with;
@@ -23,7 +23,7 @@ pub trait Refuses {
         ensures { result ≡ refuses self.now header.now };
 }
 
-/// Where a change of an image is on its way to its own look.
+/// Where a change of an image is on its way to its look under the lock.
 ///
 /// ```text
 /// Finding   dir-find     ──none──▶ NoImage
@@ -60,8 +60,8 @@ pub enum Stage {
 }
 
 impl Approach {
-    /// The way of a change of the image of a name at a site, which goes beside others in the image's
-    /// line, or is alone there. It takes no memory.
+    /// The way of a change of the image of a name at a site, which goes beside others in the
+    /// image's line, or is alone there. It takes no memory.
     pub fn new(site: SiteId, name: Name, sharing: Sharing) -> Self
         ensures { (refuses : HeaderView → Option Refusal) (act : ℕ → HeaderView → Plan) → rest_of result refuses act ≡ change site name sharing refuses act }
     {
@@ -117,7 +117,7 @@ impl Approach {
         }
     }
 
-    /// The image, where it is at its own look.
+    /// The image, where it is at its look under the lock.
     pub fn owning(&self) -> Option<ImageId>
         ensures { result ≡ owning_at self.now.stage }
     {
@@ -128,7 +128,7 @@ impl Approach {
     }
 
     /// Goes on with what it is fed, by the refusals of a rule. It has ended with the image where
-    /// its own look told a header that refuses nothing. It takes no memory.
+    /// its look under the lock told a header that refuses nothing. It takes no memory.
     pub fn feed<R: Refuses>(&mut self, rule: &R, fed: &Fed) -> Progress<ImageId>
         requires { CanBeFedAt self.old.stage self.old.name fed.now }
         ensures { (act : ℕ → HeaderView → Plan) → Approaches (R.refuses rule.now) act fed.now (plan_after (rest_of self.old (R.refuses rule.now) act) fed.now) result self.old self.new }

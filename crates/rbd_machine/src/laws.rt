@@ -68,7 +68,7 @@ pub fn walks_keep_bounds()
         → length steps ≤ n + jumps labels plan feds * each }
 {}
 
-/// A change has three operations up to its own look, and then those of what it does.
+/// A change has three operations up to its look under the lock, and then those of what it does.
 pub fn changes_look_twice()
     ensures { (site : SiteId) (name : List ℕ) (sharing : Sharing) (refuses : HeaderView → Option Refusal) (act : ℕ → HeaderView → Plan) (n : ℕ)
         → ((image : ℕ) (h : HeaderView) → IsBounded (act image h) n) → IsBounded (change site name sharing refuses act) (n + 3) }
@@ -101,8 +101,8 @@ pub fn what_is_not_owned_is_left()
         → own_of k.owns site image ≡ None → Permits k site (Header image RemoveHeader) → ⊥ }
 {}
 
-/// By its own look a request may not write under another snapshot context than that look's, nor
-/// remove a snapshot that it lists as protected.
+/// By its look under the lock a request may not write under another snapshot context than that
+/// look's, nor remove a snapshot that it lists as protected.
 pub fn the_own_look_decides()
     ensures context { (k : Knowledge) (site : SiteId) (image number : ℕ) (alone : Bool) (h : HeaderView) (context : SnapContext) (must : Bool) (parts : List Part) (bytes : List ℕ)
         → own_of k.owns site image ≡ Some (record { site = site; image = image; alone = alone; header = Some h })
@@ -134,8 +134,8 @@ pub fn maps_come_first()
         → (maps_of k.maps site image).count ≡ None → Permits k site (Header image (SetSize to)) → ⊥ }
 {}
 
-/// Who removed a header knows that it is gone, owns the image no more, and knows that the head's map
-/// is there until it removes that too.
+/// Who removed a header knows that it is gone, owns the image no more, and knows that the head's
+/// map is there until it removes that too.
 pub fn a_removed_header_leaves_its_map()
     ensures gone { (k : Knowledge) (site : SiteId) (image : ℕ) → is_gone (learned k site (Header image RemoveHeader) Done).gone site image ≡ true }
     ensures unowned { (k : Knowledge) (site : SiteId) (image : ℕ) → own_of (learned k site (Header image RemoveHeader) Done).owns site image ≡ None }

@@ -61,10 +61,10 @@
 //! request asks for, with the answers that it is fed, is a path of its plan, that a path has at
 //! most as many operations as its plan, that a request which begins again ends in a pass that
 //! doesn't, and has a pass's operations once more each time, and that a change has three operations
-//! up to its own look. A request that is lawful stays so, whatever it is fed. What it doesn't own
-//! by a look behind the lock it may not change, and that look decides what it may. It breaks a lock
-//! only behind the fence of its owner, a fence for each, and gives one up only where it relies on
-//! no header behind it.
+//! up to its look under the lock. A request that is lawful stays so, whatever it is fed. What it
+//! doesn't own by a look behind the lock it may not change, and that look decides what it may. It
+//! breaks a lock only behind the fence of its owner, a fence for each, and gives one up only where
+//! it relies on no header behind it.
 //!
 //! # A new request
 //!
@@ -103,6 +103,7 @@
 #![tactic(auto)]
 
 mod approach;
+mod boxed;
 mod giving;
 pub mod laws;
 mod looks;
@@ -113,6 +114,7 @@ mod seat;
 mod told;
 
 pub use approach::{Approach, Refuses};
+pub use boxed::Boxed;
 pub use giving::{can_give, gives};
 pub use looks::{dir_find, header_get};
 pub use machine::Machine;

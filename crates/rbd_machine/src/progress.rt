@@ -1,7 +1,8 @@
 //! What comes of a step of a part of a request.
 use rbd_kinds::Refusal;
 
-/// What comes of a step of a part, as of the way to an own look or of one piece of a write.
+/// What comes of a step of a part, as of the way to a look under the lock or of one piece of a
+/// write.
 #[derive(Debug, Drop)]
 pub enum Progress<T> {
     /// The part wants more.

@@ -14,7 +14,7 @@ use Rattle.rbd_kinds.specs.Form.{HasFewObjects}
 use Rattle.rbd_kinds.specs.Striping.{IsLayout, IsObjectCount, byte_at, object_of, offset_of}
 use Rattle.rbd_layout.specs.declared.types.Piece.{Piece}
 use Rattle.rbd_layout.specs.Pieces.{IsIn, IsPart, IsPartsOf, is_touched, piece_in}
-use Rattle.rbd_layout.proofs.Derived.{Any-here, counted_begin, parts_cover}
+use Rattle.rbd_layout.proofs.Derived.{Any-here, Any-none, counted_begin, parts_cover}
 use Rattle.rbd_layout.proofs.Limits.{shape_of}
 use Rattle.rbd_layout.proofs.Listed.{parts_listed}
 use Rattle.rbd_layout.proofs.Places.{count_of_full, count_of_short, number_bounded, object_of_byte}
@@ -82,9 +82,6 @@ counted l is (suc last) = go (cases_lt (offset_of l last) l.unit)
 
 abbrev all_below : (size : ℕ) → Extent
 all_below size = record { at = 0; len = size }
-
-Any-none : {X : Type 0} (P : X → Type 0) → Any P [] → ⊥
-Any-none P (k, y, less, is, h) = omega arith
 
 some_parts : (x : ℕ) (parts : List Part) → Any (IsIn x) parts → 0 < length parts
 some_parts x [] any = absurd (Any-none (IsIn x) any)

@@ -82,8 +82,8 @@ pub record TakesOne (site : SiteId) (image_name snap : List ℕ) (steps : List A
 abbrev pub snap_removed : SiteId → (image snap : ℕ) → Answered
 snap_removed site image snap = record { site = site; op = op.Header image (header.SnapRemove snap); answer = answer.Done }
 
--- The looks are the same. The snapshot that goes is the one that its own look listed under the
--- name, and then its map goes.
+-- The looks are the same. The snapshot that goes is the one that its look under the lock listed
+-- under the name, and then its map goes.
 pub record RemovesOne (site : SiteId) (image_name snap : List ℕ) (steps : List Answered) : Type 0 where
   pub image : ℕ
   pub first : HeaderView

@@ -89,9 +89,9 @@ pub fn secondaries_refuse_first()
         → IsMeantBy seat (SnapRollback image snap) (before ++ looked_at there id h ∷ []) (Refused x) → h.role ≡ Secondary → x ≡ NonPrimary }
 {}
 
-/// What was done was allowed by the own look: the name of a snapshot that was taken wasn't listed
-/// there, a snapshot that was removed wasn't protected there, and an image that was removed had no
-/// snapshot there.
+/// What was done was allowed by the look under the lock: the name of a snapshot that was taken
+/// wasn't listed there, a snapshot that was removed wasn't protected there, and an image that was
+/// removed had no snapshot there.
 pub fn the_own_look_allowed()
     ensures taken { (site : SiteId) (image snap : List ℕ) (steps : List Answered) (takes : TakesOne site image snap steps) → snap_named takes.own.snaps snap ≡ None }
     ensures removed { (site : SiteId) (image snap : List ℕ) (steps : List Answered) (removes : RemovesOne site image snap steps) → removes.listed.status ≡ Unprotected }

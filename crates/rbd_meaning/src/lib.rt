@@ -52,13 +52,13 @@
 //! id for it, and the others are of the image that it was told. No answer before refused. Nothing
 //! that users see was changed before, but where the fence refused a write, a fill, a `discard`, a
 //! `create`, a `resize`, an `rm`, a `snap rm`, a `snap rollback` or a close, which may come at any
-//! time: the write had only looked, or had written its first pieces by its own look and begun the
-//! next one at most, the create had drawn its id and made its map at most, the `snap rm` had only
-//! looked, or had removed its snapshot, and the `discard`, `resize`, `rm` or `snap rollback` had
-//! only looked, or had done the first operations of a whole one (`IsFrontOf`). Behind its drop a
-//! close may find that its image is gone, too. A `create` of a shape outside the limits is refused
-//! behind no operation. A read that began again is refused by its last pass, and each pass before
-//! saw another header at its end, or none.
+//! time: the write had only looked, or had written its first pieces by its look under the lock and
+//! begun the next one at most, the create had drawn its id and made its map at most, the `snap rm`
+//! had only looked, or had removed its snapshot, and the `discard`, `resize`, `rm` or
+//! `snap rollback` had only looked, or had done the first operations of a whole one (`IsFrontOf`).
+//! Behind its drop a close may find that its image is gone, too. A `create` of a shape outside the
+//! limits is refused behind no operation. A read that began again is refused by its last pass, and
+//! each pass before saw another header at its end, or none.
 //!
 //! No other reply is meant, and none for a command that isn't in the table, nor for a `create` with
 //! a journal.

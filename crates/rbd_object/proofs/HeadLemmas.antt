@@ -1,5 +1,6 @@
 -- Heads that are changed, and kept beforehand.
-use Rattle.std.proofs.Common.{◌≡◌, ℕ, ◌+◌, ◌-◌, ◌/◌, ◌%◌, ◌<◌, Bool, true, false, cond, List, [], ◌∷◌, ◌++◌, Option, Some, None, length, get_or, max, refl, sym, ap, ◌∙◌, subst, arith}
+use Rattle.std.proofs.Common.{◌≡◌, ℕ, ◌+◌, ◌-◌, ◌/◌, ◌%◌, ◌<◌, Bool, true, false, cond, List, [], ◌++◌, Option, Some, None, length, get_or, max, refl, sym, ap, ◌∙◌, subst, arith}
+use Rattle.std.proofs.lemmas.List.{nil_from_length}
 use Rattle.std.proofs.lemmas.List.FromFn.{fill_by_all}
 use Rattle.rbd_parts.specs.Contents.{overwritten, is_within}
 use Rattle.rbd_pages.specs.Paging.{occurs, byte_at, AreApart, AreCounted}
@@ -203,15 +204,11 @@ empty_content a = record {
   small = omega arith;
 }
 
-pub empty_list : (xs : List ℕ) → length xs ≡ 0 → xs ≡ []
-empty_list [] none = refl
-empty_list (x ∷ xs) none = absurd (let f : ⊥ = omega arith in f)
-
 pub no_sheaves : (a b : Stock) (old new : Listed) → IsContent b new → bytes_in b new ≡ bytes_in a old → old.len ≡ 0 → new.sheaves ≡ []
 no_sheaves a b old new content same none =
     let long : new.len ≡ 0 = sym (length-bytes_in b new) ∙ ap length same ∙ length-bytes_in a old ∙ none in
     let held = content.held in
-    empty_list new.sheaves (omega arith)
+    nil_from_length new.sheaves (omega arith)
 
 pub exchanged_refused : (a b : Stock) (old new : Listed) → old ≡ record { sheaves = []; len = 0 } → Exchanged a old.sheaves b new.sheaves
     → IsContent b new → bytes_in b new ≡ bytes_in a old → Exchanged a [] b []

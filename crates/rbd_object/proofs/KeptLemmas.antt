@@ -6,10 +6,8 @@ use Rattle.std.specs.List.Retain.{RetainsInTurn}
 use Rattle.std.specs.Cmp.{unsigned_tied}
 use Rattle.std.specs.Ordering.{nat_cmp}
 use Rattle.std.specs.FinMap.{FinMap, get, get-insert, get-empty, get-retain_keys, retain_keys, same_map, nat_cmp-IsAntisymmetric}
+use Rattle.rbd_kinds.proofs.Plain.{eqb_flip}
 use Rattle.rbd_object.specs.Kept.{Kept, AreNewest, AreUsed, is_used, is_listed, keep_each, kept_by, live_part}
-
-same_test : (x y : ℕ) → (x == y) ≡ (y == x)
-same_test x y = grind arith
 
 cond_or : {A : Type 0} (a b : Bool) (x y : A) → cond a x (cond b x y) ≡ cond (a || b) x y
 cond_or true b x y = refl
@@ -20,7 +18,7 @@ pub get-keep_each : (bytes : List ℕ) (snaps : List ℕ) (kept : FinMap nat_cmp
 get-keep_each bytes [] kept snap = refl
 get-keep_each bytes (s ∷ snaps) kept snap =
     get-insert nat_cmp_total (keep_each bytes snaps kept) s bytes snap
-    ∙ ap (λ b. cond b (Some bytes) (get (keep_each bytes snaps kept) snap)) (unsigned_tied snap s ∙ same_test snap s)
+    ∙ ap (λ b. cond b (Some bytes) (get (keep_each bytes snaps kept) snap)) (unsigned_tied snap s ∙ eqb_flip snap s)
     ∙ ap (cond (s == snap) (Some bytes)) (get-keep_each bytes snaps kept snap)
     ∙ cond_or (s == snap) (is_listed snaps snap) (Some bytes) (get kept snap)
 

@@ -1,5 +1,6 @@
 -- The object on its pages.
 use Rattle.std.proofs.Common.{◌≡◌, ℕ, ◌+◌, ◌<◌, ◌≤◌, Bool, true, false, cond, not, eqb, ltb, ◌||◌, ◌&&◌, List, [], ◌∷◌, ◌++◌, Option, Some, None, map, filter, length, find, max, min, option_to_list, refl, sym, ap, ◌∙◌, subst, arith}
+use Rattle.std.proofs.lemmas.List.{nil_from_length}
 use Rattle.std.specs.Prelude.{zero, suc, option_map, unwrap_or}
 use Rattle.std.specs.FinMap.{get, retain_keys}
 use Rattle.rbd_kinds.specs.declared.header.SnapContext.{SnapContext}
@@ -18,7 +19,7 @@ use Rattle.std.specs.List.{list_any}
 use Rattle.rbd_object.specs.Kept.{AreNewest, AreUsed, Kept, is_listed, is_used, keep_each, kept_by, live_part, new_version}
 use Rattle.rbd_object.specs.Versioned.{view}
 use Rattle.rbd_object.specs.Mapped.{IsSound, Mapped, due_snaps, looked, mapped_change, mapped_copy_up, mapped_trim, value_of}
-use Rattle.rbd_object.proofs.HeadLemmas.{empty_list, framed, framed_head}
+use Rattle.rbd_object.proofs.HeadLemmas.{framed, framed_head}
 use Rattle.rbd_pages.proofs.ListedLemmas.{length-bytes_in}
 use Rattle.rbd_pages.proofs.SheavesLemmas.{counted_pages, occurs-append}
 use Rattle.rbd_object.proofs.SoundLemmas.{changed_value, sound_blank, sound_step, sound_trimmed}
@@ -295,23 +296,25 @@ trimmed_paged live a b head seq versions items o paged counts kept is value =
 
 -- ---- what is shown
 
-found_same : (a : Stock) (snap : ℕ) (versions : List Stored)
-    → option_map (bytes_in a) (option_map (λ (v : Stored). v.content) (find (λ (v : Stored). is_listed v.snaps snap) versions))
-    ≡ option_map (λ (k : Kept). k.bytes) (find (λ (k : Kept). is_listed k.snaps snap) (map (kept_in a) versions))
-found_same a snap [] = refl
-found_same a snap (v ∷ versions) = one (is_listed v.snaps snap) (found_same a snap versions) where
-  one : (test : Bool)
-      → option_map (bytes_in a) (option_map (λ (v : Stored). v.content) (find (λ (v : Stored). is_listed v.snaps snap) versions))
-      ≡ option_map (λ (k : Kept). k.bytes) (find (λ (k : Kept). is_listed k.snaps snap) (map (kept_in a) versions))
-      → option_map (bytes_in a) (option_map (λ (v : Stored). v.content) (cond test (Some v) (find (λ (v : Stored). is_listed v.snaps snap) versions)))
-      ≡ option_map (λ (k : Kept). k.bytes) (cond test (Some (kept_in a v)) (find (λ (k : Kept). is_listed k.snaps snap) (map (kept_in a) versions)))
+find-map : {A B : Type 0} (f : A → B) (passes : B → Bool) (xs : List A) → find passes (map f xs) ≡ option_map f (find (λ x. passes (f x)) xs)
+find-map f passes [] = refl
+find-map f passes (x ∷ xs) = one (passes (f x)) (find-map f passes xs) where
+  one : (test : Bool) → find passes (map f xs) ≡ option_map f (find (λ x. passes (f x)) xs)
+      → cond test (Some (f x)) (find passes (map f xs)) ≡ option_map f (cond test (Some x) (find (λ x. passes (f x)) xs))
   one true rest = refl
   one false rest = rest
 
 found_bytes : (a : Stock) (snap : ℕ) (versions : List Stored)
     → option_map (bytes_in a) (option_map (λ (v : Stored). v.content) (find (λ (v : Stored). is_listed v.snaps snap) versions))
     ≡ get (kept_by (map (kept_in a) versions)) snap
-found_bytes a snap versions = found_same a snap versions ∙ sym (get_kept_by (map (kept_in a) versions) snap)
+found_bytes a snap versions =
+    same (find (λ (v : Stored). is_listed v.snaps snap) versions)
+    ∙ ap (option_map (λ (k : Kept). k.bytes)) (sym (find-map (kept_in a) (λ (k : Kept). is_listed k.snaps snap) versions))
+    ∙ sym (get_kept_by (map (kept_in a) versions) snap)
+  where
+    same : (o : Option Stored) → option_map (bytes_in a) (option_map (λ (v : Stored). v.content) o) ≡ option_map (λ (k : Kept). k.bytes) (option_map (kept_in a) o)
+    same None = refl
+    same (Some v) = refl
 
 pub shown_is : (a : Stock) (head : Option Listed) (seq : ℕ) (versions : List Stored) (snap : Option ℕ) (o : Mapped) (found : Option Listed)
     → value_of (bytes_of a head) seq (map (kept_in a) versions) ≡ o → found ≡ view_in head seq versions snap
@@ -408,7 +411,7 @@ no_sheaves_in : (a : Stock) (c : Listed) → IsContent a c → bytes_in a c ≡ 
 no_sheaves_in a c content none =
     let long : c.len ≡ 0 = sym (length-bytes_in a c) ∙ ap length none in
     let held = content.held in
-    empty_list c.sheaves (omega arith)
+    nil_from_length c.sheaves (omega arith)
 
 unnamed : (a : Stock) (versions : List Stored) (s : ℕ) → AreContents a versions → AreEmpty (map (kept_in a) versions) → named s versions ≡ 0
 unnamed a [] s are empty = refl

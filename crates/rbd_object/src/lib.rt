@@ -15,8 +15,8 @@
 //! Ceph: RADOS self-managed snapshots. A change carries a context: a number, and the snapshots that
 //! exist.
 //!
-//! 1. The head as it was is kept for each listed snapshot above `seq` and up to the number. An absent
-//!    head is not kept.
+//! 1. The head as it was is kept for each listed snapshot above `seq` and up to the number. An
+//!    absent head is not kept.
 //! 2. `seq` becomes the greater of `seq` and the number.
 //! 3. The head is changed.
 //!

@@ -2,3 +2,4 @@ mod frame;
 mod layout;
 mod object;
 mod places;
+mod striped;

@@ -37,6 +37,27 @@ round_of o a = has_asked o a || has_fenced o a
 abbrev nothing : Op → Answer → Bool
 nothing o a = false
 
+-- where the operation alone tells whether a step counts, and looking, asking and fencing never do
+fits_by_operation : (counts : Op → Bool) (makes : Op → Answer → Bool) (room image lock first look behind : ℕ)
+    → as_number (counts (watch image)) + lock ≤ first → as_number (counts (lock_take image)) + look ≤ lock
+    → counts (watchers_get image) ≡ false → counts (request_lock image) ≡ false → ((owner : Instance) → counts (block_add owner) ≡ false)
+    → lock ≤ look + room * as_number (makes (request_lock image) answer.Done)
+    → ((owner : Instance) → behind ≤ look + room * as_number (makes (block_add owner) answer.Done))
+    → ((owner : Instance) → as_number (counts (lock_break image owner)) + lock ≤ behind)
+    → Fits (λ o a. counts o) makes room image lock first look behind
+fits_by_operation counts makes room image lock first look behind watched took looked asked fenced answered shut_out broken = record {
+  watched = λ a. watched;
+  took = λ a. omega (arith, took);
+  found = λ owner. took;
+  looked = λ a. rw looked (omega arith);
+  told = λ watchers. rw looked refl;
+  asked = λ a. rw asked (omega arith);
+  answered = rw asked (omega (arith, answered));
+  fenced = λ owner a. rw (fenced owner) (omega arith);
+  shut_out = λ owner. rw (fenced owner) (omega (arith, shut_out owner));
+  broken = λ owner a. broken owner;
+}
+
 -- one step counts one at most
 at_most_one : (b : Bool) → as_number b ≤ 1
 at_most_one true = omega arith
@@ -57,32 +78,12 @@ fits_all image = record {
 }
 
 fits_watch : (image : ℕ) → Fits watch_of nothing 0 image 0 1 0 0
-fits_watch image = record {
-  watched = λ a. omega arith;
-  took = λ a. omega arith;
-  found = λ owner. omega arith;
-  looked = λ a. omega arith;
-  told = λ watchers. refl;
-  asked = λ a. omega arith;
-  answered = omega arith;
-  fenced = λ owner a. omega arith;
-  shut_out = λ owner. omega arith;
-  broken = λ owner a. omega arith;
-}
+fits_watch image =
+    fits_by_operation watches nothing 0 image 0 1 0 0 (omega arith) (omega arith) refl refl (λ owner. refl) (omega arith) (λ owner. omega arith) (λ owner. omega arith)
 
 fits_break : (image : ℕ) → Fits break_of has_fenced 1 image 0 0 0 1
-fits_break image = record {
-  watched = λ a. omega arith;
-  took = λ a. omega arith;
-  found = λ owner. omega arith;
-  looked = λ a. omega arith;
-  told = λ watchers. refl;
-  asked = λ a. omega arith;
-  answered = omega arith;
-  fenced = λ owner a. omega arith;
-  shut_out = λ owner. omega arith;
-  broken = λ owner a. omega arith;
-}
+fits_break image =
+    fits_by_operation breaks has_fenced 1 image 0 0 0 1 (omega arith) (omega arith) refl refl (λ owner. refl) (omega arith) (λ owner. omega arith) (λ owner. omega arith)
 
 fits_taken : (image : ℕ) → Fits has_taken nothing 0 image 1 1 1 1
 fits_taken image = record {
@@ -99,18 +100,8 @@ fits_taken image = record {
 }
 
 fits_take : (image : ℕ) → Fits take_of round_of 1 image 1 1 0 1
-fits_take image = record {
-  watched = λ a. omega arith;
-  took = λ a. omega arith;
-  found = λ owner. omega arith;
-  looked = λ a. omega arith;
-  told = λ watchers. refl;
-  asked = λ a. omega arith;
-  answered = omega arith;
-  fenced = λ owner a. omega arith;
-  shut_out = λ owner. omega arith;
-  broken = λ owner a. omega arith;
-}
+fits_take image =
+    fits_by_operation takes round_of 1 image 1 1 0 1 (omega arith) (omega arith) refl refl (λ owner. refl) (omega arith) (λ owner. omega arith) (λ owner. omega arith)
 
 module _ (site : SiteId) (image : ℕ) (feds : List Fed) (steps : List Answered) (last : Plan) where
   pub all_bounded : (watched : Bool) → IsWay site image watched feds steps last → count_by is_counted steps ≤ first_watch watched + 1 + 2 * count_by is_fence steps

@@ -92,18 +92,14 @@ impl Gather {
     }
 
     /// The operation that it wants.
-    pub fn next(&self) -> Result<Op, NoMemory>
+    pub fn next(&self, alloc: Global) -> Result<Op, NoMemory>
         ensures { (next : List ℕ → Plan) → IfOk result (Asks (rest_of_gather self.now next)) }
     {
         let op = DataOp::Read {
             snap: self.snap,
             parts: self.piece.parts.try_clone()?,
         };
-        Ok(Op::Data {
-            image: self.image,
-            object: self.piece.object,
-            op,
-        })
+        Op::on_object(alloc, self.image, self.piece.object, op)
     }
 
     /// Takes the memory for an answer.
@@ -208,8 +204,8 @@ impl Machine for Gather {
         Gather::wants(self)
     }
 
-    fn next(&self, _alloc: Global) -> Result<Op, NoMemory> {
-        Gather::next(self)
+    fn next(&self, alloc: Global) -> Result<Op, NoMemory> {
+        Gather::next(self, alloc)
     }
 
     fn reason(&self) -> Reason {

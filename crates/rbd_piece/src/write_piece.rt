@@ -92,12 +92,12 @@ impl WritePiece {
     }
 
     /// The operation that it wants.
-    pub fn next(&self) -> Result<Op, NoMemory>
+    pub fn next(&self, alloc: Global) -> Result<Op, NoMemory>
         ensures { (next : Plan) → IfOk result (Asks (rest_of_write self.now next)) }
     {
         match self.stage {
             Stage::Raising => Ok(self.raise()),
-            Stage::Writing => self.write(),
+            Stage::Writing => self.write(alloc),
         }
     }
 
@@ -117,7 +117,7 @@ impl WritePiece {
     }
 
     /// Its bytes go to its object.
-    fn write(&self) -> Result<Op, NoMemory>
+    fn write(&self, alloc: Global) -> Result<Op, NoMemory>
         ensures { IfOk result (λ op. op ≡ data_write self.now.image self.now.context self.now.piece self.now.bytes) }
     {
         let op = DataOp::Write {
@@ -126,11 +126,7 @@ impl WritePiece {
             parts: self.piece.parts.try_clone()?,
             bytes: self.bytes.try_clone()?,
         };
-        Ok(Op::Data {
-            image: self.image,
-            object: self.piece.object,
-            op,
-        })
+        Op::on_object(alloc, self.image, self.piece.object, op)
     }
 
     /// Goes on with an answer. It takes no memory.
@@ -160,8 +156,8 @@ impl Machine for WritePiece {
         WritePiece::wants(self)
     }
 
-    fn next(&self, _alloc: Global) -> Result<Op, NoMemory> {
-        WritePiece::next(self)
+    fn next(&self, alloc: Global) -> Result<Op, NoMemory> {
+        WritePiece::next(self, alloc)
     }
 
     fn reason(&self) -> Reason {

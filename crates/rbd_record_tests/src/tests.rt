@@ -2,6 +2,7 @@ mod fence;
 mod guard;
 mod header;
 mod journal;
+mod lines;
 mod map;
 mod registry;
 mod watch;

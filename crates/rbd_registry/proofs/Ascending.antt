@@ -6,8 +6,7 @@ use Rattle.std.specs.BTreeMap.{is_at}
 use Rattle.std.specs.Ordering.{nat_cmp}
 use Rattle.std.specs.Cmp.{Equal-is}
 use Rattle.std.specs.List.Sorted.{IsStrictlySortedBy}
-use Rattle.std.proofs.lemmas.Bool.{true≢false, eqb-true, eqb-false, ltb-true, ltb-false, lt-ltb, ne_eqb, cases_order}
-use Rattle.std.proofs.lemmas.Bool.Decides.{eqb_tells}
+use Rattle.std.proofs.lemmas.Bool.{true≢false, eqb-true, eqb-false, eq-eqb, ltb-true, ltb-false, lt-ltb, ne_eqb, cases_order}
 use Rattle.std.proofs.lemmas.Cmp.{ranked}
 use Rattle.std.proofs.lemmas.Map.Keys.{sorted_from_strictly_increasing, IsStrictlyIncreasing-from_sorted}
 use Rattle.std.specs.FinSet as finset
@@ -72,9 +71,6 @@ has_ascending : (c : ℕ) (xs : List ℕ) → has c (ascending xs) ≡ has c xs
 has_ascending c [] = refl
 has_ascending c (x ∷ xs) = has_placed c x (ascending xs) ∙ ap (λ b. eqb x c || b) (has_ascending c xs)
 
-itself : (a b : ℕ) → a ≡ b → eqb a b ≡ true
-itself a b e = elim (eqb_tells a b) [ inl y ↦ y.0 | inr apart ↦ absurd (apart.1 e) ]
-
 none_above : (c b : ℕ) (xs : List ℕ) → AllAbove b xs → (c < b) ⊎ (c ≡ b) → has c xs ≡ false
 none_above c b [] above low = refl
 none_above c b (x ∷ xs) above low =
@@ -84,14 +80,14 @@ none_above c b (x ∷ xs) above low =
 -- lists that ascend and have the same numbers are one
 same_numbers : (xs ys : List ℕ) → Ascend xs → Ascend ys → ((c : ℕ) → has c xs ≡ has c ys) → xs ≡ ys
 same_numbers [] [] p q same = refl
-same_numbers [] (y ∷ ys) p q same = absurd (true≢false (sym (same y ∙ ap (λ b. b || has y ys) (itself y y refl))))
-same_numbers (x ∷ xs) [] p q same = absurd (true≢false (sym (ap (λ b. b || has x xs) (itself x x refl)) ∙ same x))
+same_numbers [] (y ∷ ys) p q same = absurd (true≢false (sym (same y ∙ ap (λ b. b || has y ys) (eq-eqb y y refl))))
+same_numbers (x ∷ xs) [] p q same = absurd (true≢false (sym (ap (λ b. b || has x xs) (eq-eqb x x refl)) ∙ same x))
 same_numbers (x ∷ xs) (y ∷ ys) p q same = elim (cases_order x y) [
   | inl is ↦ (λ i. is i ∷ same_numbers xs ys p.1 q.1 (λ c. rest c is (eqb x c) refl) i)
   | inr apart ↦ elim apart [
-    | inl less ↦ absurd (true≢false (sym (ap (λ b. b || has x xs) (itself x x refl)) ∙ same x
+    | inl less ↦ absurd (true≢false (sym (ap (λ b. b || has x xs) (eq-eqb x x refl)) ∙ same x
         ∙ ap (λ b. b || has x ys) (ne_eqb y x (λ e. omega arith)) ∙ none_above x y ys q.0 (inl less)))
-    | inr more ↦ absurd (true≢false (sym (ap (λ b. b || has y ys) (itself y y refl)) ∙ sym (same y)
+    | inr more ↦ absurd (true≢false (sym (ap (λ b. b || has y ys) (eq-eqb y y refl)) ∙ sym (same y)
         ∙ ap (λ b. b || has y xs) (ne_eqb x y (λ e. omega arith)) ∙ none_above y x xs p.0 (inl more)))
   ]
 ]
@@ -123,7 +119,7 @@ of_child p s c x false e = go (is_at (entry_cmp (at p s c)) x) refl
     go false t = refl
     go true t =
         let is : at p s c ≡ x = entry_exact (at p s c) x ((Equal-is (entry_cmp (at p s c) x)).0 t) in
-        absurd (true≢false (sym (λ i. itself p p refl i && itself s s refl i) ∙ ap (is_child_of p s) is ∙ e))
+        absurd (true≢false (sym (λ i. eq-eqb p p refl i && eq-eqb s s refl i) ∙ ap (is_child_of p s) is ∙ e))
 
 has_children : (p s c : ℕ) (xs : List Entry) → has c (map (λ e. e.child) (filter (is_child_of p s) xs)) ≡ list_any (is_at (entry_cmp (at p s c))) xs
 has_children p s c [] = refl

@@ -1,13 +1,12 @@
 -- Entries in order, and those of one snapshot.
-use Rattle.std.proofs.Common.{◌≡◌, ℕ, ◌<◌, Bool, true, false, cond, eqb, ◌&&◌, ◌||◌, List, [], ◌∷◌, Ordering, refl, sym, ◌∙◌, ap, inl, inr, arith}
+use Rattle.std.proofs.Common.{◌≡◌, ℕ, ◌<◌, Bool, true, false, cond, eqb, ◌&&◌, ◌||◌, List, [], ◌∷◌, Ordering, refl, sym, ◌∙◌, ap, arith}
 use Rattle.std.specs.declared.cmp.Ordering.TheVariants.{Less, Equal, Greater}
 use Rattle.std.specs.List.{list_any, filter, AllByRecursion}
 use Rattle.std.specs.BTreeMap.{is_at}
 use Rattle.std.specs.Ordering.{nat_cmp, ordering_then, is_gt, is_le, is_eq}
 use Rattle.std.specs.Cmp.{IsTotalOrder, nat_cmp_total, nat_eq_equiv, unsigned_tied, tied_itself, Equal-is}
 use Rattle.std.specs.List.Sorted.{IsStrictlySortedBy}
-use Rattle.std.proofs.lemmas.Bool.{true≢false, eqb-true}
-use Rattle.std.proofs.lemmas.Bool.Decides.{eqb_tells}
+use Rattle.std.proofs.lemmas.Bool.{true≢false, eqb-true, eq-eqb}
 use Rattle.std.proofs.lemmas.Cmp.{on_total, then_total, ranked}
 use Rattle.std.proofs.lemmas.Map.Lookups.{CmpEqualImpliesEq, exact_pairs, exact_unsigned}
 use Rattle.std.proofs.lemmas.Map.Keys.{IsStrictlyIncreasing-from_sorted}
@@ -40,9 +39,6 @@ both_true true true e = (refl, refl)
 both_true true false e = absurd (true≢false (sym e))
 both_true false b e = absurd (true≢false (sym e))
 
-itself : (a b : ℕ) → a ≡ b → eqb a b ≡ true
-itself a b e = elim (eqb_tells a b) [ inl y ↦ y.0 | inr apart ↦ absurd (apart.1 e) ]
-
 module _ (p s : ℕ) where
   abbrev pub at : ℕ → Entry
   at c = record { parent = p; snap = s; child = c }
@@ -67,7 +63,7 @@ module _ (p s : ℕ) where
 
   pub later : (x : Entry) → is_gt (entry_cmp (at 0) x) ≡ false → is_of x ≡ false → (c : ℕ) → entry_cmp (at c) x ≡ Less
   later x from other c = past (nat_cmp p x.parent) (nat_cmp s x.snap) (nat_cmp 0 x.child) (nat_cmp c x.child) from (λ e g.
-      true≢false (sym (ap (λ b. b && eqb x.snap s) (itself x.parent p (sym (exact_unsigned p x.parent e))) ∙ itself x.snap s (sym (exact_unsigned s x.snap g))) ∙ other))
+      true≢false (sym (ap (λ b. b && eqb x.snap s) (eq-eqb x.parent p (sym (exact_unsigned p x.parent e))) ∙ eq-eqb x.snap s (sym (exact_unsigned s x.snap g))) ∙ other))
 
   pub tied_child : (x : Entry) (c : ℕ) → is_of x ≡ true → is_at (entry_cmp (at c)) x ≡ eqb x.child c
   tied_child x c e = ap (is_at (entry_cmp (at c))) (at_child x e) ∙ ap is_eq (by_child c x.child) ∙ unsigned_tied c x.child ∙ nat_eq_equiv.symm c x.child

@@ -10,8 +10,7 @@ use Rattle.std.specs.Cmp.{Equal-is, tied_itself, eq_by_cmp_equiv}
 use Rattle.std.specs.Cmp.Lexicographic.{nat_list_cmp_total}
 use Rattle.std.specs.List.Sorted.{IsStrictlySortedBy}
 use Rattle.std.specs.FinMap as finmap
-use Rattle.std.proofs.lemmas.Bool.{true≢false, eqb-true, eqb-false, leb-true, leb-false, ne_eqb}
-use Rattle.std.proofs.lemmas.Bool.Decides.{eqb_tells}
+use Rattle.std.proofs.lemmas.Bool.{true≢false, eqb-true, eqb-false, leb-true, leb-false, eq-eqb, ne_eqb}
 use Rattle.std.proofs.lemmas.Map.Lookups.{exact_bytes}
 use Rattle.std.proofs.lemmas.Map.Keys.{IsDistinct-from_sorted}
 use Rattle.std.proofs.lemmas.Map.Entries.{option_filter, lookup-filter-values, lookup_from_place}
@@ -252,14 +251,11 @@ module _ (image : ℕ) where
           (λ _. (found.name, there), λ _. ap not (ne_eqb after before (λ same. omega arith)))
       | inr same ↦
           let equal : after ≡ before = p ∙ ap length same ∙ sym q in
-          (λ t. absurd (true≢false (sym t ∙ ap not (itself after before equal))), λ named. absurd (gone named.0 (ap (λ gs. id_of (listing_of gs n) named.0) same) named.1))
+          (λ t. absurd (true≢false (sym t ∙ ap not (eq-eqb after before equal))), λ named. absurd (gone named.0 (ap (λ gs. id_of (listing_of gs n) named.0) same) named.1))
     ]
       where
-        itself : (a b : ℕ) → a ≡ b → eqb a b ≡ true
-        itself a b e = elim (eqb_tells a b) [ inl y ↦ y.0 | inr apart ↦ absurd (apart.1 e) ]
-
         gone : (name : List ℕ) → id_of (listing_of (filter stays es) n) name ≡ id_of (listing_of es n) name → id_of (listing_of es n) name ≡ Some image → ⊥
-        gone name same there = none (eqb image image) (itself image image refl) (sym (id_freed name ∙ ap (but image) there) ∙ same ∙ there)
+        gone name same there = none (eqb image image) (eq-eqb image image refl) (sym (id_freed name ∙ ap (but image) there) ∙ same ∙ there)
           where
             none : (b : Bool) → b ≡ true → cond b None (Some image) ≡ Some image → ⊥
             none true t e = cc
@@ -294,12 +290,9 @@ module _ (image : ℕ) where
     held_freed after before p q =
         elim (one_or_none es) [
           | inl found ↦ let fewer = found.1 in ap not (ne_eqb after before (λ same. omega arith)) ∙ sym found.0
-          | inr same ↦ ap not (equal (p ∙ ap length same.1 ∙ sym q)) ∙ sym same.0
+          | inr same ↦ ap not (eq-eqb after before (p ∙ ap length same.1 ∙ sym q)) ∙ sym same.0
         ]
         ∙ sym held_listed
-      where
-        equal : after ≡ before → eqb after before ≡ true
-        equal e = elim (eqb_tells after before) [ inl y ↦ y.0 | inr apart ↦ absurd (apart.1 e) ]
 
     pub same_freed : (after before : ℕ) → after ≡ length (filter stays es) → before ≡ length es → OnFalse (not (eqb after before)) (listing_of (filter stays es) n ≡ listing_of es n)
     same_freed after before p q = elim (splits es) [

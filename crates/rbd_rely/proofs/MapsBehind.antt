@@ -6,7 +6,8 @@ use Rattle.rbd_kinds.specs.declared.id.Instance.{Instance}
 use Rattle.rbd_kinds.specs.declared.map_op.MapOp.{MapOp}
 use Rattle.rbd_kinds.specs.declared.operation.Op.TheVariants as op
 use Rattle.rbd_machine.specs.Knowledge.{MapsKnown, unmapped}
-use Rattle.rbd_site.specs.MapStep.{map_after, view_of}
+use Rattle.rbd_kinds.specs.Maps.{map_snap}
+use Rattle.rbd_site.specs.MapStep.{map_after}
 use Rattle.rbd_site.specs.Records.{Records}
 use Rattle.rbd_site.specs.Step.{after_served}
 use Rattle.rbd_site.proofs.MapLemmas.{same_view}
@@ -29,7 +30,7 @@ abbrev pub with_view : Maps → (view : Option ℕ) → Option (List ℕ) → Ma
 with_view maps view map v = cond (option_eq eqb v view) map (maps v)
 
 abbrev pub maps_behind : Maps → MapOp → Maps
-maps_behind maps o = with_view maps (view_of o) (map_after (maps (view_of o)) o)
+maps_behind maps o = with_view maps (map_snap o) (map_after (maps (map_snap o)) o)
 
 pub maps_here : (r : Records) (you : Instance) (image : ℕ) (o : MapOp) → (after_served r you (op.Map image o)).maps image ≡ maps_behind (r.maps image) o
 maps_here r you image o = put_there r.maps image (maps_behind (r.maps image) o)

@@ -38,7 +38,7 @@ less_in_turn new old less turn was site image some shared object knows =
     let same = (less site).owns image some in
     turn ∙ was site image (ap (λ o. is_some (header_of_own o)) (sym same) ∙ some) (sym (ap is_own_alone same) ∙ shared) object (knew_of site new old (less site) image object knows)
 
--- behind its own look, or with its own change
+-- behind its look under the lock, or with its own change
 told_in_turn : (k : Knowledge) (site : SiteId) (image : ℕ) (change : Option HeaderView → Option HeaderView)
     → (IsSome (header_changed change (own_of k.owns site image)) → IsSome (header_of_own (own_of k.owns site image))) → KnowsInTurn k → KnowsInTurn (header_told site image change k)
 told_in_turn k site image change knew was there place some shared object knows =

@@ -22,9 +22,9 @@ pub record AreShared (site : SiteId) (image : ℕ) (k j : Knowledge) : Type 0 wh
 abbrev pub AreFree : Records → (me you : Instance) → Type 0
 AreFree r me you = IsFalse (is_fenced r me) × IsFalse (is_fenced r you)
 
--- Where both know the header of an image, behind their own looks, neither is alone on it. What a
--- fenced instance knows of headers doesn't count: it does nothing by that. No id was drawn by both,
--- nor by one whose header the other removed, and no header was removed by both.
+-- Where both know the header of an image, behind their looks under the lock, neither is alone on
+-- it. What a fenced instance knows of headers doesn't count: it does nothing by that. No id was
+-- drawn by both, nor by one whose header the other removed, and no header was removed by both.
 pub record AreBeside (site : SiteId) (r : Records) (me you : Instance) (k j : Knowledge) : Type 0 where
   pub shared : AreFree r me you → (image : ℕ) → IsSome (known_header k site image) → IsSome (known_header j site image) → AreShared site image k j
   pub apart : (image : ℕ) → is_drawn k.drawn site image ≡ true → is_drawn j.drawn site image ≡ false
@@ -41,11 +41,11 @@ abbrev pub LeavesObject : SiteId → (image object : ℕ) → Records → (me yo
 LeavesObject site image object r me you k j = AreFree r me you → IsSome (known_header k site image) → IsSome (known_header j site image) → KnowsOf j site image object → ⊥
 
 -- What one request may do beside another. It may look at the header of an image whose lock it
--- waited for only where it is alone with its own look, or neither is alone that knows the header. So
--- it is with the drop of a lock that is its own: nobody of its session may rely on a header
--- meanwhile. It may change an object, or its state, only where the other knows nothing of that: it
--- has its turn there, which the other had before or waits for. The line of a session and the lock
--- see to all of that.
+-- waited for only where it is alone with its look under the lock, or neither is alone that knows
+-- the header. So it is with the drop of a lock that is its own: nobody of its session may rely on a
+-- header meanwhile. It may change an object, or its state, only where the other knows nothing of
+-- that: it has its turn there, which the other had before or waits for. The line of a session and
+-- the lock see to all of that.
 abbrev pub MayAct : SiteId → Records → (me you : Instance) → (k j : Knowledge) → Op → Type 0
 MayAct site r me you k j (op.Header image header.Get) = SharesLock site image r me you k j
 MayAct site r me you k j (op.Header image header.LockDrop) = HasLock image me r → SharesLock site image r me you k j

@@ -22,6 +22,6 @@ gives_up image (op.Header other header.LockDrop) = image == other
 gives_up image (op.Header other header.Remove) = image == other
 gives_up image o = false
 
--- Who knows a header, behind its own look, has the lock of the image.
+-- Who knows a header, behind its look under the lock, has the lock of the image.
 abbrev pub KnowsByLock : SiteId → Records → Instance → Knowledge → Type 0
 KnowsByLock site r me k = (image : ℕ) → IsSome (known_header k site image) → HasLockWhileFree r me image

@@ -21,8 +21,8 @@ use Rattle.rbd_stands.specs.View.{EachView}
 
 -- ---- headers
 
--- the header that it knows of an image whose lock it waited for: what its own look told, with its
--- own changes since
+-- the header that it knows of an image whose lock it waited for: what its look under the lock told,
+-- with its own changes since
 abbrev pub header_of_own : Option Own → Option HeaderView
 header_of_own None = None
 header_of_own (Some o) = o.header

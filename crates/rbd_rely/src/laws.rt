@@ -34,8 +34,8 @@ pub fn nothing_is_false_at_first()
 {}
 
 /// What a request of an instance `me` knows stays true while another one does what is permitted to
-/// it, by what that one knows truly, and what it may do beside the first. `you` is the instance that
-/// does it, which may be the same.
+/// it, by what that one knows truly, and what it may do beside the first. `you` is the instance
+/// that does it, which may be the same.
 pub fn others_keep_what_is_known()
     ensures { (site : Site) (r : Records) (k j : Knowledge) (me you : Instance) (op : Op)
         → IsTrueAt site r me k → IsTrueAt site r you j → AreBeside site r me you k j → Permits j site op → MayAct site r you me j k op
@@ -134,8 +134,8 @@ pub fn a_lock_has_one_owner()
         → me ≢ you → KnowsByLock site r me k → KnowsByLock site r you j → LeavesObject site image object r me you k j }
 {}
 
-/// A lock is taken where the answer says so, and lasts: nobody who knows headers by his locks ends it
-/// by what is permitted to him, but who gives up his own, and who breaks that of a fenced owner.
+/// A lock is taken where the answer says so, and lasts: nobody who knows headers by his locks ends
+/// it by what is permitted to him, but who gives up his own, and who breaks that of a fenced owner.
 pub fn locks_last()
     ensures taken { (r : Records) (me : Instance) (image : ℕ) → answer_to r me (on.Header image header.LockTake) ≡ answered.Done → HasLockWhileFree (after r me (on.Header image header.LockTake)) me image }
     ensures operation { (site : Site) (r : Records) (me you : Instance) (j : Knowledge) (image : ℕ) (op : Op)

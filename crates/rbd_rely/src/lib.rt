@@ -21,7 +21,7 @@
 //!
 //! | what is known | when it is true |
 //! |---|---|
-//! | a header, behind an own look | the image has it still, with the request's own changes; its owner may change |
+//! | a header, behind a look under the lock | the image has it still, with the request's own changes; its owner may change |
 //! | an id that was drawn | it waits for its header: no object of it was changed |
 //! | an image whose header was removed | it has none, and its id isn't drawn again |
 //! | an instance that was fenced | it is in the site's blocklist |
@@ -43,8 +43,8 @@
 //! - A request that has its image's lock may look at its header, the first time, only where it is
 //!   so, and give the lock up only where it is so: it is alone then, so nobody else of its session
 //!   relies on the header. It may change an object, or its state in the head's map, only where the
-//!   other knows nothing of that object. This is what one may do beside another (`MayAct`). All else
-//!   keeps two requests beside each other.
+//!   other knows nothing of that object. This is what one may do beside another (`MayAct`). All
+//!   else keeps two requests beside each other.
 //! - Who isn't alone on an image knows of an object only in its turn there (`KnowsInTurn`), and
 //!   nothing once it waited for the next. So where one acts in its turn, others know nothing of the
 //!   object: they had their turn before, or wait for it. Turns are no part of being beside: a
@@ -61,8 +61,8 @@
 //!
 //! [`laws`] says, of any records:
 //!
-//! - what is known stays true under each operation that is permitted to another, who knows truly and
-//!   may do it beside the first, and under the store's trims and ends of watches;
+//! - what is known stays true under each operation that is permitted to another, who knows truly
+//!   and may do it beside the first, and under the store's trims and ends of watches;
 //! - what an answer and a wait teach is true, and says nothing of the other site; an instance that
 //!   is fenced learns nothing, and changes nothing;
 //! - what is permitted by true knowledge meets the site's condition, and gets an answer that its
@@ -73,8 +73,8 @@
 //!   no other; so the records stand for a flat site behind it too;
 //! - two requests that are beside each other stay so;
 //! - who isn't alone knows of an object only in its turn;
-//! - a lock is broken only where its owner is fenced, and given up, or removed with its header, only
-//!   where no request beside knows the header; it has one owner, and lasts.
+//! - a lock is broken only where its owner is fenced, and given up, or removed with its header,
+//!   only where no request beside knows the header; it has one owner, and lasts.
 //!
 //! With these a world of several clients goes on step by step: whatever request comes next, what
 //! all know is true, what it wants may be done, and the step is one of the flat-copy machine, or

@@ -11,8 +11,8 @@ use Rattle.rbd_kinds.specs.declared.operation.Op.{Op}
 use Rattle.rbd_kinds.specs.declared.reply.Reply.TheVariants as reply
 use Rattle.rbd_machine.specs.Label.{Label}
 use Rattle.rbd_machine.specs.Plan.{Plan, Goto, Return, IsClosed}
-use Rattle.rbd_machine.specs.Steps.{on_bits, on_id, owned, refused}
-use Rattle.rbd_machine.proofs.Closed.{closed_not_there, closed_on_header, closed_on_id, closed_unless}
+use Rattle.rbd_machine.specs.Steps.{on_id, owned, refused}
+use Rattle.rbd_machine.proofs.Closed.{closed_not_there, closed_on_bits, closed_on_header, closed_on_id, closed_unless}
 use Rattle.rbd_meaning.specs.Removals.{image_removal_refuses, may_be_gone, removal, watchers_refuse}
 use Rattle.rbd_remove.specs.Remove.{holding_it, joining_its_line, looked_at_it, on_gone, on_watchers, remove, remove_each, remove_owned, remove_plan, unless_watched}
 
@@ -26,10 +26,6 @@ module _ (labels : Label → Plan) where
       go false = tt
   closed_on_gone o next closed a = closed_not_there labels a
 
-  closed_on_bits : (next : List ℕ → Plan) → ((bits : List ℕ) → IsClosed labels (next bits)) → (a : Answer) → IsClosed labels (on_bits next a)
-  closed_on_bits next closed (answer.Bits bits) = closed bits
-  closed_on_bits next closed a = closed_not_there labels a
-
   closed_on_watchers : (session : ℕ) (next : Plan) → IsClosed labels next → (a : Answer) → IsClosed labels (on_watchers session next a)
   closed_on_watchers session next closed (answer.Instances watchers) = closed_unless labels (watchers_refuse session watchers) next closed
   closed_on_watchers session next closed a = closed_not_there labels a
@@ -40,7 +36,7 @@ module _ (labels : Label → Plan) where
 
   pub closed_remove : (site : SiteId) (image : ℕ) (h : HeaderView) (next : Plan) → IsClosed labels next → IsClosed labels (remove site image h next)
   closed_remove site image h next closed =
-      closed_on_bits (λ bits. remove_each site (removal image h bits) next) (λ bits. closed_each (removal image h bits) site next closed)
+      closed_on_bits labels (λ bits. remove_each site (removal image h bits) next) (λ bits. closed_each (removal image h bits) site next closed)
 
   closed_image : (site : SiteId) (session : ℕ) (a : Answer) → IsClosed labels (on_id (joining_its_line site session) a)
   closed_image site session =

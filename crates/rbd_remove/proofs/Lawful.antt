@@ -119,7 +119,7 @@ module _ (at : Label → Knowledge) (site : SiteId) (image : ℕ) (next : Plan) 
           subst (λ ops. IsLawful at told (remove_each site ops next)) (nothing_else h none bits unlinked quiet) (lawful_all h none bits told owns)
       on a = lawful_not_there at (learned k site (op.Map image (states.Get None)) a) a
 
--- ---- the way to its own look
+-- ---- the way to its look under the lock
 
 module _ (at : Label → Knowledge) (site : SiteId) (session image : ℕ) where
   lawful_unwatched : (k : Knowledge) (next : Plan) → IsLawful at k next → IsLawful at k (unless_watched site session image next)
@@ -129,7 +129,7 @@ module _ (at : Label → Knowledge) (site : SiteId) (session image : ℕ) where
       on (answer.Instances watchers) = lawful_unless at k (watchers_refuse session watchers) next (λ none. lawful)
       on a = lawful_not_there at k a
 
-  -- what is known behind its own look
+  -- what is known behind its look under the lock
   abbrev looked : HeaderView → Knowledge
   looked h = learned (holding_known true site image) site (op.Header image header.Get) (answer.Header h)
 

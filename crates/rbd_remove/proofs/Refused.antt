@@ -319,7 +319,7 @@ module _ (x : Refusal) (site : SiteId) (session : ℕ) where
                 stops (front (looked_at site image h ∷ [])) watchers_get answer.Fenced refusal.Fenced more last are walk refl (refl, (may_wait, (allowed, (may, tt)))) (refl, (refl, (refl, (refl, tt))))
             go _ more last are g gs walk = let no = g.can.word in cc
 
-        -- ---- the own look
+        -- ---- the look under the lock
 
         own_stops : FindJournals steps → (feds : List Fed) (rest : List Answered) → steps ≡ front rest → AreGiven rest → IsWalk Goto (holding_it site session image) feds rest Refused → Meant
         own_stops finds feds rest are given walk =

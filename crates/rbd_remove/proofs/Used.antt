@@ -1,10 +1,10 @@
 -- Which objects are in use by the bits of a map.
-use Rattle.std.proofs.Common.{◌≡◌, ◌≢◌, ◌↔◌, ◌⊎◌, inl, inr, ℕ, zero, suc, ◌+◌, ◌*◌, ◌/◌, ◌%◌, ◌≤◌, ◌<◌, Bool, true, false, cond, List, [], ◌∷◌, length, refl, ap, ◌∙◌, subst, arith}
+use Rattle.std.proofs.Common.{◌≡◌, ◌≢◌, ◌↔◌, ◌⊎◌, inl, inr, ℕ, zero, suc, ◌+◌, ◌*◌, ◌/◌, ◌%◌, ◌≤◌, ◌<◌, Bool, true, false, cond, List, [], ◌∷◌, length, ap, ◌∙◌, subst, arith}
 use Rattle.std.specs.Prelude.{Contains, not, ◌==◌, slice_index}
 use Rattle.std.specs.List.{filter, range_with_len}
 use Rattle.std.specs.List.Sorted.{IsStrictlyIncreasing}
 use Rattle.std.proofs.Math.Nat.{zero-div}
-use Rattle.std.proofs.lemmas.Bool.{eqb-false, ne_eqb}
+use Rattle.std.proofs.lemmas.Bool.{eqb-false, ne_eqb, not-true}
 use Rattle.std.proofs.lemmas.List.{get_or_past}
 use Rattle.std.proofs.lemmas.List.Elements.{filter_passes}
 use Rattle.std.proofs.lemmas.List.FromFn.{get_or-range_with_len, length-range_with_len}
@@ -50,11 +50,7 @@ past_the_end bits object past =
     ap (λ byte. byte / weight (object % 4) % 4) none ∙ ap (λ n. n % 4) (zero-div (weight (object % 4)))
 
 tested : (n : ℕ) → not (n == 0) ≡ true → n ≢ 0
-tested n test = eqb-false n 0 (go (n == 0) test)
-  where
-    go : (b : Bool) → not b ≡ true → b ≡ false
-    go true test = cc
-    go false test = refl
+tested n test = eqb-false n 0 (not-true (n == 0) test)
 
 some : (n : ℕ) → n ≢ 0 → not (n == 0) ≡ true
 some n other = ap not (ne_eqb n 0 other)

@@ -20,17 +20,11 @@ use Rattle.rbd_machine.specs.Plan.{Plan, Return, Goto}
 use Rattle.rbd_machine.specs.Steps.{find, look, on_bits, on_header, on_id, owning, refused, unless}
 use Rattle.rbd_machine.specs.Wait as wait
 use Rattle.rbd_machine.specs.declared.reason.Reason.TheVariants as reason
-use Rattle.rbd_machine.proofs.Walked.{EndsUnrefused, awaited, ended, nothing_ends_otherwise, refusal_ends_otherwise, told_header, told_image, went_on, went_past}
+use Rattle.rbd_machine.proofs.Walked.{EndsUnrefused, awaited, ended, nothing_ends_otherwise, refusal_ends_otherwise, told_bits, told_header, told_image, went_on, went_past}
 use Rattle.rbd_meaning.specs.Removals.{AreRemovals, IsRemovedBy, RemovesImage, image_removal_refuses, is_watched_beside, may_be_gone, removal, watchers_refuse, watchers_told}
 use Rattle.rbd_meaning.specs.Snaps.{map_told}
 use Rattle.rbd_remove.specs.Part.{IsRemoved}
 use Rattle.rbd_remove.specs.Remove.{holding_it, joining_its_line, looking_at_it, on_gone, on_watchers, remove, remove_each, remove_image, remove_owned, unless_watched}
-
--- some states were told
-record ToldBits (last : Plan) (next : List ℕ → Plan) (a : Answer) (feds : List Fed) (steps : List Answered) : Type 0 where
-  bits : List ℕ
-  is : a ≡ answer.Bits bits
-  walk : IsWalk Goto (next bits) feds steps last
 
 -- nobody else watches
 record ToldWatchers (last : Plan) (session : ℕ) (next : Plan) (a : Answer) (feds : List Fed) (steps : List Answered) : Type 0 where
@@ -81,10 +75,6 @@ unwatched true none = cc
 unwatched false none = refl
 
 module _ (last : Plan) (kind : EndsUnrefused last) where
-  told_bits : (next : List ℕ → Plan) (a : Answer) (feds : List Fed) (steps : List Answered) → IsWalk Goto (on_bits next a) feds steps last → ToldBits last next a feds steps
-  told_bits next (answer.Bits bits) feds steps walk = record { bits = bits; is = refl; walk = walk }
-  told_bits next a feds steps walk = absurd (nothing_ends_otherwise last kind a feds steps walk)
-
   told_watchers : (session : ℕ) (next : Plan) (a : Answer) (feds : List Fed) (steps : List Answered) → IsWalk Goto (on_watchers session next a) feds steps last → ToldWatchers last session next a feds steps
   told_watchers session next (answer.Instances watchers) feds steps walk =
       let w = went_past last kind (watchers_refuse session watchers) next feds steps walk in
@@ -122,7 +112,7 @@ module _ (last : Plan) (kind : EndsUnrefused last) where
   removed site image h feds steps walk =
       let next : List ℕ → Plan = λ bits. remove_each site (removal image h bits) (Return reply.Done) in
       let w = went_on last kind site reason.Own (op.Map image (states.Get None)) (on_bits next) feds steps walk in
-      let s = told_bits next w.answer w.more w.rest w.walk in
+      let s = told_bits last kind next w.answer w.more w.rest w.walk in
       let r = went (removal image h s.bits) site (Return reply.Done) w.more w.rest s.walk in
       let end = ended reply.Done r.more r.rest last r.walk in (
         end.1,

@@ -46,7 +46,8 @@ abbrev pub IsReadyIn : Option Remove → Answer → Type 0
 IsReadyIn None a = Unit {0}
 IsReadyIn (Some removal) a = IsReady removal a
 
--- at its own look the removal by a header that refuses nothing, and behind it what that needs
+-- at its look under the lock the removal by a header that refuses nothing, and behind it what that
+-- needs
 abbrev pub IsReadyAt : Stage → SiteId → Option Remove → Answer → Type 0
 IsReadyAt (stage.Owning image) site removal (answer.Header h) = image_removal_refuses h ≡ None → IsRemovalBy site image h removal
 IsReadyAt stage.Removing site removal a = IsReadyIn removal a
@@ -57,7 +58,7 @@ IsReadyToGo r a = IsReadyAt r.stage r.site r.removal a
 
 -- ---- how it goes on
 
--- the image, where it is at its own look
+-- the image, where it is at its look under the lock
 abbrev pub owning_at : Stage → Option ℕ
 owning_at (stage.Owning image) = Some image
 owning_at _ = None

@@ -78,7 +78,7 @@
 //! | call | memory |
 //! |---|---|
 //! | [`RemoveRequest::new`] | none |
-//! | [`Remove::new`], and `ready` at the own look | the header's snapshots, where they aren't shared |
+//! | [`Remove::new`], and `ready` at the look under the lock | the header's snapshots, where they aren't shared |
 //! | `ready` at the answer to `map-get` | a [`Remnant`] for each operation that is left |
 //! | `next` | copies the name of its `dir-find` |
 //!
@@ -88,8 +88,8 @@
 //!
 //! A [`Remove`] holds what its header tells of the link, the snapshots and the journal until it is
 //! told the states. Then it makes the list of all that it removes, one small value for each, and
-//! takes one after another out of it. A [`RemoveRequest`] makes its removal in `ready` at its own
-//! look, and begins it once it was told who watches.
+//! takes one after another out of it. A [`RemoveRequest`] makes its removal in `ready` at its look
+//! under the lock, and begins it once it was told who watches.
 #![tactic(auto)]
 
 pub mod laws;

@@ -1,13 +1,13 @@
 //! What there is to remove of an image.
-ghost use Rattle.std.specs.Prelude.{◌≡◌, ℕ};
+ghost use Rattle.std.specs.Prelude.{◌≡◌, ℕ, IfOk};
 ghost use Rattle.rbd_kinds.specs.OperationKind.{kind_of};
 ghost use Rattle.rbd_meaning.specs.Removals as of_removals;
 ghost use Rattle.rbd_remove.specs.Remnants.{op_of};
 ghost use Rattle.rbd_remove.specs.declared.remnant.Remnant.TheVariants.{Link};
 
 use rbd_kinds::{
-    ChildrenOp, DataOp, DirectoryOp, HeaderOp, ImageId, JournalOp, MapOp, Op, OpKind, ParentLink,
-    SnapContext, SnapId, SnapIds,
+    ChildrenOp, DataOp, DirectoryOp, HeaderOp, ImageId, JournalOp, MapOp, NoMemory, Op, OpKind,
+    ParentLink, SnapContext, SnapId, SnapIds,
 };
 use std::alloc::Global;
 
@@ -27,26 +27,26 @@ pub enum Remnant {
 }
 
 impl Remnant {
-    /// The operation that removes it from an image. It takes no memory.
-    pub fn op(&self, alloc: Global, image: ImageId) -> Op
-        ensures { result ≡ op_of image self.now }
+    /// The operation that removes it from an image.
+    pub fn op(&self, alloc: Global, image: ImageId) -> Result<Op, NoMemory>
+        ensures { IfOk result (λ op. op ≡ op_of image self.now) }
     {
         match self {
-            Remnant::Name => Op::Directory(DirectoryOp::Remove { image }),
-            Remnant::Header => Op::Header {
+            Remnant::Name => Ok(Op::Directory(DirectoryOp::Remove { image })),
+            Remnant::Header => Ok(Op::Header {
                 image,
                 op: HeaderOp::Remove,
-            },
-            Remnant::Link(link) => unlink(image, link),
+            }),
+            Remnant::Link(link) => Ok(unlink(image, link)),
             Remnant::Object(object) => remove_object(alloc, image, *object),
-            Remnant::Map(snap) => Op::Map {
+            Remnant::Map(snap) => Ok(Op::Map {
                 image,
                 op: MapOp::Remove { snap: *snap },
-            },
-            Remnant::Journal => Op::Journal {
+            }),
+            Remnant::Journal => Ok(Op::Journal {
                 image,
                 op: JournalOp::Remove,
-            },
+            }),
         }
     }
 
@@ -93,16 +93,12 @@ fn unlink(image: ImageId, link: &ParentLink) -> Op
 }
 
 /// An object goes, and nothing is kept of it for a snapshot.
-fn remove_object(alloc: Global, image: ImageId, object: u64) -> Op
-    ensures { result ≡ of_removals.removing_object image object }
+fn remove_object(alloc: Global, image: ImageId, object: u64) -> Result<Op, NoMemory>
+    ensures { IfOk result (λ op. op ≡ of_removals.removing_object image object) }
 {
     let context = SnapContext {
         seq: SnapId(0),
         snaps: SnapIds::new(alloc),
     };
-    Op::Data {
-        image,
-        object,
-        op: DataOp::Remove { context },
-    }
+    Op::on_object(alloc, image, object, DataOp::Remove { context })
 }

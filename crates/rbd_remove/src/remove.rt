@@ -82,15 +82,15 @@ impl Remove {
         }
     }
 
-    /// The operation that it wants. It takes no memory.
-    pub fn next(&self, alloc: Global) -> Op
-        ensures { (next : Plan) → Asks (rest_of_removal self.now next) result }
+    /// The operation that it wants.
+    pub fn next(&self, alloc: Global) -> Result<Op, NoMemory>
+        ensures { (next : Plan) → IfOk result (Asks (rest_of_removal self.now next)) }
     {
         match &self.stage {
-            Stage::Looking(_) => Op::Map {
+            Stage::Looking(_) => Ok(Op::Map {
                 image: self.image,
                 op: MapOp::Get { snap: None },
-            },
+            }),
             Stage::Removing(remnant) => remnant.op(alloc, self.image),
         }
     }

@@ -54,7 +54,7 @@ pub struct RemoveRequest {
     site: SiteId,
     session: SessionNo,
     stage: Stage,
-    /// The removal by its own look, once there is memory for it.
+    /// The removal by its look under the lock, once there is memory for it.
     removal: Option<Remove>,
 }
 
@@ -88,7 +88,7 @@ impl RemoveRequest {
         }
     }
 
-    /// The image, where it is at its own look.
+    /// The image, where it is at its look under the lock.
     fn owning(&self) -> Option<ImageId>
         ensures { result ≡ of_request.owning_at self.now.stage }
     {
@@ -275,7 +275,7 @@ impl Machine for RemoveRequest {
             Stage::Owning(image) => Ok(header_get(*image)),
             Stage::AskingAgain(image) => Ok(watchers_get(*image)),
             Stage::Removing => match &self.removal {
-                Some(removal) => Ok(removal.next(alloc)),
+                Some(removal) => removal.next(alloc),
                 None => unreachable!(),
             },
         }

@@ -1,5 +1,5 @@
--- A `discard`, a `resize` and a `snap rollback` find the header at each of their places as their own
--- look told it, but for their own changes. So they did what their replies say.
+-- A `discard`, a `resize` and a `snap rollback` find the header at each of their places as their
+-- look under the lock told it, but for their own changes. So they did what their replies say.
 use Rattle.std.proofs.Common.{◌≡◌, ℕ, Bool, true, false, List, [], ◌∷◌, ◌++◌, map, Option, Some, refl, sym, ap, ◌∙◌, subst}
 use Rattle.std.specs.Prelude.{nat_le}
 use Rattle.rbd_kinds.specs.declared.sharing.Sharing.TheVariants as sharing
@@ -116,7 +116,7 @@ pub record IsOfLine (homes : ℕ → SiteId) (home : SiteId) (c : Command) (plac
   pub within : AreIn run places
   pub at_home : AreDoneAt home places
 
--- what holds of the places behind the own look
+-- what holds of the places behind the look under the lock
 record AreBehindLook (homes : ℕ → SiteId) (home : SiteId) (line : ℕ) (run : List Happening) (before : List Answered) (places : List Placed) : Type 0 where
   right : ArePlacedRight homes places
   in_line : AreInLine line before places

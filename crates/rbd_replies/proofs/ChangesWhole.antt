@@ -1,5 +1,5 @@
--- What `discard`, `resize` and `snap rollback` did, and that they did nothing else, where the header
--- stays what their own look told but for their own changes.
+-- What `discard`, `resize` and `snap rollback` did, and that they did nothing else, where the
+-- header stays what their look under the lock told but for their own changes.
 use Rattle.std.proofs.Common.{◌≡◌, ℕ, true, List, [], ◌∷◌, ◌++◌, length, map, Some, refl, sym, ap, ◌∙◌, subst}
 use Rattle.rbd_flat.specs.Flat.{image_at}
 use Rattle.rbd_flat.specs.declared.effect.Effect.{Effect}

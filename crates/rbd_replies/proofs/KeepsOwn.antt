@@ -1,6 +1,6 @@
 -- Once it owns its image a change keeps to it: it looks at no header any more, changes objects and
--- maps, and sets the size, at the image's site; and it leaves the image's line only at its end. So it
--- knows the header that its own look told, with its own changes since.
+-- maps, and sets the size, at the image's site; and it leaves the image's line only at its end. So
+-- it knows the header that its look under the lock told, with its own changes since.
 use Rattle.std.proofs.Common.{◌≡◌, ℕ, Bool, true, false, List, [], ◌∷◌, Option, Some, None, refl}
 use Rattle.std.specs.Prelude.{nat_le}
 use Rattle.rbd_discard.specs.Discard.{zero, zero_pieces as discard_pieces}

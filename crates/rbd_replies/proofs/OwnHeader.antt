@@ -1,4 +1,5 @@
--- The header at each place of a change behind its own look: what this told, with its own changes.
+-- The header at each place of a change behind its look under the lock: what this told, with its own
+-- changes.
 use Rattle.std.proofs.Common.{◌≡◌, ℕ, ◌==◌, cond, Bool, true, false, List, [], ◌∷◌, ◌++◌, map, Option, Some, None, refl, sym, ap, ◌∙◌, subst}
 use Rattle.std.specs.Prelude.{IsFalse}
 use Rattle.std.proofs.lemmas.Bool.{eqb-true}

@@ -1,5 +1,5 @@
--- What a change knows at each of its operations behind its own look: the header that this told, with
--- its own changes since.
+-- What a change knows at each of its operations behind its look under the lock: the header that
+-- this told, with its own changes since.
 use Rattle.std.proofs.Common.{◌≡◌, ℕ, cond, Bool, true, false, List, [], ◌∷◌, map, Option, Some, None, option_map, refl, sym, ap, ◌∙◌, subst}
 use Rattle.rbd_kinds.specs.Sharing.{is_alone}
 use Rattle.rbd_kinds.specs.declared.sharing.Sharing.{Sharing}
@@ -34,7 +34,7 @@ use Rattle.rbd_rely.specs.Truth.{header_of_own, known_header}
 use Rattle.rbd_world.specs.Past.{known_along}
 use Rattle.rbd_replies.proofs.KeepsOwn.{IsOnImage, KeepsOwn, StaysInLine}
 
--- ---- what the steps behind the own look changed of the header
+-- ---- what the steps behind the look under the lock changed of the header
 
 -- a size that was set
 abbrev pub sized_by : (image : ℕ) → Op → Answer → Option HeaderView → Option HeaderView
@@ -110,7 +110,7 @@ module _ (home : SiteId) (image : ℕ) where
   known_behind (f ∷ more) (Return r) steps last k keeps walk = absurd walk
   known_behind (f ∷ more) (Goto label) steps last k keeps walk = absurd walk
 
--- ---- up to its own look
+-- ---- up to its look under the lock
 
 record OneStep (labels_next : Answer → Plan) (step : Answered) (rest : List Answered) (feds : List Fed) (last : Plan) : Type 0 where
   more : List Fed
@@ -142,7 +142,7 @@ one_wait w next [] step rest last (none, same) = absurd (cc)
 one_wait w next (fed.Answer a ∷ more) step rest last walk = absurd walk
 one_wait w next (fed.Passed ∷ more) step rest last walk = record { more = more; are = refl; walk = walk }
 
--- the own look is the first behind the lock
+-- the look under the lock is the first behind the lock
 own_is_told : (home : SiteId) (image : ℕ) (alone : Bool) (own : HeaderView)
     → known_header (learned (holding_known alone home image) home (op.Header image header.Get) (answer.Header own)) home image ≡ Some own
 own_is_told home image alone own =
@@ -162,7 +162,7 @@ own_is_told home image alone own =
     told false is at = absurd (cc)
 
 module _ (home : SiteId) (name : List ℕ) (sharing : Sharing) (refuses : HeaderView → Option Refusal) (act : ℕ → HeaderView → Plan) where
-  -- what is known behind its own look and these steps
+  -- what is known behind its look under the lock and these steps
   pub change_knows : (feds : List Fed) (image : ℕ) (first own : HeaderView) (steps : List Answered) (last : Plan) → refuses first ≡ None → refuses own ≡ None → KeepsOwn home image (act image own)
       → IsWalk Goto (change home name sharing refuses act) feds (found home name image ∷ looked_at home image first ∷ looked_at home image own ∷ steps) last
       → known_header (known_along Goto nothing_known (change home name sharing refuses act) feds) home image ≡ sized image steps (Some own)

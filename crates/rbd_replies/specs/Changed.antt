@@ -21,8 +21,8 @@ pub record Creates (name : List ℕ) (size : ℕ) (places : List Placed) : Type 
   pub free : id_of (flat_at first) name ≡ None
   pub effects : effects_of places ≡ effect.Name name image ∷ effect.Create image size Plain ∷ []
 
--- The way of a change: the image that the name had at one place, and the header that its own look
--- was told, which tells the flat image at the place of that look.
+-- The way of a change: the image that the name had at one place, and the header that its look under
+-- the lock was told, which tells the flat image at the place of that look.
 pub record FindsImage (name : List ℕ) (places : List Placed) : Type 0 where
   pub found : Placed
   pub first : Placed
@@ -36,13 +36,14 @@ pub record FindsImage (name : List ℕ) (places : List Placed) : Type 0 where
   pub tells : Tells header (image_at (flat_at own) image)
 
 -- Each of its pieces was written, one after another, and nothing else: the piece of an object has
--- the bytes that go there. They lie within the size that its own look told.
+-- the bytes that go there. They lie within the size that its look under the lock told.
 pub record Writes (name : List ℕ) (at : ℕ) (bytes : List ℕ) (places : List Placed) : Type 0 where
   pub finds : FindsImage name places
   pub within : fits (extent_at at bytes) finds.header.size ≡ true
   pub effects : effects_of places ≡ piece_effects finds.image at bytes (pieces_of finds.header.layout (extent_at at bytes))
 
--- A snapshot was taken, and nothing else done. At its own look the flat image had none of the name.
+-- A snapshot was taken, and nothing else done. At its look under the lock the flat image had none
+-- of the name.
 pub record TakesSnap (name snap : List ℕ) (places : List Placed) : Type 0 where
   pub finds : FindsImage name places
   pub flat : FlatImage
@@ -51,8 +52,8 @@ pub record TakesSnap (name snap : List ℕ) (places : List Placed) : Type 0 wher
   pub taken : ℕ
   pub effects : effects_of places ≡ effect.Snap finds.image taken snap ∷ []
 
--- The snapshot that the flat image had under the name at its own look was removed, and nothing else
--- done.
+-- The snapshot that the flat image had under the name at its look under the lock was removed, and
+-- nothing else done.
 pub record RemovesSnap (name snap : List ℕ) (places : List Placed) : Type 0 where
   pub finds : FindsImage name places
   pub flat : FlatImage

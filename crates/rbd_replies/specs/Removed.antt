@@ -19,8 +19,8 @@ removal_effects image true = effect.NameFree image ∷ effect.Gone image ∷ []
 removal_effects image false = effect.Gone image ∷ []
 
 -- The image that the name had at one place went, with the name that leads to it still where that is
--- freed, and nothing else was done. The header that its own look was told tells the flat image
--- there, which has no snapshot.
+-- freed, and nothing else was done. The header that its look under the lock was told tells the flat
+-- image there, which has no snapshot.
 pub record RemovesAll (name : List ℕ) (places : List Placed) : Type 0 where
   pub found : Placed
   pub first : Placed

@@ -40,8 +40,8 @@ abbrev pub RestoresAll : (image snap : ℕ) → List Piece → List Placed → T
 RestoresAll image snap [] places = places ≡ []
 RestoresAll image snap (piece ∷ pieces) places = RestoresFirst (RestoresAll image snap pieces) image snap piece places
 
--- The flat image had a snapshot of the name at its own look. The size was set to that of the
--- snapshot, then each object of this size got its bytes, and nothing else was done.
+-- The flat image had a snapshot of the name at its look under the lock. The size was set to that of
+-- the snapshot, then each object of this size got its bytes, and nothing else was done.
 pub record RollsBackTo (name snap : List ℕ) (places : List Placed) : Type 0 where
   pub finds : FindsImage name places
   pub flat : FlatImage

@@ -20,7 +20,8 @@ abbrev pub zero_effects : (image : ℕ) → List Piece → List Effect
 zero_effects image pieces = map (zero_effect image) pieces
 
 -- Each piece of the extent became zeros, one after another, and nothing else was done: whether its
--- object went, was emptied, or has zeros now. The extent lies within the size that its own look told.
+-- object went, was emptied, or has zeros now. The extent lies within the size that its look under
+-- the lock told.
 pub record Discards (name : List ℕ) (e : Extent) (places : List Placed) : Type 0 where
   pub finds : FindsImage name places
   pub within : fits e finds.header.size ≡ true
@@ -36,7 +37,7 @@ pub record SetsSize (image : ℕ) (h : HeaderView) (to : ℕ) (effects : List Ef
   pub bits : List ℕ
   pub are : effects ≡ zero_effects image (cut_away h to bits) ++ effect.Size image to ∷ []
 
--- The size was set, from what the flat image had at its own look, and nothing else done.
+-- The size was set, from what the flat image had at its look under the lock, and nothing else done.
 pub record Resizes (name : List ℕ) (to : ℕ) (places : List Placed) : Type 0 where
   pub finds : FindsImage name places
   pub sets : SetsSize finds.image finds.header to (effects_of places)

@@ -35,10 +35,10 @@ pub fn operations_have_places()
 
 /// Each reply is the flat-copy machine's, at its place in the history: what a command did, and what
 /// it shows, is what that machine has at the places of its operations. Where it goes by a header,
-/// that is the one which its look was told; and what a read shows of a piece was answered where this
-/// piece was read. It comes with an operation of the command, or of its way to the lock of its
-/// image, where it is refused; or a command is refused without one. It is so at every place of a run
-/// that is right, as that of each world is (`IsSoundWorld`).
+/// that is the one which its look was told; and what a read shows of a piece was answered where
+/// this piece was read. It comes with an operation of the command, or of its way to the lock of its
+/// image, where it is refused; or a command is refused without one. It is so at every place of a
+/// run that is right, as that of each world is (`IsSoundWorld`).
 pub fn replies_are_the_flat_machines()
     ensures done { (homes : ℕ → Site) (run : List Happening) (o : Operation) (line : ℕ) (reply : Reply) (asked : Asked)
         → IsRight homes (Did o (Some reply) ∷ run) → replies_to line (Did o (Some reply)) ≡ true → asked_by line run ≡ Some asked
@@ -48,8 +48,8 @@ pub fn replies_are_the_flat_machines()
         → IsReplyOf asked.command reply (places_of line (Refused s line reply ∷ run)) }
 {}
 
-/// A command that only shows, as `read`, `ls`, `info`, `snap ls` and `du` do, changes nothing of the
-/// flat site, whatever its reply is.
+/// A command that only shows, as `read`, `ls`, `info`, `snap ls` and `du` do, changes nothing of
+/// the flat site, whatever its reply is.
 pub fn what_only_shows_changes_nothing()
     ensures done { (homes : ℕ → Site) (run : List Happening) (o : Operation) (line : ℕ) (reply : Reply) (asked : Asked)
         → IsRight homes (Did o (Some reply) ∷ run) → replies_to line (Did o (Some reply)) ≡ true → asked_by line run ≡ Some asked → only_shows asked.command ≡ true
@@ -114,8 +114,8 @@ pub fn lines_keep_their_bounds<R: Request>()
 {}
 
 /// The command of a line that was begun, has no reply yet and isn't lost has had fewer operations
-/// itself than its bound, a read in the pass that it is in: at least one more is due. So a line that
-/// has had as many as its bound has its reply, or is lost.
+/// itself than its bound, a read in the pass that it is in: at least one more is due. So a line
+/// that has had as many as its bound has its reply, or is lost.
 pub fn open_lines_stay_below_their_bounds<R: Request>()
     ensures under_way { (w : WorldView R) (sound : IsSoundWorld R.stands w) (session slot line : ℕ) (asked : Asked) (most : ℕ)
         → line_at session slot w.lives ≡ Some line → asked_by line sound.run ≡ Some asked → HasAtMost most (touched_by asked.command)
@@ -183,8 +183,8 @@ pub fn fences_are_told()
 /// image there, by its header; and the lock of an instance was broken only once the instance was
 /// fenced at that site. A header is made before anybody can own it, and so is the first map of an
 /// image, before its header. What is left of an image whose header was removed, its objects and its
-/// maps, goes without a lock too, since there is none any more. What is done to a lock, to those that
-/// watch and to what they are told changes no image.
+/// maps, goes without a lock too, since there is none any more. What is done to a lock, to those
+/// that watch and to what they are told changes no image.
 pub fn changes_are_the_owners()
     ensures owned { (homes : ℕ → Site) (run : List Happening) (o : Operation) (reply : Option Reply) (image : ℕ)
         → IsRight homes (Did o reply ∷ run) → changes_image image o.op ≡ true → was_done o.answer ≡ true

@@ -18,18 +18,18 @@
 //! The operations of a line's command stand at *places* of the run, each with the flat site of all
 //! effects before. Those on its way to the lock of its image are apart, as those of a release and
 //! of a stopped session are: they are no part of the command. A header that a reply goes by, by its
-//! layout, its size, its snapshots or its generation, is the one that the look at its place was told
-//! (`LooksAt`).
+//! layout, its size, its snapshots or its generation, is the one that the look at its place was
+//! told (`LooksAt`).
 //!
 //! | reply | what it says |
 //! |---|---|
 //! | `create` done | the name was free at its first place; its effects are the name and a new image of zeros |
-//! | `write`, `fill` done | its effects are its pieces, one for each object of its extent, in order, in the image that the name had; they lie within the size at its own look |
-//! | `snap create`, `snap rm` done | its one effect is the snapshot taken, or the removal of the one that the flat image had under the name at its own look |
-//! | `discard` done | its effects are zeros at its pieces, one for each object of its extent, in order; it lies within the size at its own look |
+//! | `write`, `fill` done | its effects are its pieces, one for each object of its extent, in order, in the image that the name had; they lie within the size at its look under the lock |
+//! | `snap create`, `snap rm` done | its one effect is the snapshot taken, or the removal of the one that the flat image had under the name at its look under the lock |
+//! | `discard` done | its effects are zeros at its pieces, one for each object of its extent, in order; it lies within the size at its look under the lock |
 //! | `resize` done | its effects are zeros from the new size on, where it shrank, and then the size |
-//! | `snap rollback` done | its effects are those of a resize to the size of the flat snapshot that the name had at its own look, and then for each object of this size the bytes that the flat snapshot shows where the object was read |
-//! | `rm` done | its effects are the name freed, where one led to the image still, and the image gone; it had no snapshot at its own look |
+//! | `snap rollback` done | its effects are those of a resize to the size of the flat snapshot that the name had at its look under the lock, and then for each object of this size the bytes that the flat snapshot shows where the object was read |
+//! | `rm` done | its effects are the name freed, where one led to the image still, and the image gone; it had no snapshot at its look under the lock |
 //! | `rename` done | its one effect is the other name, which was free, for the image that the first had at its place |
 //! | `ls` | all names of the flat site at its place |
 //! | `du` | how many objects the size of the flat image has at the place of its look, by the layout that it was told; and how many of them are in use by the states that its map told |
@@ -80,9 +80,9 @@
 //! line is or was lost (`IsLedTo` of `rbd_world`), and what the plan may ask for is known.
 //!
 //! Which bytes a discard, a resize and a rollback changed depends on the header at each operation.
-//! That is the one that the command's own look told, with its own changes since: the run says of
-//! each operation of a line what its command knew by the line's own operations (`Recalls` of
-//! `rbd_world`), and that what is known is true.
+//! That is the one that the command's look under the lock told, with its own changes since: the run
+//! says of each operation of a line what its command knew by the line's own operations (`Recalls`
+//! of `rbd_world`), and that what is known is true.
 //!
 //! A blocklist only grows: the one operation that changes it puts an instance in, and a trim or the
 //! end of a watch leaves it. So who is fenced at a place is so at all later ones, and a site does

@@ -25,7 +25,7 @@ ghost use Rattle.rbd_meaning.specs.Writes.{WritesWhole};
 ghost use Rattle.rbd_request.specs.Read.{IsReadOf, pass, read_labels};
 ghost use Rattle.rbd_request.specs.Write.{is_write, objects_of, put, write, write_plan};
 
-/// A write has two operations for each piece behind its own look, and three before.
+/// A write has two operations for each piece behind its look under the lock, and three before.
 pub fn writes_are_bounded()
     ensures pieces { (site : SiteId) (at : ℕ) (bytes : List ℕ) (image : ℕ) (h : HeaderView)
         → IsBounded (put site at bytes image h) (2 * length (pieces_of h.layout (extent_at at bytes))) }
@@ -48,7 +48,7 @@ pub fn reads_are_bounded()
 {}
 
 /// A write waits for its turn at the objects of its pieces, the pieces of its extent by the layout
-/// that its own look told, one after another and at no others. They ascend.
+/// that its look under the lock told, one after another and at no others. They ascend.
 pub fn turns_are_those_of_the_pieces()
     ensures turns { (site : SiteId) (at : ℕ) (bytes : List ℕ) (image : ℕ) (h : HeaderView)
         → AreTurns (put site at bytes image h) (objects_of (pieces_of h.layout (extent_at at bytes))) }
@@ -70,16 +70,17 @@ pub fn bytes_are_shown_between_looks()
         → IsWalk (read_labels site name snap e) (pass site name snap e) feds steps (Return (Bytes bytes)) → ShowsAtLast site name snap e steps bytes }
 {}
 
-/// A write is done only when each of its pieces was written by its own look, under the snapshot
-/// context of that look and behind its object's state, and it has done nothing else but to look up
-/// its image and look at its header.
+/// A write is done only when each of its pieces was written by its look under the lock, under the
+/// snapshot context of that look and behind its object's state, and it has done nothing else but to
+/// look up its image and look at its header.
 pub fn writes_are_whole()
     ensures { (site : SiteId) (name : List ℕ) (at : ℕ) (bytes : List ℕ) (feds : List Fed) (steps : List Answered)
         → IsWalk Goto (write site name at bytes) feds steps (Return Done) → WritesWhole site name at bytes steps }
 {}
 
 /// A write and a fill are lawful from nothing known: each piece is written under the snapshot
-/// context and within the size that the own look told, at its turn and behind its object's state.
+/// context and within the size that the look under the lock told, at its turn and behind its
+/// object's state.
 pub fn writes_are_lawful()
     ensures { (home : SiteId) (command : Command) → IsLawfulRequest (without_labels (write_plan home command)) }
 {}

@@ -27,9 +27,10 @@
 //! be answered `fenced`, which ends the request with Fenced.
 //!
 //! A fill is a write of one byte many times. A write's pieces are those of its extent by the
-//! striping that the own look told (Ceph: RBD striping), object by object in the order of their
-//! numbers, under the snapshot context of that header. They are made at the own look, before the
-//! event is noted. Before a piece's bytes, the head's map says that its object exists.
+//! striping that the look under the lock told (Ceph: RBD striping), object by object in the order
+//! of their numbers, under the snapshot context of that header. They are made at the look under the
+//! lock, before the event is noted. Before a piece's bytes, the head's map says that its object
+//! exists.
 //!
 //! A read takes no lock. It looks at the header before and after, and where the generation is
 //! another, or the header is gone, it begins again with `dir-find`. So its bytes are those of one
@@ -39,16 +40,16 @@
 //!
 //! Both requests meet the contract of `Machine` in `rbd_machine`: it says of each step that it is
 //! the next of a *plan*, a tree of steps, and the definitions here are the plans. They are read in
-//! this order. `specs/Write.antt`: what a write does at its own look (`put`), the whole (`write`),
-//! and what is left of it (`rest_of_request`). `specs/Seen.antt`: what a read keeps of the header,
-//! and the bytes that it shows (`shown`). `specs/Read.antt`: a pass over the objects between two
-//! looks (`pass`), its closing look (`on_closing`), and where it stands (`rest_at`).
+//! this order. `specs/Write.antt`: what a write does at its look under the lock (`put`), the whole
+//! (`write`), and what is left of it (`rest_of_request`). `specs/Seen.antt`: what a read keeps of
+//! the header, and the bytes that it shows (`shown`). `specs/Read.antt`: a pass over the objects
+//! between two looks (`pass`), its closing look (`on_closing`), and where it stands (`rest_at`).
 //! What they refuse, and what their replies mean, stands in `rbd_meaning`. [`laws`] says what such
-//! plans come to: a write is done only when each of its pieces was written by its own look and
-//! behind its object's state, its turns are those at the objects of its pieces, ascending, a read
-//! shows bytes only in a pass between two looks at a header that didn't change, however often it
-//! began again, each reply is meant, refusals among them, the plans are lawful from nothing known
-//! (`rbd_machine`), and how many operations they have.
+//! plans come to: a write is done only when each of its pieces was written by its look under the
+//! lock and behind its object's state, its turns are those at the objects of its pieces, ascending,
+//! a read shows bytes only in a pass between two looks at a header that didn't change, however
+//! often it began again, each reply is meant, refusals among them, the plans are lawful from
+//! nothing known (`rbd_machine`), and how many operations they have.
 //!
 //! # Cost
 //!
@@ -56,9 +57,9 @@
 //! touches, for its state and for its bytes, and a read once; a read that begins again takes all
 //! its steps again. The bytes of a write lie in memory once: the request takes them over from the
 //! command, and its event, its pieces and their operations share them. Only those of a piece with
-//! several parts, which lie apart in the command's bytes, are gathered, once, at the own look. The
-//! snapshot context is one for all pieces. Those of a read are copied once from the answers to
-//! behind one another, and once into the reply, in the order of the image.
+//! several parts, which lie apart in the command's bytes, are gathered, once, at the look under the
+//! lock. The snapshot context is one for all pieces. Those of a read are copied once from the
+//! answers to behind one another, and once into the reply, in the order of the image.
 //!
 //! Memory is taken by [`write_request`], `next`, `event` and `ready`, and these may be refused it
 //! without a change. [`ReadRequest::new`], `wants` and `feed` take none.

@@ -262,11 +262,11 @@ impl Machine for ReadRequest {
         }
     }
 
-    fn next(&self, _alloc: Global) -> Result<Op, NoMemory> {
+    fn next(&self, alloc: Global) -> Result<Op, NoMemory> {
         match &self.stage {
             Stage::Finding => dir_find(&self.name),
             Stage::Looking(image) => Ok(header_get(*image)),
-            Stage::Gathering(_, _, gather) => gather.next(),
+            Stage::Gathering(_, _, gather) => gather.next(alloc),
             Stage::Closing(image, _, _) => Ok(header_get(*image)),
         }
     }

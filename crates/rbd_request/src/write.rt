@@ -145,8 +145,8 @@ impl Part for WriteTurn {
         self.piece.wants()
     }
 
-    fn next(&self) -> Result<Op, NoMemory> {
-        self.piece.next()
+    fn next(&self, alloc: Global) -> Result<Op, NoMemory> {
+        self.piece.next(alloc)
     }
 
     fn ready(&mut self, _alloc: Global, _answer: &Answer) -> Result<(), NoMemory> {

@@ -10,7 +10,7 @@ use Rattle.rbd_machine.specs.Wait as wait
 pub use Rattle.rbd_request.specs.Read.{is_read}
 use Rattle.rbd_requests.specs.NoLooks.{IsNoLook}
 
--- Whatever it is answered, it looks at no header any more: it is past its own look.
+-- Whatever it is answered, it looks at no header any more: it is past its look under the lock.
 abbrev pub LooksNoMore : Plan → Type 0
 LooksNoMore (Ask site why o next) = IsNoLook o × ((a : Answer) → LooksNoMore (next a))
 LooksNoMore (Await wait next) = LooksNoMore next

@@ -32,8 +32,8 @@ use Rattle.rbd_requests.specs.Touched.{extent_of}
 
 -- ---- the objects of its turns
 
--- the objects that its own look tells are those of its pieces, since that look refuses an extent
--- that doesn't fit
+-- the objects that its look under the lock tells are those of its pieces, since that look refuses
+-- an extent that doesn't fit
 pub objects_are : (e : Extent) (h : HeaderView) → write_refuses e h ≡ None → objects_within h e ≡ objects_of (pieces_of h.layout e)
 objects_are e h may = go (fits e h.size) (or_else_none (non_primary h.role) (out_of_range e h.size) may)
   where

@@ -120,8 +120,8 @@ told_by _ steps = 0
 
 -- ---- turns
 
--- A change of an extent goes beside other requests: behind its own look it has its turn at each
--- object that the extent has by that look, one after another, and at no others.
+-- A change of an extent goes beside other requests: behind its look under the lock it has its turn
+-- at each object that the extent has by that look, one after another, and at no others.
 pub record TakesTurns (e : Extent) (plan : Plan) : Type 0 where
   pub site : SiteId
   pub name : List ℕ

@@ -53,14 +53,14 @@ pub fn commands_are_meant()
 {}
 
 /// The request of a command keeps to its line (`rbd_course`). A write, a fill and a discard take
-/// their turns at the objects that their own look tells of their extent, and no other command takes
-/// any.
+/// their turns at the objects that their look under the lock tells of their extent, and no other
+/// command takes any.
 pub fn commands_are_orderly()
     ensures { (seat : Seat) (command : Command) (s : Standing) → IsPlanFor seat command s → IsOrderlyFrom (extent_of command) true beginning s }
 {}
 
-/// The request of a command that changes an extent takes all the turns that its own look tells,
-/// each once, before it is done.
+/// The request of a command that changes an extent takes all the turns that its look under the lock
+/// tells, each once, before it is done.
 pub fn turns_are_those_of_the_extent()
     ensures { (seat : Seat) (command : Command) (s : Standing) (e : Extent) → IsPlanFor seat command s → extent_of command ≡ Some e → TakesTurns e s.plan }
 {}

@@ -55,10 +55,10 @@
 //!
 //! `specs/Served.antt`: which commands are served (`is_built`), and where the request of one stands
 //! at first (`IsPlanFor`), of a session at its home site (`Seat` of `rbd_machine`).
-//! `specs/Touched.antt`: the extent that a command changes (`extent_of`) or is about (`touched_by`),
-//! what its turns are (`TakesTurns`), and how many operations it has (`bound_of`), beside those by
-//! what it is told (`told_by`). `specs/Session.antt`: where a [`SessionRequest`] stands
-//! (`stands_of`), and what a session asks of a work (`Serves`). [`SessionRequest`] meets
+//! `specs/Touched.antt`: the extent that a command changes (`extent_of`) or is about
+//! (`touched_by`), what its turns are (`TakesTurns`), and how many operations it has (`bound_of`),
+//! beside those by what it is told (`told_by`). `specs/Session.antt`: where a [`SessionRequest`]
+//! stands (`stands_of`), and what a session asks of a work (`Serves`). [`SessionRequest`] meets
 //! [`Machine`](rbd_machine::Machine) and [`Request`](rbd_course::Request), the laws of the latter
 //! among it.
 //!

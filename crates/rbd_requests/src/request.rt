@@ -5,7 +5,7 @@ use rbd_admin::{CreateRequest, ListRequest, SnapRequest};
 use rbd_close::CloseRequest;
 use rbd_discard::DiscardRequest;
 use rbd_kinds::{Event, Fed, NoMemory, Op, Turn, Want};
-use rbd_machine::{Machine, Reason};
+use rbd_machine::{Boxed, Machine, Reason};
 use rbd_remove::RemoveRequest;
 use rbd_request::{ReadRequest, WriteRequest};
 use rbd_resize::{ResizeRequest, RollbackRequest};
@@ -22,27 +22,27 @@ use std::alloc::Global;
 #[derive(Debug, Drop)]
 pub enum SessionRequest<E> {
     /// `read`
-    Read(ReadRequest),
+    Read(Boxed<ReadRequest>),
     /// `write` or `fill`
-    Write(WriteRequest),
+    Write(Boxed<WriteRequest>),
     /// `discard`
-    Discard(DiscardRequest),
+    Discard(Boxed<DiscardRequest>),
     /// `create`
-    Create(CreateRequest),
+    Create(Boxed<CreateRequest>),
     /// `snap create` or `snap rm`
-    Snap(SnapRequest),
+    Snap(Boxed<SnapRequest>),
     /// `ls`, `info`, `snap ls`, `du` or `rename`
-    List(ListRequest),
+    List(Boxed<ListRequest>),
     /// `resize`
-    Resize(ResizeRequest),
+    Resize(Boxed<ResizeRequest>),
     /// `snap rollback`
-    Rollback(RollbackRequest),
+    Rollback(Boxed<RollbackRequest>),
     /// `rm`
-    Remove(RemoveRequest),
+    Remove(Boxed<RemoveRequest>),
     /// `close`, `quiesce`, `resume` or `tell`
-    Close(CloseRequest),
+    Close(Boxed<CloseRequest>),
     /// A machine that a layer above brings.
-    Extra(E),
+    Extra(Boxed<E>),
 }
 
 impl<E: Machine + Drop> Machine for SessionRequest<E> {

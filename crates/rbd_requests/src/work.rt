@@ -14,7 +14,7 @@ use rbd_close::CloseRequest;
 use rbd_course::{Begun, Request};
 use rbd_discard::discard_request;
 use rbd_kinds::{Command, Extent, NoMemory};
-use rbd_machine::{Machine, Seat};
+use rbd_machine::{Boxed, Machine, Seat};
 use rbd_remove::RemoveRequest;
 use rbd_request::{ReadRequest, write_request};
 use rbd_resize::{ResizeRequest, RollbackRequest};
@@ -44,7 +44,10 @@ impl<E: Machine + Drop> Request for SessionRequest<E> {
     fn begin(alloc: Global, seat: &Seat, work: Work<E>) -> Result<Begun<Self>, NoMemory> {
         match work {
             Work::Plain(command) => begin_plain(alloc, seat, command),
-            Work::Extra(machine) => Ok(Begun::Asks(SessionRequest::Extra(machine))),
+            Work::Extra(machine) => {
+                let machine = Boxed::new(alloc, machine)?;
+                Ok(Begun::Asks(SessionRequest::Extra(machine)))
+            }
         }
     }
 
@@ -74,40 +77,59 @@ fn begin_plain<E: Machine + Drop>(
     let home = seat.home;
     match kind_of(&command) {
         Kind::Write => {
-            let request = write_request(alloc, home, command)?;
+            let request = Boxed::new(alloc, write_request(alloc, home, command)?)?;
             Ok(Begun::Asks(SessionRequest::Write(request)))
         }
         Kind::Discard => {
-            let request = discard_request(alloc, home, command);
+            let request = Boxed::new(alloc, discard_request(alloc, home, command))?;
             Ok(Begun::Asks(SessionRequest::Discard(request)))
         }
-        Kind::Read => Ok(Begun::Asks(SessionRequest::Read(ReadRequest::new(home, command)))),
-        Kind::Create => Ok(begin_create(seat, command)),
-        Kind::List => Ok(Begun::Asks(SessionRequest::List(ListRequest::new(home, command)))),
-        Kind::Snap => Ok(Begun::Asks(SessionRequest::Snap(SnapRequest::new(home, command)))),
-        Kind::Resize => Ok(Begun::Asks(SessionRequest::Resize(ResizeRequest::new(home, command)))),
+        Kind::Read => {
+            let request = Boxed::new(alloc, ReadRequest::new(home, command))?;
+            Ok(Begun::Asks(SessionRequest::Read(request)))
+        }
+        Kind::Create => begin_create(alloc, seat, command),
+        Kind::List => {
+            let request = Boxed::new(alloc, ListRequest::new(home, command))?;
+            Ok(Begun::Asks(SessionRequest::List(request)))
+        }
+        Kind::Snap => {
+            let request = Boxed::new(alloc, SnapRequest::new(home, command))?;
+            Ok(Begun::Asks(SessionRequest::Snap(request)))
+        }
+        Kind::Resize => {
+            let request = Boxed::new(alloc, ResizeRequest::new(home, command))?;
+            Ok(Begun::Asks(SessionRequest::Resize(request)))
+        }
         Kind::Rollback => {
-            let request = RollbackRequest::new(home, command);
+            let request = Boxed::new(alloc, RollbackRequest::new(home, command))?;
             Ok(Begun::Asks(SessionRequest::Rollback(request)))
         }
         Kind::Remove => {
-            let request = RemoveRequest::new(seat.session, home, command);
+            let request = Boxed::new(alloc, RemoveRequest::new(seat.session, home, command))?;
             Ok(Begun::Asks(SessionRequest::Remove(request)))
         }
-        Kind::Close => Ok(Begun::Asks(SessionRequest::Close(CloseRequest::new(home, command)))),
+        Kind::Close => {
+            let request = Boxed::new(alloc, CloseRequest::new(home, command))?;
+            Ok(Begun::Asks(SessionRequest::Close(request)))
+        }
         Kind::Unserved => unreachable!(),
     }
 }
 
 /// The request of a `create`, or BadShape where its shape is outside the limits.
-fn begin_create<E: Machine + Drop>(seat: &Seat, command: Command) -> Begun<SessionRequest<E>>
+fn begin_create<E: Machine + Drop>(
+    alloc: Global,
+    seat: &Seat,
+    command: Command,
+) -> Result<Begun<SessionRequest<E>>, NoMemory>
     requires { is_create command ≡ true }
-    ensures { IsBegun (IsPlanFor seat.now command) (stands_of E.stands) result }
+    ensures { IfOk result (IsBegun (IsPlanFor seat.now command) (stands_of E.stands)) }
 {
-    let request = CreateRequest::new(seat.home, command);
-    match request.refusal() {
-        Some(refusal) => Begun::Refused(refusal),
-        None => Begun::Asks(SessionRequest::Create(request)),
+    let request = Boxed::new(alloc, CreateRequest::new(seat.home, command))?;
+    match request.get().refusal() {
+        Some(refusal) => Ok(Begun::Refused(refusal)),
+        None => Ok(Begun::Asks(SessionRequest::Create(request))),
     }
 }
 

@@ -35,8 +35,8 @@ use Rattle.rbd_resize.proofs.Whole.{listed_did, own_in_form, resize_is_whole, ro
 
 -- ---- a change that is refused
 
--- By its own look, behind which it goes on by a plan that is refused by its last answer alone, and
--- of which each walk that was cut off is the front of a whole one.
+-- By its look under the lock, behind which it goes on by a plan that is refused by its last answer
+-- alone, and of which each walk that was cut off is the front of a whole one.
 module _ (site : SiteId) (name : List ℕ) (refuses : HeaderView → Option Refusal) (act : ℕ → HeaderView → Plan) (IsWhole : List Answered → Type 0) where
   -- it was refused so, and this had been done
   pub record IsRefusedSo (steps : List Answered) (x : Refusal) : Type 0 where

@@ -1,4 +1,4 @@
--- The header and the snapshot by which a rollback is made at its own look.
+-- The header and the snapshot by which a rollback is made at its look under the lock.
 use Rattle.std.proofs.Common.{◌≡◌, ℕ, suc, true, false, Bool, cond, List, [], ◌∷◌, Some, sym, ap, ◌∙◌}
 use Rattle.std.specs.Prelude.{nat_eq, slice_get}
 use Rattle.std.specs.Cmp.Lexicographic.{pointwise}
@@ -40,7 +40,7 @@ named_in_form layout (x ∷ snaps) name s each is = go (pointwise nat_eq x.name 
     go true same later = each 0 s same
     go false there later = later there
 
--- ---- at its own look
+-- ---- at its look under the lock
 
 -- what is made by the snapshot that is listed there
 pub rolled_by : (site : SiteId) (image : ℕ) (snap : List ℕ) (h : HeaderView) (listed : SnapView) (left : Plan) → snap_named h.snaps snap ≡ Some listed → left ≡ roll_back site image h listed (applied site image)

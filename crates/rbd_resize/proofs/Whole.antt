@@ -168,7 +168,7 @@ listed_did site snap image h feds steps walk = go (snap_named h.snaps snap) refl
 
 -- ---- the whole
 
--- the header of the own look is in form
+-- the header of the look under the lock is in form
 pub own_in_form : (site : SiteId) (name : List ℕ) (image : ℕ) (first own : HeaderView) (rest steps : List Answered) → steps ≡ found site name image ∷ looked_at site image first ∷ looked_at site image own ∷ rest
     → AreGiven steps → IsHeaderInForm own
 own_in_form site name image first own rest steps are given = let there = subst AreGiven are given in there.1.1.0.can.form

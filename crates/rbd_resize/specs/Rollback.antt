@@ -47,7 +47,7 @@ roll_back site image h listed next =
 
 -- ---- the command
 
--- by the snapshot that the own look lists under the name
+-- by the snapshot that the look under the lock lists under the name
 abbrev pub roll_back_listed : SiteId → (snap : List ℕ) → (image : ℕ) → HeaderView → Option SnapView → Plan
 roll_back_listed site snap image h None = refused refusal.NoSnap
 roll_back_listed site snap image h (Some listed) = Note site image (event.SnapRollback snap) (roll_back site image h listed (applied site image))

@@ -23,10 +23,11 @@ ghost use Rattle.rbd_resize.specs.Resize.{resize_plan, set_size, size_change};
 ghost use Rattle.rbd_resize.specs.Rollback.{roll_back, rollback, rollback_plan};
 ghost use Rattle.rbd_resize.specs.Told.{HasFewToCut, HasFewToRestore, HoldsOfTold};
 
-/// Behind its own look a resize has two operations, and where the size is less than before, three
-/// more for each object with a byte from the new size on. A rollback has those of its size, and
-/// four for each object of the snapshot. Up to its own look each has three. That of a whole request
-/// is said of walks, since its own look decides how many objects there are.
+/// Behind its look under the lock a resize has two operations, and where the size is less than
+/// before, three more for each object with a byte from the new size on. A rollback has those of its
+/// size, and four for each object of the snapshot. Up to its look under the lock each has three.
+/// That of a whole request is said of walks, since its look under the lock decides how many objects
+/// there are.
 pub fn requests_are_bounded()
     ensures grow { (site : SiteId) (to image : ℕ) (h : HeaderView) → h.size ≤ to → IsBounded (set_size site to image h) 2 }
     ensures shrink { (site : SiteId) (to image : ℕ) (h : HeaderView) → to < h.size
@@ -43,8 +44,8 @@ pub fn requests_are_bounded()
 {}
 
 /// A resize is lawful from nothing known: all is done alone on the image, by the header that the
-/// own look told. A size that grows is set once the head's map has the new objects, and one that
-/// shrinks once each byte that goes is zero.
+/// look under the lock told. A size that grows is set once the head's map has the new objects, and
+/// one that shrinks once each byte that goes is zero.
 pub fn resizes_are_lawful()
     ensures { (home : SiteId) (command : Command) → IsLawfulRequest (without_labels (resize_plan home command)) }
 {}
@@ -63,16 +64,17 @@ pub fn plans_go_to_no_label()
         → IsClosed labels next → IsClosed labels (roll_back site image h listed next) }
 {}
 
-/// A resize is done only when the size was set by its own look, and it has done nothing else but to
-/// look up its image and look at its header. Headers that are told are in form.
+/// A resize is done only when the size was set by its look under the lock, and it has done nothing
+/// else but to look up its image and look at its header. Headers that are told are in form.
 pub fn resizes_are_whole()
     ensures { (site : SiteId) (name : List ℕ) (to : ℕ) (feds : List Fed) (steps : List Answered) → AreGiven steps
         → IsWalk Goto (size_change site name to) feds steps (Return Done) → ResizesWhole site name to steps }
 {}
 
-/// A rollback is done only when the size was set to that of the snapshot which its own look lists,
-/// and each object of the head at this size was replaced by what was read of it at the snapshot, by
-/// ascending number. It has done nothing else but to look up its image and look at its header.
+/// A rollback is done only when the size was set to that of the snapshot which its look under the
+/// lock lists, and each object of the head at this size was replaced by what was read of it at the
+/// snapshot, by ascending number. It has done nothing else but to look up its image and look at its
+/// header.
 pub fn rollbacks_are_whole()
     ensures { (site : SiteId) (name snap : List ℕ) (feds : List Fed) (steps : List Answered) → AreGiven steps
         → IsWalk Goto (rollback site name snap) feds steps (Return Done) → RollsBack site name snap steps }

@@ -27,7 +27,7 @@
 //!
 //! | command | steps | refused |
 //! |---|---|---|
-//! | `resize` | the way to its own look, alone in the image's line; the event noted; the new size (a `Size` of `rbd_zero`); the event counts as applied | NoImage, NonPrimary, BadShape |
+//! | `resize` | the way to its look under the lock, alone in the image's line; the event noted; the new size (a `Size` of `rbd_zero`); the event counts as applied | NoImage, NonPrimary, BadShape |
 //! | `snap rollback` | the same way; the event noted; the size that the snapshot had, and then, for each object of it by number, a `data-read` at the snapshot, and what it shows replaces the head's object (a `FullPiece`); the event counts as applied | NoImage, NonPrimary, NoSnap |
 //!
 //! Refusals are tested in the order of the table, those behind NoImage at both looks. Any operation
@@ -37,7 +37,7 @@
 //!   header doesn't list.
 //! - A rollback leaves all snapshots as they are, the later ones too, and gives the head the
 //!   snapshot's size (Ceph: `rbd snap rollback`). Its changes go under the snapshot context of the
-//!   own look, so that a later snapshot keeps what the head had.
+//!   look under the lock, so that a later snapshot keeps what the head had.
 //! - The size is set first. So no object is restored past the head's end, and what a shrink cuts is
 //!   zeros before the size says so.
 //! - An object that isn't there at the snapshot becomes zeros: outside the overlap it goes, and
@@ -48,13 +48,13 @@
 //!
 //! # Contracts
 //!
-//! Both requests meet the contract of `Machine` in `rbd_machine`: each step is the next of a *plan*,
-//! a tree of steps, and the definitions here are the plans. [`NewSize`] and [`Rollback`] are what
-//! they do behind their event ([`Part`](rbd_change::Part)): their clauses hold for every plan that
-//! comes next, and a step tells a [`Progress`](rbd_machine::Progress). The definitions are read in
-//! this order, after those of `rbd_zero` and `rbd_change`; what the commands refuse, what they have
-//! done, and what their replies mean stands in `Resizes` and `Rollbacks` of `rbd_meaning`, and how
-//! many objects a size has in its `Count`.
+//! Both requests meet the contract of `Machine` in `rbd_machine`: each step is the next of a
+//! *plan*, a tree of steps, and the definitions here are the plans. [`NewSize`] and [`Rollback`]
+//! are what they do behind their event ([`Part`](rbd_change::Part)): their clauses hold for every
+//! plan that comes next, and a step tells a [`Progress`](rbd_machine::Progress). The definitions
+//! are read in this order, after those of `rbd_zero` and `rbd_change`; what the commands refuse,
+//! what they have done, and what their replies mean stands in `Resizes` and `Rollbacks` of
+//! `rbd_meaning`, and how many objects a size has in its `Count`.
 //!
 //! | file | what it says |
 //! |---|---|
@@ -74,12 +74,12 @@
 //! | step | operations | memory |
 //! |---|---|---|
 //! | a size that grows | 2 | |
-//! | a size that shrinks | 2, and up to 3 for each object with a byte from the new size on | at the own look a copy of the header, and at the answer to `map-get` the pieces |
-//! | a rollback's objects | up to 4 for each | at the own look a copy of the header, and the pieces of all objects; at each `data-read` its bytes, where they aren't shared |
+//! | a size that shrinks | 2, and up to 3 for each object with a byte from the new size on | at the look under the lock a copy of the header, and at the answer to `map-get` the pieces |
+//! | a rollback's objects | up to 4 for each | at the look under the lock a copy of the header, and the pieces of all objects; at each `data-read` its bytes, where they aren't shared |
 //!
-//! Each request has three operations up to its own look. Memory is taken by `next`, `event` and
-//! `ready`, and these may be refused it without a change. `new` of the requests, `wants` and `feed`
-//! take none.
+//! Each request has three operations up to its look under the lock. Memory is taken by `next`,
+//! `event` and `ready`, and these may be refused it without a change. `new` of the requests,
+//! `wants` and `feed` take none.
 //!
 //! # How it works
 //!

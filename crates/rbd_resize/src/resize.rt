@@ -17,7 +17,7 @@ use std::alloc::Global;
 /// Sets the size of an image's head.
 ///
 /// ```text
-/// Approaching   to its own look, alone in the image's line   (see `Approach`)
+/// Approaching   to its look under the lock, alone in the image's line   (see `Approach`)
 ///    │             refused: NonPrimary, BadShape
 /// Noting        the event Resize, in the image's journal
 ///    │
@@ -111,8 +111,8 @@ impl Part for NewSize {
         self.size.wants()
     }
 
-    fn next(&self) -> Result<Op, NoMemory> {
-        self.size.next()
+    fn next(&self, alloc: Global) -> Result<Op, NoMemory> {
+        self.size.next(alloc)
     }
 
     fn ready(&mut self, alloc: Global, answer: &Answer) -> Result<(), NoMemory> {

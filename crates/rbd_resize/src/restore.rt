@@ -127,28 +127,24 @@ impl Restore {
     }
 
     /// The operation that it wants.
-    pub fn next(&self) -> Result<Op, NoMemory>
+    pub fn next(&self, alloc: Global) -> Result<Op, NoMemory>
         ensures { (next : Plan) → IfOk result (Asks (rest_of_restore self.now next)) }
     {
         match &self.stage {
-            Stage::Reading => self.read(),
-            Stage::Replacing(full) => full.next(),
+            Stage::Reading => self.read(alloc),
+            Stage::Replacing(full) => full.next(alloc),
         }
     }
 
     /// The object is read at the snapshot.
-    fn read(&self) -> Result<Op, NoMemory>
+    fn read(&self, alloc: Global) -> Result<Op, NoMemory>
         ensures { IfOk result (λ op. op ≡ data_read self.now.image (Some self.now.snap) self.now.piece) }
     {
         let op = DataOp::Read {
             snap: Some(self.snap),
             parts: self.piece.parts.try_clone()?,
         };
-        Ok(Op::Data {
-            image: self.image,
-            object: self.piece.object,
-            op,
-        })
+        Op::on_object(alloc, self.image, self.piece.object, op)
     }
 
     /// Takes the memory for an answer: where the object's bytes are told, that of what replaces it.

@@ -101,10 +101,10 @@ impl Part for Rollback {
         }
     }
 
-    fn next(&self) -> Result<Op, NoMemory> {
+    fn next(&self, alloc: Global) -> Result<Op, NoMemory> {
         match &self.stage {
-            Stage::Sizing(size, _) => size.next(),
-            Stage::Restoring(objects) => objects.next(),
+            Stage::Sizing(size, _) => size.next(alloc),
+            Stage::Restoring(objects) => objects.next(alloc),
         }
     }
 

@@ -14,7 +14,7 @@ use std::alloc::Global;
 /// Makes an image's head what it was at a snapshot.
 ///
 /// ```text
-/// Approaching   to its own look, alone in the image's line   (see `Approach`)
+/// Approaching   to its look under the lock, alone in the image's line   (see `Approach`)
 ///    │             refused: NonPrimary, NoSnap
 /// Noting        the event SnapRollback, in the image's journal
 ///    │

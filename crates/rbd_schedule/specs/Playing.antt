@@ -1,6 +1,8 @@
 -- What is played, and by what.
 use Rattle.std.specs.Prelude.{◌≡◌, ℕ, ◌<◌, ◌≤◌, ◌==◌, ◌&&◌, ◌||◌, ◌+◌, nat_eq, nat_lt, cond, not, Bool, true, false, List, [], length, take, map, All, slice_get, Option, Some, None}
 use Rattle.std.specs.HashSet.{HashSet, contains_by}
+use Rattle.rbd_lines.specs.Known.{is_known}
+use Rattle.rbd_lines.specs.declared.line_map.LineMap.{LineMap}
 use Rattle.rbd_commands.specs.declared.command.Command.{Command}
 use Rattle.rbd_flat.specs.declared.entry.Entry.{Entry}
 use Rattle.rbd_flat.specs.declared.entry.Entry.TheVariants as entry
@@ -61,8 +63,8 @@ pub record IsPlay {R : Type 0} (stands : R → Standing) (script : Script) (w : 
 -- ---- the queue of a session
 
 -- a line is one of these
-abbrev pub has_line : {S : Type 0} → (line : ℕ) → HashSet ℕ S → Bool
-has_line line lines = contains_by (nat_eq line) lines
+abbrev pub has_line : {T : Type 0} → (line : ℕ) → LineMap T → Bool
+has_line line lines = is_known lines line
 
 -- a notice is one of these
 abbrev pub has_number : {S : Type 0} → (number : ℕ) → HashSet ℕ S → Bool

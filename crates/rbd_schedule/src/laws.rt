@@ -39,8 +39,8 @@ pub fn plays_come_to_rest<R: Request>()
 
 /// The rounds that close a script are no more than the events of its play, and eight: in a round in
 /// which a session runs there is an event at least, and where none runs, eight rounds end it. So in
-/// a play with fewer than `2^59` events they end with eight in a row that are idle: there are `2^60`
-/// and more.
+/// a play with fewer than `2^59` events they end with eight in a row that are idle: there are
+/// `2^60` and more.
 pub fn closing_rounds_suffice<R: Request>()
     ensures rounds { (script : Script) (w : WorldView R) → (play : IsPlay R.stands script w) → play.plays.closing.count ≤ length w.calls + 8 }
     ensures idle { (script : Script) (w : WorldView R) → (play : IsPlay R.stands script w) → length w.calls < 2 ^ 59 → play.plays.closing.idle ≡ 8 }

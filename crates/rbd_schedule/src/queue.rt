@@ -17,10 +17,10 @@ ghost use Rattle.rbd_schedule.specs.Starts.{earliest as earliest_of};
 
 use crate::given::Given;
 use rbd_kinds::NoMemory;
+use rbd_lines::LineMap;
 use rbd_machine::Machine;
 use rbd_world::World;
 use std::alloc::Global;
-use std::collections::HashSet;
 
 /// The commands of a session, in the order of the script.
 #[derive(Debug, Drop)]
@@ -60,7 +60,7 @@ impl Queue {
     pub fn earliest<E: Machine + Drop>(
         &mut self,
         world: &World<E>,
-        ended: &HashSet<u32>,
+        ended: &LineMap<()>,
     ) -> Option<usize>
         requires { IsQueue (λ line. is_begun line world.now.history) (λ line. has_line line ended.now) self.old }
         ensures earliest { at_place self.old.commands.items result ≡ earliest_of (λ line. is_begun line world.now.history) (λ line. has_line line ended.now) true self.old.commands.items }
@@ -87,7 +87,7 @@ fn first_open<E: Machine + Drop>(
     commands: &[Given],
     from: usize,
     world: &World<E>,
-    ended: &HashSet<u32>,
+    ended: &LineMap<()>,
 ) -> usize
     requires from { from ≤ length commands.now }
     requires over { All (λ c. over (λ line. is_begun line world.now.history) (λ line. has_line line ended.now) c ≡ true) (take from commands.now) }
@@ -104,10 +104,10 @@ fn first_open<E: Machine + Drop>(
 }
 
 /// Whether a command was begun, and has its reply or is lost.
-fn is_over<E: Machine + Drop>(given: &Given, world: &World<E>, ended: &HashSet<u32>) -> bool
+fn is_over<E: Machine + Drop>(given: &Given, world: &World<E>, ended: &LineMap<()>) -> bool
     ensures { result ≡ over (λ line. is_begun line world.now.history) (λ line. has_line line ended.now) given.now }
 {
-    ended.contains(&given.line) && world.has_begun(given.line)
+    ended.has(given.line) && world.has_begun(given.line)
 }
 
 /// The first place from this one on whose command stands beside the others and wasn't begun, and

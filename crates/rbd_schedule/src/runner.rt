@@ -18,6 +18,7 @@ use crate::given::given_by;
 use crate::queue::Queue;
 use rbd_flat::Entry;
 use rbd_kinds::{ImageId, NoMemory, Number, SessionNo, SiteId, Slot};
+use rbd_lines::LineMap;
 use rbd_machine::Machine;
 use rbd_script::{Declared, Line, Said};
 use rbd_world::{Event, Outcome, World};
@@ -31,7 +32,7 @@ pub struct Runner<E: Machine + Drop> {
     /// The commands that each session was given so far.
     pub queues: Vec<Queue>,
     /// The lines that have their reply, or are lost.
-    over: HashSet<u32>,
+    over: LineMap<()>,
     /// Whether a command may have come to start: where it is false, none may.
     is_due: bool,
     /// No session holds a slot above it.
@@ -62,7 +63,7 @@ impl<E: Machine + Drop> Runner<E> {
         Ok(Runner {
             world,
             queues,
-            over: HashSet::new(alloc),
+            over: LineMap::new(alloc),
             is_due: false,
             highest: 0,
             heard: HashSet::new(alloc),
@@ -361,7 +362,7 @@ fn highest_behind(highest: u8, outcome: &Outcome) -> u8
 }
 
 /// The lines that have ended by entries of a history.
-fn note_ends(over: &mut HashSet<u32>, entries: &[Entry]) -> Result<(), NoMemory>
+fn note_ends(over: &mut LineMap<()>, entries: &[Entry]) -> Result<(), NoMemory>
     ensures { OnOk result ((line : ℕ) → has_line line over.new ≡ (has_line line over.old || is_ended line entries.now)) }
 {
     for entry in entries {
@@ -371,11 +372,11 @@ fn note_ends(over: &mut HashSet<u32>, entries: &[Entry]) -> Result<(), NoMemory>
 }
 
 /// The line that has ended by an entry, where one has.
-fn note_end(over: &mut HashSet<u32>, entry: &Entry) -> Result<(), NoMemory>
+fn note_end(over: &mut LineMap<()>, entry: &Entry) -> Result<(), NoMemory>
     ensures { OnOk result ((line : ℕ) → has_line line over.new ≡ (has_line line over.old || is_one_of line (end_of entry.now))) }
 {
     if let Some(line) = line_ended_by(entry) {
-        over.insert(line)?;
+        over.insert(line, ())?;
     }
     Ok(())
 }

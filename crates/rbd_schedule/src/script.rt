@@ -59,8 +59,8 @@ impl<E: Machine + Drop> Runner<E> {
         Ok(())
     }
 
-    /// That no world has had as many events: its calls lie in memory, more than 32 bytes each, and no
-    /// slice has 2^63 bytes.
+    /// That no world has had as many events: its calls lie in memory, more than 32 bytes each, and
+    /// no slice has 2^63 bytes.
     fn few_events(&self)
         ensures { length self.now.world.calls < 2 ^ 59 }
     {

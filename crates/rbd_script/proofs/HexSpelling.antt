@@ -2,7 +2,7 @@
 use Rattle.std.proofs.Common.{◌≡◌, ℕ, ◌+◌, ◌*◌, ◌/◌, ◌%◌, ◌<◌, ◌≤◌, ◌&&◌, cond, suc, zero, true, List, [], ◌∷◌, length, Ok, refl, sym, ap, ◌∙◌, subst, arith}
 use Rattle.std.specs.Prelude.{nat_le, nat_lt, slice_index}
 use Rattle.std.specs.List.{list_all}
-use Rattle.std.proofs.lemmas.Bool.{and_parts}
+use Rattle.std.proofs.lemmas.Bool.{and_parts, le-leb, leb-true}
 use Rattle.std.proofs.lemmas.Bool.Decides.{nat_tests}
 use Rattle.hex.specs.Hex.{encode_lower, encode_with, lower_digits, decode_of, IsBytes}
 use Rattle.hex.proofs.HexLemmas.{length-encode_with, decode_of-encode_lower, decode_of-ok}
@@ -10,7 +10,7 @@ use Rattle.rbd_script.specs.declared.fault.LineCause.TheVariants.{BadNumber}
 use Rattle.rbd_script.specs.Hex.{are_pairs, byte_of, bytes_of, bytes_of_pairs, hex_digit, is_hex_digit, pair}
 use Rattle.rbd_script.specs.Spelling.{IsHex}
 use Rattle.rbd_script.proofs.HexPairs.{even_of_pairs, pairs_decoded, same_value}
-use Rattle.rbd_script.proofs.TokenSpelling.{if_ok, le_true, true_le}
+use Rattle.rbd_script.proofs.TokenSpelling.{if_ok}
 
 -- the sixteen digits
 digit_told : (k : ℕ) → k < 16 → is_hex_digit (slice_index lower_digits k) ≡ true
@@ -100,7 +100,7 @@ hex_read bytes is =
     let long : length t ≡ 2 * length bytes = length-encode_with lower_digits bytes in
     let pairs = pairs_told bytes is.each in
     let value : bytes_of_pairs t ≡ bytes = same_value (decode_of t) (bytes_of_pairs t) bytes (pairs_decoded t pairs) (decode_of-encode_lower bytes is.each) in
-    rw (le_true (length t) 131072 (omega (arith, long, is.long.few)), le_true 2 (length t) (omega (arith, long, is.long.some)), pairs, value) refl
+    rw (le-leb (length t) 131072 (omega (arith, long, is.long.few)), le-leb 2 (length t) (omega (arith, long, is.long.some)), pairs, value) refl
 
 -- pairs spell their bytes
 high_half : (h l : ℕ) → l < 16 → (h * 16 + l) / 16 ≡ h
@@ -127,8 +127,8 @@ hex_said t bytes is =
     let outer = and_parts (nat_le (length t) 131072 && nat_le 2 (length t)) (are_pairs t) told.0 in
     let inner = and_parts (nat_le (length t) 131072) (nat_le 2 (length t)) outer.0 in
     let parts = even_of_pairs t outer.1 in
-    let few : length t ≤ 131072 = true_le (length t) 131072 inner.0 in
-    let some : 2 ≤ length t = true_le 2 (length t) inner.1 in
+    let few : length t ≤ 131072 = leb-true (length t) 131072 inner.0 in
+    let some : 2 ≤ length t = leb-true 2 (length t) inner.1 in
     let read = decode_of-ok t (bytes_of_pairs t) (pairs_decoded t outer.1) in
     let long : length t ≡ 2 * length (bytes_of_pairs t) = read.2 in (
       sym (spelled_again t parts.0 parts.1) ∙ ap (λ x. encode_lower x) told.1,

@@ -1,6 +1,7 @@
 -- The next token of a line.
 use Rattle.std.proofs.Common.{◌≡◌, ◌≢◌, ℕ, ◌+◌, ◌<◌, ◌≤◌, suc, Bool, true, false, not, eqb, List, [], ◌∷◌, length, get_or, take, drop, refl, ap, sym, ◌∙◌, arith}
 use Rattle.std.specs.List.{filter, slice_split, onto_first, position_or_len}
+use Rattle.std.proofs.lemmas.Bool.{eq-eqb, ne_eqb}
 use Rattle.std.proofs.lemmas.List.Sums.{position_or_len_is}
 use Rattle.rbd_script.specs.Token.{tokens_of, has_bytes}
 
@@ -23,13 +24,7 @@ blanks_at line i within before here =
 
 pub place_at : (wanted : ℕ) (text : List ℕ) (i : ℕ) → i ≤ length text → ((k : ℕ) → k < i → get_or text k 0 ≢ wanted) → (i < length text → get_or text i 0 ≡ wanted) → i ≡ position_or_len (λ b. eqb b wanted) text
 place_at wanted text i within before here =
-    sym (position_or_len_is (λ b. eqb b wanted) text i 0 within (λ k h. differs _ wanted (before k h)) (λ h. same _ wanted (here h)))
-  where
-    same : (a b : ℕ) → a ≡ b → eqb a b ≡ true
-    same a b e = grind arith
-
-    differs : (a b : ℕ) → a ≢ b → eqb a b ≡ false
-    differs a b ne = grind arith
+    sym (position_or_len_is (λ b. eqb b wanted) text i 0 within (λ k h. ne_eqb _ wanted (before k h)) (λ h. eq-eqb _ wanted (here h)))
 
 one_more : (n : ℕ) → 1 + n ≡ suc n
 one_more n = omega arith

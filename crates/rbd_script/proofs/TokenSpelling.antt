@@ -2,7 +2,7 @@
 use Rattle.std.proofs.Common.{◌≡◌, ◌≢◌, ℕ, ◌+◌, ◌<◌, ◌≤◌, ◌^◌, ◌&&◌, ◌||◌, not, cond, suc, zero, Bool, true, false, eqb, List, [], ◌∷◌, ◌++◌, length, get_or, drop, Option, Some, None, Result, Ok, Err, refl, sym, ap, ◌∙◌, subst, arith, length-drop}
 use Rattle.std.specs.Prelude.{nat_le, decimal, slice_index, IfSome}
 use Rattle.std.specs.List.{list_all, list_any, before_first, after_first, position_or_len}
-use Rattle.std.proofs.lemmas.Bool.{and_parts, eqb-true, not-false}
+use Rattle.std.proofs.lemmas.Bool.{and_parts, eqb-true, le-leb, leb-true, not-false}
 use Rattle.std.proofs.lemmas.Bool.Decides.{nat_tests}
 use Rattle.std.proofs.lemmas.Fmt.{decimal_nonempty, digits_decimal, digits_value-decimal, first_decimal, decimal_digit, decimal-digits_value}
 use Rattle.std.proofs.lemmas.List.Sums.{split_at_first, prefix_len_stops}
@@ -22,12 +22,6 @@ pub if_ok : {A E : Type 0} (b : Bool) (x y : A) (e : E) → ◌≡◌ {A = Resul
 if_ok {E = E} true x y e is = (refl, ok_is {E = E} x y is)
 if_ok false x y e is = cc
 
-pub le_true : (n m : ℕ) → n ≤ m → nat_le n m ≡ true
-le_true n m le = grind (arith, nat_tests)
-
-pub true_le : (n m : ℕ) → nat_le n m ≡ true → n ≤ m
-true_le n m is = grind (arith, nat_tests)
-
 -- names
 other_byte : (a b : ℕ) → a ≢ b → not (eqb a b) ≡ true
 other_byte a b ne = grind (arith, nat_tests)
@@ -37,7 +31,7 @@ byte_other a b is = grind (arith, nat_tests)
 
 name_told : (t : List ℕ) → IsAskedName t → is_asked_name t ≡ true
 name_told t n =
-    rw (le_true 1 (length t) n.name.some, le_true (length t) 64 n.name.few, n.name.bytes, other_byte (slice_index t 0) 46 n.first_not_dot, other_byte (slice_index t 0) 45 n.first_not_dash) refl
+    rw (le-leb 1 (length t) n.name.some, le-leb (length t) 64 n.name.few, n.name.bytes, other_byte (slice_index t 0) 46 n.first_not_dot, other_byte (slice_index t 0) 45 n.first_not_dash) refl
 
 told_name : (t : List ℕ) → is_asked_name t ≡ true → IsAskedName t
 told_name t is =
@@ -47,8 +41,8 @@ told_name t is =
     let lengths = and_parts (nat_le 1 (length t)) (nat_le (length t) 64) bytes.0 in
     record {
       name = record {
-        some = true_le 1 (length t) lengths.0;
-        few = true_le (length t) 64 lengths.1;
+        some = leb-true 1 (length t) lengths.0;
+        few = leb-true (length t) 64 lengths.1;
         bytes = bytes.1;
       };
       first_not_dot = byte_other (slice_index t 0) 46 dot.1;
@@ -168,12 +162,12 @@ above_other b above = grind (arith, nat_tests)
 numeral_told : (n : ℕ) → n < 2 ^ 64 → is_numeral (decimal n) ≡ true
 numeral_told zero small = rw (decimal_digit 0 (omega arith)) refl
 numeral_told (suc k) small =
-    rw (le_true 1 (length (decimal (suc k))) (decimal_nonempty (suc k) small), digits_decimal digits (suc k) small)
+    rw (le-leb 1 (length (decimal (suc k))) (decimal_nonempty (suc k) small), digits_decimal digits (suc k) small)
     (or_true (nat_le (length (decimal (suc k))) 1) (not (eqb (slice_index (decimal (suc k)) 0) 48)) (above_other (slice_index (decimal (suc k)) 0) (first_decimal (suc k) (omega arith) small)))
 
 pub number_read : (least most n : ℕ) → least ≤ n → n ≤ most → n < 2 ^ 64 → number_between least most (decimal n) ≡ Ok n
 unfolding number_between
-number_read least most n low high small = rw (digits_value-decimal digits n small, numeral_told n small, le_true least n low, le_true n most high) refl
+number_read least most n low high small = rw (digits_value-decimal digits n small, numeral_told n small, le-leb least n low, le-leb n most high) refl
 
 first_alone : (long b : ℕ) → nat_le long 1 || not (eqb b 48) ≡ true → 1 ≤ long → b ≡ 48 → long ≡ 1
 first_alone long b is some first = grind (arith, nat_tests)
@@ -187,8 +181,8 @@ number_said least most n t small is =
     let low = and_parts (is_numeral t) (nat_le least v) high.0 in
     let parts = numeral_parts t low.0 in
     let alone = and_parts (nat_le 1 (length t) && list_all is_digit t) (nat_le (length t) 1 || not (eqb (slice_index t 0) 48)) low.0 in
-    let at_most : v ≤ most = true_le v most high.1 in
-    let at_least : least ≤ v = true_le least v low.1 in (
+    let at_most : v ≤ most = leb-true v most high.1 in
+    let at_least : least ≤ v = leb-true least v low.1 in (
       sym (decimal-digits_value digits t parts.1 parts.0 (first_alone (length t) (slice_index t 0) alone.1 parts.0) (omega arith)) ∙ ap decimal told.1,
       subst (λ x. least ≤ x) told.1 at_least,
       subst (λ x. x ≤ most) told.1 at_most,

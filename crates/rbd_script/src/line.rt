@@ -10,6 +10,7 @@ use crate::schedule::schedule_of;
 use crate::script::{Declared, Line, Said, Script, Sessions};
 use crate::tokens::Tokens;
 use crate::word::is;
+use rbd_kinds::Shared;
 use std::alloc::Global;
 
 impl Script {
@@ -95,7 +96,8 @@ fn request_of(sessions: &Sessions, beside: bool, mut tokens: Tokens<'_>) -> Resu
     ensures { Gives result (request_in sessions.now beside (tokens_of tokens.entry.rest.now)) }
 {
     let session = tokens.session(sessions)?;
-    let command = command_of(tokens)?;
+    let alloc = tokens.alloc();
+    let command = Shared::new(alloc, command_of(tokens)?)?;
     Ok(Said::Command {
         session,
         beside,

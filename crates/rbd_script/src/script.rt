@@ -1,5 +1,5 @@
 //! What a script says.
-use rbd_kinds::{Command, Growing, ImageId, Name, Number, OpKind, SessionNo, SiteId, Slot};
+use rbd_kinds::{Command, Growing, ImageId, Name, Number, OpKind, SessionNo, Shared, SiteId, Slot};
 
 /// A script: the sessions that it declares, and its lines.
 #[derive(Debug, Drop)]
@@ -39,7 +39,7 @@ pub enum Said {
     Command {
         session: SessionNo,
         beside: bool,
-        command: Command,
+        command: Shared<Command>,
     },
     /// Polls a slot so many times.
     Poll {

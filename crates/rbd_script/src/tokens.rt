@@ -37,6 +37,11 @@ impl<'a> Tokens<'a> {
         Tokens { alloc, rest: line }
     }
 
+    /// Where memory for what they say is taken.
+    pub fn alloc(&self) -> Global {
+        self.alloc
+    }
+
     /// The next token, or `None` where none is left.
     pub fn take(&mut self) -> Option<&'a [u8]>
         ensures token { MatchOption result (tokens_of self.old.rest.now ≡ []) (λ token. tokens_of self.old.rest.now ≡ token.now ∷ tokens_of self.new.rest.now) }

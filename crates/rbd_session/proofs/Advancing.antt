@@ -31,13 +31,13 @@ use Rattle.rbd_session.proofs.Fairness.{passed_by_fair, answered_by_fair, ended_
 use Rattle.rbd_session.proofs.Going.{IsGoing, begins_going, goes_past, stops_at_operation, ends_there}
 use Rattle.rbd_session.proofs.Others.{answered_leaves, passed_leaves, ended_leaves, left_elsewhere}
 
--- ---- its own look
+-- ---- its look under the lock
 
 own_waits : (site : SiteId) (image : ℕ) (place : _) → is_own_at site image place ≡ true → is_at_own place ≡ true
 own_waits site image None own = own
 own_waits site image (Some p) own = (and_parts (is_at site image p.site p.image) (is_waiting p.stage) own).1
 
--- who doesn't wait may go past its own look
+-- who doesn't wait may go past its look under the lock
 pub own_may_pass : (slot : ℕ) (t : Track) → waits slot t ≡ false → (site : SiteId) (image : ℕ) → is_own_at site image (course_of slot t).place ≡ true → may_pass slot (line_in t.place t.lines) ≡ true
 own_may_pass slot t goes site image own = go (may_pass slot (line_in t.place t.lines)) refl
   where
@@ -47,7 +47,7 @@ own_may_pass slot t goes site image own = go (may_pass slot (line_in t.place t.l
         let held : awaits_line slot t ≡ true = rw (own_waits site image (course_of slot t).place own) (ap not is) in
         let clash : true ≡ false = sym held ∙ (or_parts (awaits_line slot t) (awaits_turn slot t) goes).0 in cc
 
--- what it is fed changes its track as its own look does, if it was that
+-- what it is fed changes its track as its look under the lock does, if it was that
 pub looked_is_fed : (slot : ℕ) (e : Option Extent) (t : Track) (plan : Plan) (f : Fed) → looked_at slot (looked_for slot e t plan f) t ≡ fed_by slot e t plan f
 looked_is_fed slot e t (Ask site why (op.Header image header.Get) next) (fed.Answer (answer.Header h)) = go (is_own_at site image (course_of slot t).place)
   where

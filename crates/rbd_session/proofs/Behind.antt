@@ -38,11 +38,11 @@ none_past_changed f keeps keeps_past slot members =
 
 -- ---- in a fair line
 
--- who isn't past own holds no ticket
+-- who isn't past its look under the lock holds no ticket
 pub holds_none : (slot : ℕ) (members : List Member) (m : Member) → IsFairLine members → member_of slot members ≡ Some m → is_past m.stage ≡ false → m.objects ≡ []
 holds_none slot members m fair is not_past = none_yet members m fair (at_own_slot slot members m is) not_past
 
--- behind who isn't past own nobody is
+-- behind who isn't past its look under the lock nobody is
 pub none_past_after : (slot : ℕ) (members : List Member) (m : Member) → IsFairLine members → member_of slot members ≡ Some m → is_past m.stage ≡ false
     → none_past_behind slot (changed slot passed members) ≡ true
 none_past_after slot members m fair is not_past =

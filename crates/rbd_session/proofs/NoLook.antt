@@ -1,4 +1,4 @@
--- Who doesn't stand at its own look doesn't, whether it waits or not.
+-- Who doesn't stand at its look under the lock doesn't, whether it waits or not.
 use Rattle.std.proofs.Common.{◌≡◌, ℕ, Bool, true, false, Option, Some, None, refl, sym, ap, ◌∙◌, cond}
 use Rattle.rbd_machine.specs.Plan.{Standing}
 use Rattle.rbd_session.specs.Advance.{track_of}

@@ -1,4 +1,4 @@
--- Whose own look a request stands at, and who goes past own.
+-- Whose look under the lock a request stands at, and who goes past its look under the lock.
 use Rattle.std.proofs.Common.{◌≡◌, ◌≢◌, ◌⊎◌, inl, inr, ℕ, ◌==◌, ◌&&◌, ◌||◌, cond, not, Bool, true, false, List, [], ◌∷◌, ◌++◌, Option, Some, None, refl, sym, ap, ◌∙◌, subst}
 use Rattle.std.proofs.lemmas.Bool.{true≢false, cases_eq, and_parts}
 use Rattle.std.specs.Option.{option_map}
@@ -45,7 +45,7 @@ use Rattle.rbd_session.proofs.Way.{held_past, done_past}
 abbrev stage_of : Option Member → Option Stage
 stage_of o = option_map (λ (m : Member). m.stage) o
 
--- ---- who stands at an own look
+-- ---- who stands at a look under the lock
 
 may_of : (may lacks : Bool) → (not may || lacks) ≡ false → may ≡ true
 may_of true lacks is = refl
@@ -92,13 +92,13 @@ module _ {R : Type 0} (stands : R → Standing) where
       by (Some (occupant.Refused line refusal)) is at = absurd (none-some p at)
       by (Some (occupant.Running r)) is at = going r (ap running_in is) (waits slot (track_of r s.lines)) refl at
 
--- ---- who goes past own
+-- ---- who goes past its look under the lock
 
--- whether a slot is past own in the line of an image
+-- whether a slot is past its look under the lock in the line of an image
 abbrev past_at : (slot : ℕ) → Lines → SiteId → (image : ℕ) → Bool
 past_at slot lines site image = is_past_in (member_of slot (lines site image))
 
--- a change that takes a slot past own nowhere
+-- a change that takes a slot past its look under the lock nowhere
 abbrev TakesNotPast : (slot : ℕ) → (List Member → List Member) → Type 0
 TakesNotPast slot change = (members : List Member) → is_past_in (member_of slot (change members)) ≡ true → is_past_in (member_of slot members) ≡ true
 
@@ -157,7 +157,7 @@ run_past slot (Note at of event next) t site image past = noted_past slot t site
 run_past slot (Return reply) t site image past = past
 run_past slot (Goto label) t site image past = past
 
--- it waits for its own look in the line of an image, and looks at a header of that site
+-- it waits for its look under the lock in the line of an image, and looks at a header of that site
 record LooksAt (slot : ℕ) (t : Track) (plan : Plan) (p : ImageAt) : Type 0 where
   pub place : t.place ≡ Some p
   pub looks : is_look_at p.site (kind_asked plan) ≡ true
@@ -171,7 +171,7 @@ own_waits site image turn due p (Some m) own =
     let at = and_parts (same_site p.site site) (p.image == image) parts.0 in
     (at.0, parts.1)
 
--- an answer takes it past own only at its own look
+-- an answer takes it past its look under the lock only at its look under the lock
 answered_past : (slot : ℕ) (e : Option Extent) (t : Track) (at : SiteId) (why : Reason) (o : Op) (next : Answer → Plan) (a : Answer) (site : SiteId) (image : ℕ)
     → past_at slot (answered_by slot e t at o a).lines site image ≡ true → (past_at slot t.lines site image ≡ true) ⊎ LooksAt slot t (Ask at why o next) (image_at site image)
 answered_past slot e t at why (op.Header of header.Get) next (answer.Header h) site image past = by (is_own_at at of (course_of slot t).place) refl past

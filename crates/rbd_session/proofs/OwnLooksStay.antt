@@ -1,4 +1,4 @@
--- The own look that a request stands at stays its own, whatever others do.
+-- The look under the lock that a request stands at stays its own, whatever others do.
 use Rattle.std.proofs.Common.{◌≡◌, ◌≢◌, ℕ, ◌&&◌, ◌||◌, cond, not, Bool, true, false, List, [], ◌∷◌, ◌++◌, Option, Some, None, refl, sym, ap, ◌∙◌}
 use Rattle.std.proofs.lemmas.Bool.{true≢false}
 use Rattle.std.specs.Option.{option_map}
@@ -98,7 +98,7 @@ no_more true = refl
 no_more false = refl
 
 module _ {R : Type 0} (stands : R → Standing) (s new : SessionView R) (sound : IsSoundSession stands s) (slot : ℕ) (p : ImageAt) (a : IsAtOwnLook slot p s) where
-  -- who isn't past own holds no ticket, and has no turn
+  -- who isn't past its look under the lock holds no ticket, and has no turn
   no_turn : (turn : Option ℕ) → a.running.turn ≡ turn → (members : List Member) → lacks_turn slot turn members ≡ false
   no_turn None is members = refl
   no_turn (Some object) is members =
@@ -124,7 +124,7 @@ module _ {R : Type 0} (stands : R → Standing) (s new : SessionView R) (sound :
 
 -- ---- others let it pass
 
--- a change behind which a slot may still go past own
+-- a change behind which a slot may still go past its look under the lock
 abbrev KeepsMay : (slot : ℕ) → (List Member → List Member) → Type 0
 KeepsMay slot change = (members : List Member) → may_pass slot members ≡ true → may_pass slot (change members) ≡ true
 

@@ -2,7 +2,7 @@
 use Rattle.std.proofs.Common.{◌≡◌, ◌⊎◌, inl, inr, ℕ, cond, not, Bool, true, false, List, [], ◌∷◌, ◌++◌, drop, Option, Some, None, refl, sym, ap, ◌∙◌, subst}
 use Rattle.rbd_kinds.specs.Sharing.{is_alone}
 use Rattle.rbd_kinds.specs.declared.sharing.Sharing.{Sharing}
-use Rattle.rbd_course.specs.Course.{Place, waited, noted, looked, behind, is_own_at, is_waiting, due_of, objects_asked, held_stage}
+use Rattle.rbd_course.specs.Course.{Place, waited, noted, looked, behind, is_own_at, is_waiting, due_of, objects_asked}
 use Rattle.rbd_course.specs.Orderly.{BeginsWith, IsInLine, IsOrderlyFrom, MayWait}
 use Rattle.rbd_course.specs.declared.stage.Stage.{Stage}
 use Rattle.rbd_course.specs.declared.stage.Stage.TheVariants as stage
@@ -20,6 +20,7 @@ use Rattle.rbd_kinds.specs.declared.operation.Op.{Op}
 use Rattle.rbd_kinds.specs.declared.operation.Op.TheVariants as op
 use Rattle.rbd_line.specs.Line.{Member, member_of, changed, joined, held, passed, is_past, none_past_behind, comes_next, objects_of, objects_in}
 use Rattle.rbd_line.specs.Turns.{begins_with}
+use Rattle.rbd_line.proofs.Fair.{stays_past}
 use Rattle.std.proofs.lemmas.Bool.{eq-eqb, and_parts}
 use Rattle.std.proofs.lemmas.Option.{same_Some}
 use Rattle.rbd_machine.specs.Answers.{CanGive}
@@ -61,12 +62,7 @@ line_there slot p m t there =
 -- ---- its tickets
 
 pub held_past : KeepsPast held
-held_past m = go m.stage
-  where
-    go : (s : Stage) → is_past (held_stage s) ≡ is_past s
-    go stage.Joined = refl
-    go stage.Waiting = refl
-    go stage.Past = refl
+held_past m = stays_past m.stage
 
 pub done_past : (turn : Option ℕ) → KeepsPast (done_with turn)
 done_past None m = refl

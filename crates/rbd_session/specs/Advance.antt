@@ -56,7 +56,7 @@ pub record IsSameStand {R : Type 0} (stands : R → Standing) (old new : Running
   pub place : new.place ≡ old.place
   pub turn : new.turn ≡ old.turn
 
--- ---- its own look
+-- ---- its look under the lock
 
 -- the image whose header an operation looks at
 abbrev pub image_looked_at : Op → Option ℕ
@@ -68,13 +68,14 @@ abbrev pub look_of : Plan → Option (SiteId × ℕ)
 look_of (Ask site why o next) = option_map (λ image. (site, image)) (image_looked_at o)
 look_of plan = None
 
--- the objects that it is due to take tickets for, where it is fed the answer to its own look
+-- the objects that it is due to take tickets for, where it is fed the answer to its look under the
+-- lock
 abbrev pub looked_for : (slot : ℕ) → Option Extent → Track → Plan → Fed → Option (List ℕ)
 looked_for slot e t (Ask site why (op.Header image header.Get) next) (fed.Answer (answer.Header h)) =
     if is_own_at site image (course_of slot t).place then Some (due_of (course_of slot t).place (objects_asked h e)) else None
 looked_for slot e t plan f = None
 
--- once it is past its own look it is due to take tickets for these
+-- once it is past its look under the lock it is due to take tickets for these
 abbrev pub looked_at : (slot : ℕ) → Option (List ℕ) → Track → Track
 looked_at slot None t = t
 looked_at slot (Some objects) t = record t { due = objects; lines = changed_at t.place (changed slot passed) t.lines }

@@ -70,7 +70,8 @@ abbrev pub CanOpen : LinesView → Type 0
 CanOpen l = IsEmptyLine l.unused × (0 < l.room)
 
 -- A slot may take tickets for these objects: there is room, and it takes none, or goes beside
--- others and is past own, has none yet, and nobody behind it is past own.
+-- others and is past its look under the lock, has none yet, and nobody behind it is past its look
+-- under the lock.
 pub record MayEnter (slot : ℕ) (objects : List ℕ) (members : List Member) : Type 0 where
   pub member : may_enter slot members ≡ true
   pub last : none_past_behind slot members ≡ true

@@ -27,7 +27,8 @@ is_here (Some p) site image = is_at p.site p.image site image
 abbrev pub IsNowhereElse : (slot : ℕ) → Option ImageAt → Lines → Type 0
 IsNowhereElse slot place lines = (site : SiteId) (image : ℕ) → is_here place site image ≡ false → member_of slot (lines site image) ≡ None
 
--- It may take its tickets: it goes beside others, has none yet, and nobody behind it is past own.
+-- It may take its tickets: it goes beside others, has none yet, and nobody behind it is past its
+-- look under the lock.
 pub record MayTake (slot : ℕ) (t : Track) : Type 0 where
   pub place : ImageAt
   pub member : Member

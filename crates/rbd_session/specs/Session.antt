@@ -131,15 +131,15 @@ kind_at stands slot s = of_going stands kind_asked (going_in slot (held_in slot 
 abbrev pub op_at : {R : Type 0} → (stands : R → Standing) → (slot : ℕ) → SessionView R → Option (SiteId × Op)
 op_at stands slot s = of_going stands op_asked (going_in slot (held_in slot s.slots) s.lines)
 
--- ---- at whose own look the request in a slot stands
+-- ---- at whose look under the lock the request in a slot stands
 
 -- it wants a look at a header of the site
 abbrev pub is_look_at : SiteId → Option (SiteId × OpKind) → Bool
 is_look_at site (Some (at, kind.HeaderGet)) = same_site site at
 is_look_at site wanted = false
 
--- It is in the image's line and waits for its own look there, and the operation that it wants is a
--- look at a header of the image's site.
+-- It is in the image's line and waits for its look under the lock there, and the operation that it
+-- wants is a look at a header of the image's site.
 abbrev pub own_look_of : (slot : ℕ) → Option (SiteId × OpKind) → Option ImageAt → LinesView → Option ImageAt
 own_look_of slot wanted None lines = None
 own_look_of slot wanted (Some p) lines = if is_look_at p.site wanted && waits_at (option_map (λ (m : Member). m.stage) (member_of slot (lines_of lines p.site p.image))) then Some p else None
@@ -148,12 +148,12 @@ abbrev pub own_look_in : {R : Type 0} → (stands : R → Standing) → (slot : 
 own_look_in stands slot lines None = None
 own_look_in stands slot lines (Some r) = own_look_of slot (kind_asked (stands r.request).plan) r.place lines
 
--- the image at whose own look the request in a slot stands, where it may go on
+-- the image at whose look under the lock the request in a slot stands, where it may go on
 abbrev pub own_look_at : {R : Type 0} → (stands : R → Standing) → (slot : ℕ) → SessionView R → Option ImageAt
 own_look_at stands slot s = own_look_in stands slot s.lines (going_in slot (held_in slot s.slots) s.lines)
 
--- The request that runs in a slot is in the line of an image, waits there for its own look, and may
--- go past it.
+-- The request that runs in a slot is in the line of an image, waits there for its look under the
+-- lock, and may go past it.
 pub record IsAtOwnLook {R : Type 0} (slot : ℕ) (p : ImageAt) (s : SessionView R) : Type 0 where
   pub running : Running R
   pub member : Member

@@ -84,7 +84,8 @@ waited_by slot t (wait.Leave site image) = record { place = None; turn = None; d
 abbrev pub noted_by : (slot : ℕ) → Track → Track
 noted_by slot t = record t { due = []; lines = changed_at t.place (changed slot (given t.due)) t.lines }
 
--- its own look was answered: it is past own, and who goes beside others is due to take its tickets
+-- its look under the lock was answered: it is past its look under the lock, and who goes beside
+-- others is due to take its tickets
 abbrev pub looked_by : (slot : ℕ) → Option Extent → HeaderView → Track → Track
 looked_by slot e h t = record t { due = due_of (course_of slot t).place (objects_asked h e); lines = changed_at t.place (changed slot passed) t.lines }
 

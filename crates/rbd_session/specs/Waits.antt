@@ -9,7 +9,7 @@ abbrev pub is_at_own : Option Place → Bool
 is_at_own None = false
 is_at_own (Some p) = is_waiting p.stage
 
--- the line holds it back from its own look
+-- the line holds it back from its look under the lock
 abbrev pub awaits_line : (slot : ℕ) → Track → Bool
 awaits_line slot t = is_at_own (course_of slot t).place && not (may_pass slot (line_in t.place t.lines))
 

@@ -64,8 +64,8 @@ fn beside_operation(want: Want) -> Option<Want>
     }
 }
 
-/// The request goes past its own look, where that was answered: the objects that it is due to take
-/// tickets for.
+/// The request goes past its look under the lock, where that was answered: the objects that it is
+/// due to take tickets for.
 fn look<R>(running: &mut Running<R>, lines: &mut Lines, slot: Slot) -> Option<Sequence<u64>>
     requires { IsSome running.old.looked → IsTrue (may_pass slot (members_of running.old.place lines.old)) }
     ensures track { track_with result running.new lines.new ≡ looked_at slot running.old.looked (track_of running.old lines.old) }

@@ -17,8 +17,8 @@ ghost use Rattle.rbd_session.specs.declared.running.Running.{Running};
 
 use rbd_course::Request;
 
-/// While a request that is alone is past its own look, no other request of the image is: nothing
-/// else of this client changes the image beside it.
+/// While a request that is alone is past its look under the lock, no other request of the image is:
+/// nothing else of this client changes the image beside it.
 pub fn alone_is_alone<R: Request>()
     ensures { (s : SessionView R) (site : Site) (image : ℕ) (one other : Member)
         → IsSoundSession R.stands s
@@ -26,9 +26,10 @@ pub fn alone_is_alone<R: Request>()
         → one.slot ≢ other.slot → IsTrue (is_alone one.sharing) → IsTrue (is_past one.stage) → IsFalse (is_past other.stage) }
 {}
 
-/// Two requests of an image that don't go together aren't past their own looks at once, and the
-/// later one waits at its own look for the end of the earlier: a discard for that of each flatten
-/// ahead of it, a flatten for that of each discard and flatten. Nobody asks for its operation.
+/// Two requests of an image that don't go together aren't past their looks under the lock at once,
+/// and the later one waits at its look under the lock for the end of the earlier: a discard for
+/// that of each flatten ahead of it, a flatten for that of each discard and flatten. Nobody asks
+/// for its operation.
 pub fn who_doesnt_go_together_waits<R: Request>()
     ensures past { (s : SessionView R) (site : Site) (image : ℕ) (one other : Member)
         → IsSoundSession R.stands s
@@ -71,13 +72,15 @@ pub fn members_run<R: Request>()
         → (r : Running R) × (running_at slot s ≡ Some r) × (r.place ≡ Some (record { site = site; image = image })) }
 {}
 
-/// Who stands at its own look is in that image's line, waits there for it, and may go past it.
+/// Who stands at its look under the lock is in that image's line, waits there for it, and may go
+/// past it.
 pub fn own_looks_are_in_line<R: Request>()
     ensures { (s : SessionView R) (slot : ℕ) (p : ImageAt) → own_look_at R.stands slot s ≡ Some p → IsAtOwnLook slot p s }
 {}
 
-/// A feeding takes nobody past own but the request that is fed, and that one only at its own look.
-/// Whoever else is past own behind it was past own before.
+/// A feeding takes nobody past its look under the lock but the request that is fed, and that one
+/// only at its look under the lock. Whoever else is past its look under the lock behind it was past
+/// its look under the lock before.
 pub fn passing_comes_by_own_looks<R: Request>()
     ensures { (s new : SessionView R) (slot : ℕ) (f : Fed) (reply : Option Reply)
         → IsReadied R.stands R.is_ready slot f s → IsFed R.stands slot f reply s new
@@ -87,9 +90,9 @@ pub fn passing_comes_by_own_looks<R: Request>()
         ⊎ ((k ≡ slot) × (own_look_at R.stands slot s ≡ Some (record { site = site; image = image }))) }
 {}
 
-/// What other slots do leaves a request at the own look at which it stands, be it that it waits
-/// there. Where one of them is fed or given up, who could go on there still may. To make a request
-/// ready changes nothing of this.
+/// What other slots do leaves a request at the look under the lock at which it stands, be it that
+/// it waits there. Where one of them is fed or given up, who could go on there still may. To make a
+/// request ready changes nothing of this.
 pub fn own_looks_stay<R: Request>()
     ensures stands { (s new : SessionView R) (slot other : ℕ) → slot ≢ other
         → held_in slot new.slots ≡ held_in slot s.slots → LeavesOthers other (lines_of s.lines) (lines_of new.lines)

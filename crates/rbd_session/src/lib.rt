@@ -16,26 +16,27 @@
 //! # Rules
 //!
 //! A request that changes an image *joins* the image's line at the answer by which it found it,
-//! alone or beside others. It looks at the header, and then *waits for its own look*: the look
-//! under the lock. Until that look is answered it is asked anew, at each look at the slot, whether
-//! it may go on.
+//! alone or beside others. It looks at the header, and then *waits for its look under the lock*:
+//! the look under the lock. Until that look is answered it is asked anew, at each look at the slot,
+//! whether it may go on.
 //!
-//! | a request | may go past its own look when |
+//! | a request | may go past its look under the lock when |
 //! |---|---|
-//! | beside others (`write`, `fill`) | each one ahead of it is past its own look, and none is alone |
+//! | beside others (`write`, `fill`) | each one ahead of it is past its look under the lock, and none is alone |
 //! | a `discard` | the same, and no `flatten` is ahead of it (there is no such command yet) |
 //! | alone (`snap create`, `snap rm`) | nobody is ahead of it |
 //!
-//! - So nobody is past own beside one that is alone and past own. Who has ended is in no line.
-//! - With its own look answered a request beside others takes a ticket for each object that it
-//!   changes, ascending: those of its extent by the layout that this look told. It does the piece
-//!   of an object only while nobody ahead of it in the line has a ticket there. The ticket goes at
-//!   the end of the piece, which is where the request next wants a turn, or that its event counts
-//!   as applied; with the end of the request all its tickets go. So writes change each object in
-//!   the order in which they joined.
+//! - So nobody is past its look under the lock beside one that is alone and past its look under the
+//!   lock. Who has ended is in no line.
+//! - With its look under the lock answered a request beside others takes a ticket for each object
+//!   that it changes, ascending: those of its extent by the layout that this look told. It does the
+//!   piece of an object only while nobody ahead of it in the line has a ticket there. The ticket
+//!   goes at the end of the piece, which is where the request next wants a turn, or that its event
+//!   counts as applied; with the end of the request all its tickets go. So writes change each
+//!   object in the order in which they joined.
 //! - A look, a listing and a `create` join no line and never wait.
 //! - A request that is given up leaves its line wherever it stands, and all its tickets go. An
-//!   image is at rest while no request of it is past own.
+//!   image is at rest while no request of it is past its look under the lock.
 //! - What a request wants beside operations it has at once: no image has a journal yet, so an
 //!   event's note and its being applied take no step, and a session counts as having every lock.
 //!
@@ -54,11 +55,11 @@
 //! | `specs/Lines.antt` | the lines of all images, by image |
 //! | `specs/OnTrack.antt` | what holds of each request on its way |
 //! | `specs/Advance.antt` | what is ready before a feeding (`IsFedWell`), and what comes of it (`ComesTo`) |
-//! | `specs/Session.antt` | the record, what holds of each session (`IsSoundSession`), at whose own look a slot stands (`own_look_at`), and the clauses of its calls |
+//! | `specs/Session.antt` | the record, what holds of each session (`IsSoundSession`), at whose look under the lock a slot stands (`own_look_at`), and the clauses of its calls |
 //!
-//! [`laws`] says who is past own beside whom and whose piece waits, and that the first of a line
-//! never does. It says who stands at its own look too: nobody else goes past own when it is fed,
-//! and what others do leaves it there.
+//! [`laws`] says who is past its look under the lock beside whom and whose piece waits, and that
+//! the first of a line never does. It says who stands at its look under the lock too: nobody else
+//! goes past its look under the lock when it is fed, and what others do leaves it there.
 //!
 //! # Cost
 //!

@@ -17,7 +17,7 @@ use std::marker::Model;
 
 // ---- one table of lines by key
 
-/// The request in a slot waits for its own look.
+/// The request in a slot waits for its look under the lock.
 fn hold_in(lines: &mut HashMap<u64, Line>, key: u64, slot: Slot)
     ensures members { (k : ℕ) → members_in lines.new k ≡ cond (nat_eq key k) (changed slot held (members_in lines.old k)) (members_in lines.old k) }
     ensures room { (k : ℕ) → room_in lines.new k ≡ room_in lines.old k }
@@ -41,7 +41,7 @@ fn end_piece_in(lines: &mut HashMap<u64, Line>, key: u64, slot: Slot)
     line.end_piece(slot);
 }
 
-/// The request in a slot goes past its own look.
+/// The request in a slot goes past its look under the lock.
 fn pass_in(lines: &mut HashMap<u64, Line>, key: u64, slot: Slot)
     requires { IsTrue (may_pass slot (members_in lines.old key)) }
     ensures members { (k : ℕ) → members_in lines.new k ≡ cond (nat_eq key k) (changed slot passed (members_in lines.old k)) (members_in lines.old k) }
@@ -251,7 +251,7 @@ impl Lines {
         add(&mut self.lines, key, line);
     }
 
-    /// A request waits for its own look, in the line that it is in.
+    /// A request waits for its look under the lock, in the line that it is in.
     pub fn hold(&mut self, place: Option<ImageAt>, slot: Slot)
         ensures lines { (key : ℕ) → members_at key self.new ≡ cond (is_key place key) (changed slot held (members_at key self.old)) (members_at key self.old) }
         ensures room { (key : ℕ) → room_at key self.old ≤ room_at key self.new }
@@ -263,7 +263,7 @@ impl Lines {
         hold_in(&mut self.lines, place.key(), slot);
     }
 
-    /// A request goes past its own look.
+    /// A request goes past its look under the lock.
     pub fn pass(&mut self, place: Option<ImageAt>, slot: Slot)
         requires { IsTrue (may_pass slot (members_of place self.old)) }
         ensures lines { (key : ℕ) → members_at key self.new ≡ cond (is_key place key) (changed slot passed (members_at key self.old)) (members_at key self.old) }
@@ -313,7 +313,7 @@ impl Lines {
         forget_empty(&mut self.lines, &mut self.unused, key);
     }
 
-    /// Whether a request may go past its own look.
+    /// Whether a request may go past its look under the lock.
     pub fn may_pass(&self, place: Option<ImageAt>, slot: Slot) -> bool
         ensures { result ≡ may_pass slot (members_of place self.now) }
     {
@@ -323,7 +323,7 @@ impl Lines {
         }
     }
 
-    /// Whether a request of an image is past its own look.
+    /// Whether a request of an image is past its look under the lock.
     pub fn is_any_past(&self, place: &ImageAt) -> bool
         ensures { result ≡ any_past (lines_of self.now place.now.site place.now.image) }
     {

@@ -1,4 +1,4 @@
-//! The answer to a request's own look: the objects that it then takes tickets for.
+//! The answer to a request's look under the lock: the objects that it then takes tickets for.
 ghost use Rattle.std.specs.Prelude.{◌≡◌, true, IfOk};
 ghost use Rattle.rbd_course.specs.Course.{objects_of as objects_of_pieces, objects_asked as asked};
 ghost use Rattle.rbd_kinds.specs.Extents.{fits};

@@ -1,5 +1,5 @@
 //! What a request needs before it is fed: all memory, and the objects that it is due where it is at
-//! its own look.
+//! its look under the lock.
 ghost use Rattle.std.specs.Prelude.{◌≡◌, ℕ, ◌≤◌, length, IfOk, OnOk};
 ghost use Rattle.rbd_course.specs.Course.{is_own_at, due_of, objects_asked as asked};
 ghost use Rattle.rbd_kinds.specs.Form.{IsHeaderInForm};
@@ -34,7 +34,7 @@ fn is_own<R>(running: &Running<R>, lines: &Lines, slot: Slot, site: SiteId, imag
     is_at_own(lines.stage(running.place, slot))
 }
 
-/// Whether a stage is that of waiting for the own look.
+/// Whether a stage is that of waiting for the look under the lock.
 pub fn is_at_own(stage: Option<Stage>) -> bool
     ensures { result ≡ waits_at stage }
 {
@@ -61,8 +61,8 @@ fn header_looked_at<R: Request>(
     }
 }
 
-/// The objects that a request is due to take tickets for, by the header that its own look told:
-/// none where it is alone.
+/// The objects that a request is due to take tickets for, by the header that its look under the
+/// lock told: none where it is alone.
 fn due<R>(
     alloc: Global,
     header: &HeaderView,
@@ -79,7 +79,7 @@ fn due<R>(
     }
 }
 
-/// The same, where the request is fed the answer to its own look.
+/// The same, where the request is fed the answer to its look under the lock.
 fn due_behind<R: Request>(
     alloc: Global,
     running: &Running<R>,

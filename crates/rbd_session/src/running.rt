@@ -21,6 +21,7 @@ pub struct Running<R> {
     pub place: Option<ImageAt>,
     /// The object whose piece it does, or awaits its turn for.
     pub turn: Option<u64>,
-    /// Made ready for the answer to its own look: the objects that it then takes tickets for.
+    /// Made ready for the answer to its look under the lock: the objects that it then takes tickets
+    /// for.
     pub looked: Option<Sequence<u64>>,
 }

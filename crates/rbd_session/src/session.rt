@@ -147,10 +147,10 @@ impl<R: Request> Session<R> {
         }
     }
 
-    /// The image at whose own look the request in a slot stands, where it may go on: it waits for
-    /// that look in the image's line, and wants a look at a header of that site. `None` exactly
-    /// where the slot is free, waits, holds a request that is refused before any operation, or
-    /// stands elsewhere. It takes no memory.
+    /// The image at whose look under the lock the request in a slot stands, where it may go on: it
+    /// waits for that look in the image's line, and wants a look at a header of that site. `None`
+    /// exactly where the slot is free, waits, holds a request that is refused before any operation,
+    /// or stands elsewhere. It takes no memory.
     pub fn own_look(&self, slot: Slot) -> Option<ImageAt>
         ensures look { result ≡ own_look_at R.stands slot self.now }
         ensures sound { IsSoundSession R.stands self.now }
@@ -158,7 +158,7 @@ impl<R: Request> Session<R> {
         own_look(self.slots.as_slice(), &self.lines, slot)
     }
 
-    /// Whether no request of an image is past its own look (own). It takes no memory.
+    /// Whether no request of an image is past its look under the lock (own). It takes no memory.
     pub fn is_at_rest(&self, at: &ImageAt) -> bool
         ensures rest { result ≡ not (any_past (lines_of self.now.lines at.now.site at.now.image)) }
         ensures sound { IsSoundSession R.stands self.now }

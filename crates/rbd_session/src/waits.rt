@@ -9,7 +9,7 @@ use crate::prepare::is_at_own;
 use crate::running::Running;
 use rbd_kinds::Slot;
 
-/// Whether the line holds a request back from its own look.
+/// Whether the line holds a request back from its look under the lock.
 fn is_held_back<R>(running: &Running<R>, lines: &Lines, slot: Slot) -> bool
     ensures { result ≡ awaits_line slot (track_of running.now lines.now) }
 {
@@ -27,7 +27,7 @@ fn lacks_turn<R>(running: &Running<R>, lines: &Lines, slot: Slot) -> bool
     }
 }
 
-/// Whether a request waits: for its own look or for a turn.
+/// Whether a request waits: for its look under the lock or for a turn.
 pub fn is_waiting<R>(running: &Running<R>, lines: &Lines, slot: Slot) -> bool
     requires { HasNext slot (track_of running.now lines.now) }
     ensures { result ≡ is_held_up slot (track_of running.now lines.now) }

@@ -83,8 +83,8 @@ fn is_look_at(site: SiteId, wanted: Option<(SiteId, OpKind)>) -> bool
     }
 }
 
-/// The image at whose own look a request stands. Only one that wants a look at a header is looked up
-/// in a line.
+/// The image at whose look under the lock a request stands. Only one that wants a look at a header
+/// is looked up in a line.
 fn own_look_of<R: Request>(running: &Running<R>, lines: &Lines, slot: Slot) -> Option<ImageAt>
     requires { IsAsking (R.stands running.now.request).plan }
     ensures { result ≡ own_look_of slot (kind_asked (R.stands running.now.request).plan) running.now.place lines.now }
@@ -99,7 +99,7 @@ fn own_look_of<R: Request>(running: &Running<R>, lines: &Lines, slot: Slot) -> O
     Some(place)
 }
 
-/// The image at whose own look the request in a slot stands, where it doesn't wait.
+/// The image at whose look under the lock the request in a slot stands, where it doesn't wait.
 pub fn own_look<R: Request>(
     slots: &[Option<Occupant<R>>],
     lines: &Lines,

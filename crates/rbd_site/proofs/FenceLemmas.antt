@@ -33,7 +33,8 @@ use Rattle.rbd_site.specs.DataStep.{blank_answer, finds, parts_read}
 use Rattle.rbd_site.specs.DirectoryStep.{directory_answer, image_found, name_added, name_changed}
 use Rattle.rbd_site.specs.Found.{done_where}
 use Rattle.rbd_site.specs.HeaderStep.{header_answer, is_owner, lock_taken, snap_added}
-use Rattle.rbd_site.specs.MapStep.{map_answer, view_of}
+use Rattle.rbd_kinds.specs.Maps.{map_snap}
+use Rattle.rbd_site.specs.MapStep.{map_answer}
 use Rattle.rbd_site.specs.Records.{Records, or_blank}
 use Rattle.rbd_site.specs.Step.{is_fenced, answer_served, answer_to, after, after_served}
 use Rattle.rbd_site.proofs.StepLemmas.{other_blocklist, where_fenced}
@@ -125,7 +126,7 @@ serves r me (on.Children o) = children_serve r.children o
 serves r me (on.BlockAdd i) = refl
 serves r me (on.Header image o) = header_serves me (r.headers image) (r.watchers image) o
 serves r me (on.Data image number o) = data_serves (or_blank (r.objects image number)) o
-serves r me (on.Map image o) = map_serves (r.maps image (view_of o)) o
+serves r me (on.Map image o) = map_serves (r.maps image (map_snap o)) o
 serves r me (on.Journal image o) = refl
 
 pub refused_is_fenced : (r : Records) (me : Instance) (op : Op) → answer_to r me op ≡ answer.Fenced → IsTrue (is_fenced r me)

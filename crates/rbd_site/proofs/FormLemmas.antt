@@ -21,7 +21,8 @@ use Rattle.rbd_kinds.specs.declared.operation.Op.TheVariants as on
 use Rattle.rbd_kinds.specs.Instances.{same_instance}
 use Rattle.rbd_site.specs.Records.{Records, no_records, put}
 use Rattle.rbd_site.specs.InForm.{AreInForm, IsMapInForm}
-use Rattle.rbd_site.specs.MapStep.{map_after, view_of}
+use Rattle.rbd_kinds.specs.Maps.{map_snap}
+use Rattle.rbd_site.specs.MapStep.{map_after}
 use Rattle.rbd_site.specs.Log.{expired}
 use Rattle.rbd_site.specs.Step.{MayDo, MayServe, is_fenced, after, after_served}
 use Rattle.rbd_site.specs.WatchStep.{watchers_after}
@@ -217,8 +218,8 @@ form_served r me (on.Map image op) most held may = record {
   unwatched = held.unwatched;
   distinct = held.distinct;
   maps =
-      put_map_each (λ i v held. (states : List ℕ) → held ≡ Some states → IsMapInForm states) r.maps image (view_of op) (map_after (r.maps image (view_of op)) op)
-      (map_form_after (r.maps image (view_of op)) op (held.maps image (view_of op)) may) held.maps;
+      put_map_each (λ i v held. (states : List ℕ) → held ≡ Some states → IsMapInForm states) r.maps image (map_snap op) (map_after (r.maps image (map_snap op)) op)
+      (map_form_after (r.maps image (map_snap op)) op (held.maps image (map_snap op)) may) held.maps;
 }
 form_served r me (on.Journal image op) most held may = absurd may
 

@@ -29,7 +29,8 @@ use Rattle.rbd_site.specs.DirectoryStep.{directory_answer, directory_after, name
 use Rattle.rbd_site.specs.HeaderStep.{header_answer, header_after, is_owner, lock_taken, snap_added, where_made}
 use Rattle.rbd_site.specs.Laws.{is_block_add, is_change, is_on_children, is_on_directory, is_on_header, is_on_map, is_on_object}
 use Rattle.rbd_site.specs.InForm.{AreInForm}
-use Rattle.rbd_site.specs.MapStep.{AreBits, map_after, map_answer, states_told, view_of}
+use Rattle.rbd_kinds.specs.Maps.{map_snap}
+use Rattle.rbd_site.specs.MapStep.{AreBits, map_after, map_answer, states_told}
 use Rattle.rbd_site.specs.Records.{Records, or_blank, put, with_children, with_directory, with_watchers}
 use Rattle.rbd_site.specs.Step.{is_fenced, answer_to, answer_served, after, after_served}
 use Rattle.rbd_site.specs.WatchStep.{watchers_after}
@@ -92,7 +93,7 @@ pub other_object : (r : Records) (me : Instance) (op : Op) (image number : ℕ) 
 other_object r me op i n other = where_fenced (λ s. s.objects i n ≡ r.objects i n) r me op refl (served_object r me op i n other)
 
 served_map : (r : Records) (me : Instance) (op : Op) (image : ℕ) (view : Option ℕ) → IsFalse (is_on_map image view op) → (after_served r me op).maps image view ≡ r.maps image view
-served_map r me (on.Map image op) i v other = put_map_other r.maps image (view_of op) (map_after (r.maps image (view_of op)) op) i v other
+served_map r me (on.Map image op) i v other = put_map_other r.maps image (map_snap op) (map_after (r.maps image (map_snap op)) op) i v other
 served_map r me op i v other = refl
 
 pub other_map : (r : Records) (me : Instance) (op : Op) (image : ℕ) (view : Option ℕ) → IsFalse (is_on_map image view op) → (after r me op).maps image view ≡ r.maps image view
@@ -196,7 +197,7 @@ served_refused r me (on.Header image op) other =
 served_refused r me (on.Data image number op) other =
     with_object_same image number (data_after (r.objects image number) op) r (refused_object (r.objects image number) op other)
 served_refused r me (on.Map image op) other =
-    with_map_same image (view_of op) (map_after (r.maps image (view_of op)) op) r (refused_map (r.maps image (view_of op)) op other)
+    with_map_same image (map_snap op) (map_after (r.maps image (map_snap op)) op) r (refused_map (r.maps image (map_snap op)) op other)
 served_refused r me (on.Journal image op) other = refl
 
 pub refused : (r : Records) (me : Instance) (op : Op) → IsFalse (is_change (answer_to r me op)) → after r me op ≡ r

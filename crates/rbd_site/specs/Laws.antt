@@ -10,7 +10,7 @@ use Rattle.rbd_kinds.specs.declared.header_op.HeaderOp.TheVariants as header
 use Rattle.rbd_kinds.specs.declared.map_op.MapOp.TheVariants as states
 use Rattle.rbd_kinds.specs.declared.operation.Op.{Op}
 use Rattle.rbd_kinds.specs.declared.operation.Op.TheVariants as on
-use Rattle.rbd_site.specs.MapStep.{view_of}
+use Rattle.rbd_kinds.specs.Maps.{map_snap}
 
 abbrev pub is_on_directory : Op → Bool
 is_on_directory (on.Directory op) = true
@@ -30,7 +30,7 @@ is_on_object i n op = false
 
 -- of the head (None) or of a snapshot
 abbrev pub is_on_map : (image : ℕ) (view : Option ℕ) → Op → Bool
-is_on_map i v (on.Map image op) = (i == image) && option_eq nat_eq v (view_of op)
+is_on_map i v (on.Map image op) = (i == image) && option_eq nat_eq v (map_snap op)
 is_on_map i v op = false
 
 abbrev pub is_block_add : Op → Bool

@@ -9,14 +9,6 @@ use Rattle.rbd_kinds.specs.States.{HoldStates}
 use Rattle.rbd_map.specs.States.{bits_of, states_of}
 use Rattle.rbd_site.specs.Found.{done_where}
 
--- whose map an operation is on: a snapshot's, or the head's
-abbrev pub view_of : MapOp → Option ℕ
-view_of (Resize count) = None
-view_of (Get snap) = snap
-view_of (Put snap bits) = snap
-view_of (Set snap object state) = snap
-view_of (Remove snap) = snap
-
 -- The conditions: a map has at most 2^20 objects and no state 3, and a state is set of an object
 -- that the map has.
 pub record AreBits (bits : List ℕ) : Type 0 where

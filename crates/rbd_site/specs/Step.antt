@@ -15,7 +15,8 @@ use Rattle.rbd_site.specs.ChildrenStep.{children_answer, children_after}
 use Rattle.rbd_site.specs.DirectoryStep.{directory_answer, directory_after}
 use Rattle.rbd_site.specs.HeaderStep.{MayDoOnHeader, header_answer, header_after}
 use Rattle.rbd_site.specs.DataStep.{MayDoOnData, data_answer, data_after}
-use Rattle.rbd_site.specs.MapStep.{MayDoOnMap, map_answer, map_after, view_of}
+use Rattle.rbd_kinds.specs.Maps.{map_snap}
+use Rattle.rbd_site.specs.MapStep.{MayDoOnMap, map_answer, map_after}
 use Rattle.rbd_site.specs.WatchStep.{notified, receivers, watchers_after}
 
 -- ---- the fence
@@ -33,7 +34,7 @@ MayServe r (op.Children o) = Unit {0}
 MayServe r (op.BlockAdd instance) = Unit {0}
 MayServe r (op.Header image o) = MayDoOnHeader (r.headers image) o
 MayServe r (op.Data image number o) = MayDoOnData o
-MayServe r (op.Map image o) = MayDoOnMap (r.maps image (view_of o)) o
+MayServe r (op.Map image o) = MayDoOnMap (r.maps image (map_snap o)) o
 MayServe r _ = ⊥
 
 abbrev pub answer_served : Records → Instance → Op → Answer
@@ -42,7 +43,7 @@ answer_served r me (op.Children o) = children_answer r.children o
 answer_served r me (op.BlockAdd instance) = answer.Done
 answer_served r me (op.Header image o) = header_answer me (r.headers image) (r.watchers image) o
 answer_served r me (op.Data image number o) = data_answer (r.objects image number) o
-answer_served r me (op.Map image o) = map_answer (r.maps image (view_of o)) o
+answer_served r me (op.Map image o) = map_answer (r.maps image (map_snap o)) o
 answer_served r me _ = answer.Absent
 
 abbrev pub after_served : Records → Instance → Op → Records
@@ -52,7 +53,7 @@ after_served r me (op.BlockAdd instance) = with_blocklist (finset.insert r.block
 after_served r me (op.Header image o) =
     with_header image (header_after me (r.headers image) o) (with_watchers image (watchers_after me (r.headers image) (r.watchers image) o) r)
 after_served r me (op.Data image number o) = with_object image number (data_after (r.objects image number) o) r
-after_served r me (op.Map image o) = with_map image (view_of o) (map_after (r.maps image (view_of o)) o) r
+after_served r me (op.Map image o) = with_map image (map_snap o) (map_after (r.maps image (map_snap o)) o) r
 after_served r me _ = r
 
 -- the notices of both sites, where a site's operation was served

@@ -11,13 +11,14 @@ ghost use Rattle.rbd_site.specs.HeaderStep.{IsToldAlone, MayDoOnHeader, is_owner
 use crate::found::done_where;
 use rbd_header::{Header, SnapAddFault, ids_of};
 use rbd_kinds::{
-    Answer, HeaderOp, HeaderView, ImageId, Instance, Name, NoMemory, SnapId, TryClone,
+    Answer, HeaderOp, HeaderView, ImageId, Instance, Name, NoMemory, Shared, SnapId, TryClone,
 };
 use std::alloc::Global;
 use std::collections::BTreeMap;
 
 /// What an operation is answered now, whoever watches.
 pub fn answer(
+    alloc: Global,
     headers: &BTreeMap<ImageId, Header>,
     image: ImageId,
     instance: Instance,
@@ -28,7 +29,7 @@ pub fn answer(
     ensures { (watchers : List Instance) → IfOk result (λ answer. answer ≡ header_answer instance (header_in headers.now image) watchers op.now) }
 {
     match headers.get(&image) {
-        Some(header) => answer_there(header, instance, op),
+        Some(header) => answer_there(alloc, header, instance, op),
         None => Ok(answer_missing(op)),
     }
 }
@@ -162,52 +163,30 @@ fn change_header(header: &mut Header, instance: Instance, op: &HeaderOp) -> Resu
     ensures err { OnErr result (header.new ≡ header.old) }
 {
     match op {
-        HeaderOp::SnapAdd { name } => add_snap(header, name),
+        HeaderOp::SnapAdd { name } => add_snap(header, name)?,
         HeaderOp::SnapRemove { snap } => {
             let _found = header.snap_remove(*snap);
-            Ok(())
         }
         HeaderOp::SnapStatus { snap, status } => {
             let _found = header.snap_status(*snap, *status);
-            Ok(())
         }
-        HeaderOp::SetSize { size } => {
-            header.set_size(*size);
-            Ok(())
-        }
-        HeaderOp::Detach => {
-            header.detach();
-            Ok(())
-        }
-        HeaderOp::Role { role } => {
-            header.set_role(*role);
-            Ok(())
-        }
-        HeaderOp::Synced => {
-            header.synced();
-            Ok(())
-        }
-        HeaderOp::LockTake => {
-            take_lock(header, instance);
-            Ok(())
-        }
-        HeaderOp::LockDrop => {
-            leave_lock(header, instance);
-            Ok(())
-        }
-        HeaderOp::LockBreak { owner } => {
-            leave_lock(header, *owner);
-            Ok(())
-        }
-        HeaderOp::Create { view: _ } => Ok(()),
-        HeaderOp::Get => Ok(()),
-        HeaderOp::Remove => Ok(()),
-        HeaderOp::Watch => Ok(()),
-        HeaderOp::Unwatch => Ok(()),
-        HeaderOp::WatchersGet => Ok(()),
-        HeaderOp::Notify { kind: _ } => Ok(()),
+        HeaderOp::SetSize { size } => header.set_size(*size),
+        HeaderOp::Detach => header.detach(),
+        HeaderOp::Role { role } => header.set_role(*role),
+        HeaderOp::Synced => header.synced(),
+        HeaderOp::LockTake => take_lock(header, instance),
+        HeaderOp::LockDrop => leave_lock(header, instance),
+        HeaderOp::LockBreak { owner } => leave_lock(header, *owner),
+        HeaderOp::Create { view: _ } => {}
+        HeaderOp::Get => {}
+        HeaderOp::Remove => {}
+        HeaderOp::Watch => {}
+        HeaderOp::Unwatch => {}
+        HeaderOp::WatchersGet => {}
+        HeaderOp::Notify { kind: _ } => {}
         HeaderOp::Mirror => unreachable!(),
     }
+    Ok(())
 }
 
 fn add_snap(header: &mut Header, name: &Name) -> Result<(), NoMemory>
@@ -238,14 +217,19 @@ fn leave_lock(header: &mut Header, owner: Instance)
 }
 
 /// What an operation on a header that is there is answered.
-fn answer_there(header: &Header, instance: Instance, op: &HeaderOp) -> Result<Answer, NoMemory>
+fn answer_there(
+    alloc: Global,
+    header: &Header,
+    instance: Instance,
+    op: &HeaderOp,
+) -> Result<Answer, NoMemory>
     requires may { MayDoOnHeader (Some header.now) op.now }
     requires alone { IsToldAlone op.now }
     ensures { (watchers : List Instance) → IfOk result (λ answer. answer ≡ there_answer instance header.now watchers op.now) }
 {
     match op {
         HeaderOp::Create { view: _ } => Ok(Answer::Exists),
-        HeaderOp::Get => Ok(Answer::Header(header.view()?)),
+        HeaderOp::Get => Ok(Answer::Header(Shared::new(alloc, header.view()?)?)),
         HeaderOp::SnapAdd { name } => Ok(snap_added(header, name)),
         HeaderOp::SnapRemove { snap } => Ok(done_where(lists(header, *snap))),
         HeaderOp::SnapStatus { snap, status: _ } => Ok(done_where(lists(header, *snap))),

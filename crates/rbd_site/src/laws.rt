@@ -100,8 +100,8 @@ pub fn operations_leave_snapshots()
 {}
 
 /// Headers and maps are in form at first, and each operation that may be done, each trim and each
-/// end of a watch leaves them so. Nobody watches a header that isn't there, and nobody watches one twice.
-/// No operation raises a generation by more than one.
+/// end of a watch leaves them so. Nobody watches a header that isn't there, and nobody watches one
+/// twice. No operation raises a generation by more than one.
 pub fn headers_stay_in_form()
     ensures first { AreInForm no_records 0 }
 
@@ -113,8 +113,8 @@ pub fn headers_stay_in_form()
     ensures expiry { (r : Records) (image most : ℕ) (i : Instance) → AreInForm r most → AreInForm (expired image i r) (most + 1) }
 {}
 
-/// What a look at an object map tells holds no state 3, and is of at most 2^20 objects. So it may be
-/// put as the map of a snapshot.
+/// What a look at an object map tells holds no state 3, and is of at most 2^20 objects. So it may
+/// be put as the map of a snapshot.
 pub fn what_a_map_tells_may_be_put()
     ensures { (r : Records) (me : Instance) (image most : ℕ) (view : Option ℕ) (bits : List ℕ)
         → AreInForm r most → answer_to r me (op_on.Map image (map_op.Get view)) ≡ answer.Bits bits → AreBits bits }

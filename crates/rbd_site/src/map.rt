@@ -4,31 +4,14 @@ ghost use Rattle.rbd_kinds.specs.States.{HoldStates};
 ghost use Rattle.rbd_map.specs.States.{states_of};
 ghost use Rattle.rbd_site.specs.Maps.{map_in};
 ghost use Rattle.rbd_site.specs.Records.{put_map};
-ghost use Rattle.rbd_site.specs.MapStep.{MayDoOnMap, MaySetState, lengthened, map_answer, map_after, states_told, view_of};
+ghost use Rattle.rbd_site.specs.MapStep.{MayDoOnMap, MaySetState, lengthened, map_answer, map_after, states_told};
 
 use crate::found::done_where;
 use crate::map_key::MapKey;
-use rbd_kinds::{Answer, Bytes, MapOp, NoMemory, SnapId};
+use rbd_kinds::{Answer, Bytes, MapOp, NoMemory};
 use rbd_map::ObjectMap;
 use std::alloc::Global;
 use std::collections::BTreeMap;
-
-/// Whose map of an image an operation is on: a snapshot's, or the head's.
-pub fn view_of(op: &MapOp) -> Option<SnapId>
-    ensures { result ≡ view_of op.now }
-{
-    match op {
-        MapOp::Resize { count: _ } => None,
-        MapOp::Get { snap } => *snap,
-        MapOp::Put { snap, bits: _ } => *snap,
-        MapOp::Set {
-            snap,
-            object: _,
-            state: _,
-        } => *snap,
-        MapOp::Remove { snap } => *snap,
-    }
-}
 
 /// What an operation is answered now.
 pub fn answer(

@@ -193,8 +193,8 @@ impl Site {
 
     /// The store's own step: the watch of an image by a session ends. Where several instances of
     /// the session watch, it is that of the oldest, which is the one that began first. It is
-    /// `false` exactly where none watches, and then nothing is logged. Nobody is told (own). Refused
-    /// memory, nothing changes.
+    /// `false` exactly where none watches, and then nothing is logged. Nobody is told (own).
+    /// Refused memory, nothing changes.
     pub fn expire(&mut self, image: ImageId, session: SessionNo) -> Result<bool, NoMemory>
         ensures found { IfOk result (λ found. found ≡ is_some (oldest_of session ((records_of self.old).watchers image))) }
         ensures ok { let oldest = oldest_of session ((records_of self.old).watchers image) in

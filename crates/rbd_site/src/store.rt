@@ -6,7 +6,8 @@ ghost use Rattle.rbd_kinds.specs.declared.header_op.HeaderOp.TheVariants as head
 ghost use Rattle.rbd_watch.specs.Watching.{oldest_of};
 ghost use Rattle.rbd_site.specs.HeaderStep.{MayDoOnHeader, header_answer, header_after};
 ghost use Rattle.rbd_site.specs.WatchStep.{notified, receivers, watchers_after};
-ghost use Rattle.rbd_site.specs.MapStep.{MayDoOnMap, map_answer, map_after, view_of};
+ghost use Rattle.rbd_kinds.specs.Maps.{map_snap};
+ghost use Rattle.rbd_site.specs.MapStep.{MayDoOnMap, map_answer, map_after};
 ghost use Rattle.rbd_site.specs.Records.{no_records, with_header, with_map, with_object, with_watchers};
 ghost use Rattle.rbd_site.specs.Log.{expired, live_in};
 ghost use Rattle.rbd_site.specs.Maps.{kept};
@@ -103,16 +104,16 @@ impl Store {
     {
         match op {
             HeaderOp::WatchersGet => self.who_watches(image),
-            _ => header::answer(&self.headers, image, instance, op),
+            _ => header::answer(self.alloc, &self.headers, image, instance, op),
         }
     }
 
     fn answer_on_map(&self, image: ImageId, op: &MapOp) -> Result<Answer, NoMemory>
-        ensures { IfOk result (λ answer. answer ≡ map_answer ((kept self.now).maps image (view_of op.now)) op.now) }
+        ensures { IfOk result (λ answer. answer ≡ map_answer ((kept self.now).maps image (map_snap op.now)) op.now) }
     {
         let key = MapKey {
             image,
-            snap: map::view_of(op),
+            snap: op.snap(),
         };
         map::answer(&self.maps, key, op)
     }
@@ -227,14 +228,14 @@ impl Store {
 
     /// Does an operation on an object map of an image, or nothing at all.
     fn serve_on_map(&mut self, image: ImageId, op: &MapOp) -> Result<(), NoMemory>
-        requires { MayDoOnMap ((kept self.old).maps image (view_of op.now)) op.now }
-        ensures ok { let there = (kept self.old).maps image (view_of op.now) in
-            OnOk result (kept self.new ≡ with_map image (view_of op.now) (map_after there op.now) (kept self.old)) }
+        requires { MayDoOnMap ((kept self.old).maps image (map_snap op.now)) op.now }
+        ensures ok { let there = (kept self.old).maps image (map_snap op.now) in
+            OnOk result (kept self.new ≡ with_map image (map_snap op.now) (map_after there op.now) (kept self.old)) }
         ensures err { OnErr result (kept self.new ≡ kept self.old) }
     {
         let key = MapKey {
             image,
-            snap: map::view_of(op),
+            snap: op.snap(),
         };
         map::change(self.alloc, &mut self.maps, key, op)
     }

@@ -26,7 +26,8 @@ use Rattle.rbd_object.proofs.MappedLemmas.{looked-mapped_change}
 use Rattle.rbd_object.proofs.StepLemmas.{view-change}
 use Rattle.rbd_site.specs.DataStep.{data_change}
 use Rattle.rbd_site.specs.HeaderStep.{header_after, is_owner, there_after, where_made}
-use Rattle.rbd_site.specs.MapStep.{MayDoOnMap, lengthened, map_after, view_of}
+use Rattle.rbd_kinds.specs.Maps.{map_snap}
+use Rattle.rbd_site.specs.MapStep.{MayDoOnMap, lengthened, map_after}
 use Rattle.rbd_stands.specs.Condition.{IsContextOf}
 use Rattle.rbd_stands.specs.Covering.{AreCovered, IsCovered, IsRaised, KeepsDataCover, KeepsHeaderCover, KeepsMapCover, Maps, exists_at}
 use Rattle.rbd_stands.specs.View.{EachView, Shape, shape_of, shape_of_head, shape_of_snap}
@@ -84,7 +85,7 @@ from_views h P all (Some t) shape is = let found = a_value shape_of_snap (snap_i
 -- ---- a map is changed
 
 pub map_covered : (h : HeaderView) (maps : Maps) (objects : ℕ → Mapped) (o : MapOp) (v : Option ℕ) (shape : Shape) → shape_of h v ≡ Some shape
-    → v ≡ view_of o → MayDoOnMap (maps v) o → KeepsMapCover (Some h) maps objects o → IsCovered (maps v) (exists_at objects v) → IsCovered (map_after (maps v) o) (exists_at objects v)
+    → v ≡ map_snap o → MayDoOnMap (maps v) o → KeepsMapCover (Some h) maps objects o → IsCovered (maps v) (exists_at objects v) → IsCovered (map_after (maps v) o) (exists_at objects v)
 map_covered h maps objects (map_op.Resize count) v shape is at may keeps covered = go (maps v) refl covered
   where
     head : (n : ℕ) → maps v ≡ None → exists_at objects v n ≡ false

@@ -15,7 +15,7 @@ use Rattle.rbd_kinds.specs.declared.layout.Part.{Part}
 use Rattle.rbd_kinds.specs.declared.operation.Op.TheVariants as op
 use Rattle.rbd_kinds.specs.Striping.{object_of, offset_of, byte_at}
 use Rattle.rbd_layout.specs.Pieces.{IsPart}
-use Rattle.rbd_layout.proofs.Places.{first_below}
+use Rattle.rbd_layout.proofs.Places.{first_below, held_at_start}
 use Rattle.rbd_layout.proofs.Derived.{parts_cover}
 use Rattle.rbd_object.specs.Mapped.{Mapped, mapped_change}
 use Rattle.rbd_flat.specs.declared.effect.Effect.TheVariants as effect
@@ -35,7 +35,7 @@ use Rattle.rbd_stands.specs.Image.{IsInside}
 use Rattle.rbd_stands.specs.Condition.{IsContextOf, ArePartsBelow, IsCopiedUp, IsChanged, AreWhole, IsZeroPast, extents_of}
 use Rattle.rbd_stands.proofs.ObjectSteps.{object_changed}
 use Rattle.rbd_stands.proofs.Painting.{parts_at, painted_beside, beside_elsewhere, beside_past, zeros_at, any_covered}
-use Rattle.rbd_stands.proofs.Whole.{whole_places, in_whole, held_none}
+use Rattle.rbd_stands.proofs.Whole.{whole_places, in_whole}
 use Rattle.rbd_stands.proofs.SiteSteps.{here, stands_at, keep_all, site_change, is_drawn, other_object, object_there, flat_there, links_same}
 use Rattle.rbd_stands.proofs.Served.{where_served}
 
@@ -248,7 +248,7 @@ module _ (below : Snapshots) (linked : Links) (h : HeaderView) (objects : ℕ �
   replaced_at bytes are x within same =
       painted_place (places_of (extents_of parts)) bytes i.bytes x (let long = stands.long.head in omega arith)
       ∙ ap (λ places. painted_byte places bytes (get_or i.bytes x 0) x) (whole_places h.layout stands.laid n h.size parts are)
-      ∙ in_whole h.layout stands.laid n 0 h.size 0 (held_none h.layout stands.laid n) bytes (get_or i.bytes x 0) x same (omega arith) (omega arith)
+      ∙ in_whole h.layout stands.laid n 0 h.size 0 (held_at_start h.layout n) bytes (get_or i.bytes x 0) x same (omega arith) (omega arith)
 
   pub replace_is_change : (bytes : List ℕ) → AreWhole h n parts → IsZeroPast h n bytes → IsChanged below h n (Some bytes) i.bytes (painted (places_of (extents_of parts)) bytes i.bytes)
   replace_is_change bytes are past_zero = record {

@@ -19,7 +19,8 @@ use Rattle.rbd_flat.specs.Flat.{Flat, image_at}
 use Rattle.rbd_site.specs.DataStep.{data_answer, data_after, data_change, where_object_done}
 use Rattle.rbd_site.specs.HeaderStep.{header_after}
 use Rattle.rbd_site.specs.Log.{expired_by, live_in, trimmed}
-use Rattle.rbd_site.specs.MapStep.{map_after, view_of}
+use Rattle.rbd_kinds.specs.Maps.{map_snap}
+use Rattle.rbd_site.specs.MapStep.{map_after}
 use Rattle.rbd_site.specs.Records.{Records, no_records, object_at, or_blank, put, put_map, with_object}
 use Rattle.rbd_site.specs.Step.{MayDo, MayServe, after, after_served, is_fenced}
 use Rattle.rbd_site.proofs.MapLemmas.{put_map_each}
@@ -126,16 +127,16 @@ header_covered pending r f me image o stands covers keeps i g is = go (eqb i ima
 
 changed_map_covered : (r : Records) (me : Instance) (image : ℕ) (o : MapOp) → MapsCover r → MayServe r (op.Map image o)
     → KeepsCover r (op.Map image o) → MapsCover (after_served r me (op.Map image o))
-changed_map_covered r me image o covers may keeps i h is = to_views h (λ v. IsCovered (put_map r.maps image (view_of o) now i v) (exists_at (object_at r i) v)) (λ v shape at.
-    put_map_each (λ j w held. (k : HeaderView) → r.headers j ≡ Some k → (shape : Shape) → shape_of k w ≡ Some shape → IsCovered held (exists_at (object_at r j) w)) r.maps image (view_of o) now
-    (λ k there shape at. map_covered k (r.maps image) (object_at r image) o (view_of o) shape at refl may
+changed_map_covered r me image o covers may keeps i h is = to_views h (λ v. IsCovered (put_map r.maps image (map_snap o) now i v) (exists_at (object_at r i) v)) (λ v shape at.
+    put_map_each (λ j w held. (k : HeaderView) → r.headers j ≡ Some k → (shape : Shape) → shape_of k w ≡ Some shape → IsCovered held (exists_at (object_at r j) w)) r.maps image (map_snap o) now
+    (λ k there shape at. map_covered k (r.maps image) (object_at r image) o (map_snap o) shape at refl may
     (subst (λ header. KeepsMapCover header (r.maps image) (object_at r image) o) there keeps)
-    (from_views k (λ w. IsCovered (r.maps image w) (exists_at (object_at r image) w)) (covers image k there) (view_of o) shape at))
+    (from_views k (λ w. IsCovered (r.maps image w) (exists_at (object_at r image) w)) (covers image k there) (map_snap o) shape at))
     (λ j w k there. from_views k (λ w. IsCovered (r.maps j w) (exists_at (object_at r j) w)) (covers j k there) w)
     i v h is shape at)
   where
     now : Option (List ℕ)
-    now = map_after (r.maps image (view_of o)) o
+    now = map_after (r.maps image (map_snap o)) o
 
 -- ---- any operation, and the store's steps
 

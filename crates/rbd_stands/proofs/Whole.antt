@@ -45,9 +45,6 @@ module _ (l : Layout) (laid : IsLayout l) (n : ℕ) where
       step_other (eqb (object_of l a) n) a (from (a + 1) len) new old x (λ e same. other (ap (object_of l) same ∙ eqb-true (object_of l a) n e)) (λ more. in_other (a + 1) len more old x other)
 
   -- how many bytes of the object lie below the next byte
-  pub held_none : IsHeld l n 0 0
-  held_none = record { within = omega arith; each = λ o inside. ((λ less. absurd (omega arith)), (λ less. absurd (omega arith))) }
-
   held_pass : (a j : ℕ) → object_of l a ≢ n → IsHeld l n a j → IsHeld l n (a + 1) j
   held_pass a j other held = record {
     within = held.within;

@@ -2,8 +2,7 @@
 use Rattle.std.specs.Prelude.{ℕ, List, [], ◌++◌, codes, Option, Some, None}
 use Rattle.rbd_kinds.specs.declared.operation.Op.{Op}
 use Rattle.rbd_kinds.specs.declared.operation.Op.TheVariants.{Directory, Children, BlockAdd, Header, Data, Map, Journal}
-use Rattle.rbd_kinds.specs.declared.map_op.MapOp.{MapOp}
-use Rattle.rbd_kinds.specs.declared.map_op.MapOp.TheVariants.{Resize, Get, Put, Set, Remove}
+use Rattle.rbd_kinds.specs.Maps.{map_snap}
 use Rattle.rbd_text.specs.Numbers.{hexadecimal, sixteen_digits}
 
 abbrev pub header_name : (image : ℕ) → List ℕ
@@ -23,14 +22,6 @@ map_name image snap = codes "rbd_object_map." ++ hexadecimal image ++ snapshot_s
 abbrev pub journal_name : (image : ℕ) → List ℕ
 journal_name image = codes "journal." ++ hexadecimal image
 
--- whose map an operation is about
-abbrev pub mapped : MapOp → Option ℕ
-mapped (Resize count) = None
-mapped (Get snap) = snap
-mapped (Put snap bits) = snap
-mapped (Set snap object state) = snap
-mapped (Remove snap) = snap
-
 -- the object that an operation is about
 abbrev pub object_name : Op → List ℕ
 object_name (Directory op) = codes "rbd_directory"
@@ -38,5 +29,5 @@ object_name (Children op) = codes "rbd_children"
 object_name (BlockAdd instance) = codes "blocklist"
 object_name (Header image op) = header_name image
 object_name (Data image object op) = data_name image object
-object_name (Map image op) = map_name image (mapped op)
+object_name (Map image op) = map_name image (map_snap op)
 object_name (Journal image op) = journal_name image

@@ -1,9 +1,8 @@
 -- What is kept of the commands while a history is gone over.
-use Rattle.std.specs.Prelude.{◌≡◌, ℕ, ◌||◌, nat_eq, List, None}
+use Rattle.std.specs.Prelude.{◌≡◌, ℕ, ◌||◌, List, None}
 use Rattle.std.specs.Option.{unwrap_or}
-use Rattle.std.specs.HashMap.{get}
-use Rattle.std.specs.HashSet.{contains}
 use Rattle.rbd_flat.specs.declared.entry.Entry.{Entry}
+use Rattle.rbd_lines.specs.Known.{is_known, known_at}
 use Rattle.rbd_site.specs.declared.done.Done.{Done}
 use Rattle.rbd_text.specs.Unanswered.{progress_of, starts, answers, loses, found_in}
 use Rattle.rbd_text.specs.declared.progress.Progress.{Progress}
@@ -12,10 +11,10 @@ use Rattle.rbd_text.specs.declared.progress.Progresses.{Progresses}
 -- what is kept of the command of a line
 abbrev pub progress_at : Progresses → (line : ℕ) → Progress
 progress_at all line = record {
-  started = contains nat_eq all.started line;
-  answered = contains nat_eq all.answered line;
-  lost = contains nat_eq all.lost line;
-  holder = unwrap_or (get nat_eq all.holders line) None;
+  started = is_known all.started line;
+  answered = is_known all.answered line;
+  lost = is_known all.lost line;
+  holder = unwrap_or (known_at all.holders line) None;
 }
 
 -- what one more entry tells of the command of a line

@@ -45,18 +45,18 @@
 //!
 //! # Cost
 //!
-//! Time and memory are linear in script, history, logs and text, times the logarithm of the number
-//! of commands. The history is gone over once for the replies and once for the others, and an
-//! operation is found by its number. The text is given room for about its length at once, and what
-//! a read showed is held a second time while it is printed. Nothing of what is printed is copied.
+//! Time and memory are linear in script, history, logs and text. The history is gone over once for
+//! the replies and once for the others, and an operation is found by its number, as is what is kept
+//! of a line. The text is given room for about its length at once, and what a read showed is held a
+//! second time while it is printed. Nothing of what is printed is copied.
 //!
 //! # How it works
 //!
 //! One printer for each form appends to a vector, and its contract is one equation: the text
 //! before, and the form (word.rt, numbers.rt, names.rt, objects.rt, reply.rt, info.rt, snaps.rt,
 //! entries.rt, operations.rt, lines.rt). speakers.rt keeps whose each line of the script is, and
-//! progress.rt how far each command has come: sets of the lines that were started, answered and
-//! lost, and whom each line's last attempt at a lock found.
+//! progress.rt how far each command has come: which lines were started, answered and lost, and whom
+//! each line's last attempt at a lock found.
 #![tactic(auto)]
 
 mod entries;

@@ -1,11 +1,11 @@
 //! The objects of a site, as they are called (Ceph: the names of an image's RADOS objects).
 ghost use Rattle.std.specs.Prelude.{◌≡◌, ◌++◌, OnOk};
 ghost use Rattle.rbd_text.specs.Numbers.{hexadecimal};
-ghost use Rattle.rbd_text.specs.Objects.{object_name, header_name, data_name, map_name, journal_name, snapshot_suffix, mapped};
+ghost use Rattle.rbd_text.specs.Objects.{object_name, header_name, data_name, map_name, journal_name, snapshot_suffix};
 
 use crate::numbers::{push_hexadecimal, push_sixteen_digits};
 use crate::word::push_word;
-use rbd_kinds::{ImageId, MapOp, NoMemory, Op, SnapId};
+use rbd_kinds::{ImageId, NoMemory, Op, SnapId};
 
 /// Appends the name of the object that an operation is about.
 pub fn push_object(text: &mut Vec<u8>, op: &Op) -> Result<(), NoMemory>
@@ -21,7 +21,7 @@ pub fn push_object(text: &mut Vec<u8>, op: &Op) -> Result<(), NoMemory>
             object,
             op: _,
         } => push_data(text, *image, *object),
-        Op::Map { image, op } => push_map(text, *image, snapshot_of(op)),
+        Op::Map { image, op } => push_map(text, *image, op.snap()),
         Op::Journal { image, op: _ } => push_journal(text, *image),
     }
 }
@@ -67,23 +67,6 @@ fn push_image(text: &mut Vec<u8>, image: ImageId) -> Result<(), NoMemory>
     ensures { OnOk result (text.new.items ≡ text.old.items ++ hexadecimal image) }
 {
     push_hexadecimal(text, image.0)
-}
-
-/// Whose map an operation is about: a snapshot's, or the head's.
-fn snapshot_of(op: &MapOp) -> Option<SnapId>
-    ensures { result ≡ mapped op.now }
-{
-    match op {
-        MapOp::Resize { count: _ } => None,
-        MapOp::Get { snap } => *snap,
-        MapOp::Put { snap, bits: _ } => *snap,
-        MapOp::Set {
-            snap,
-            object: _,
-            state: _,
-        } => *snap,
-        MapOp::Remove { snap } => *snap,
-    }
 }
 
 fn push_journal(text: &mut Vec<u8>, image: ImageId) -> Result<(), NoMemory>

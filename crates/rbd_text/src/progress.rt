@@ -1,16 +1,15 @@
 //! How far each command of a script has come.
-ghost use Rattle.std.specs.Prelude.{nat_eq, ◌≡◌, ◌==◌, ◌||◌, ℕ, Some, None, OnOk, IfOk, if◌then◌else◌, option_copied};
+ghost use Rattle.std.specs.Prelude.{◌≡◌, ◌==◌, ◌||◌, ℕ, None, OnOk, IfOk, option_copied};
 ghost use Rattle.std.specs.Option.{unwrap_or};
-ghost use Rattle.std.specs.HashMap.{get};
-ghost use Rattle.std.specs.HashSet.{contains};
+ghost use Rattle.rbd_lines.specs.Known.{is_known, known_at};
 ghost use Rattle.rbd_text.specs.Unanswered.{line_of, log_of, logged, is_lock_take, held_by, found_by, where_for};
 ghost use Rattle.rbd_text.specs.Progress.{progress_at, heard, AreOf};
 
 use rbd_flat::{Cause, Entry};
 use rbd_kinds::{Answer, HeaderOp, Instance, NoMemory, Op, SiteId};
+use rbd_lines::LineMap;
 use rbd_site::{Done, DoneOp};
 use std::alloc::Global;
-use std::collections::{HashMap, HashSet};
 
 /// What a history tells of one command.
 #[derive(Clone, Copy, Debug)]
@@ -28,11 +27,11 @@ pub struct Progress {
 /// What a history tells of all commands, by their lines.
 #[derive(Drop)]
 pub struct Progresses {
-    started: HashSet<u32>,
-    answered: HashSet<u32>,
-    lost: HashSet<u32>,
+    started: LineMap<()>,
+    answered: LineMap<()>,
+    lost: LineMap<()>,
     /// Whom the last attempt of each line at a lock found to have it.
-    holders: HashMap<u32, Option<Instance>>,
+    holders: LineMap<Option<Instance>>,
 }
 
 impl Progresses {
@@ -41,10 +40,10 @@ impl Progresses {
         ensures { IfOk result (λ all. AreOf a.now b.now history.now all) }
     {
         let mut all = Progresses {
-            started: HashSet::new(alloc),
-            answered: HashSet::new(alloc),
-            lost: HashSet::new(alloc),
-            holders: HashMap::new(alloc),
+            started: LineMap::new(alloc),
+            answered: LineMap::new(alloc),
+            lost: LineMap::new(alloc),
+            holders: LineMap::new(alloc),
         };
         for entry in history {
             all.hear(a, b, entry)?;
@@ -57,10 +56,10 @@ impl Progresses {
         ensures { result ≡ progress_at self.now line }
     {
         Progress {
-            started: self.started.contains(&line),
-            answered: self.answered.contains(&line),
-            lost: self.lost.contains(&line),
-            holder: self.holders.get(&line).copied().unwrap_or(None),
+            started: self.started.has(line),
+            answered: self.answered.has(line),
+            lost: self.lost.has(line),
+            holder: self.holders.get(line).unwrap_or(None),
         }
     }
 
@@ -93,20 +92,19 @@ impl Progresses {
     }
 }
 
-fn note(lines: &mut HashSet<u32>, line: u32) -> Result<(), NoMemory>
-    ensures { OnOk result ((q : ℕ) → contains nat_eq lines.new q ≡ ((line == q) || contains nat_eq lines.old q)) }
+fn note(lines: &mut LineMap<()>, line: u32) -> Result<(), NoMemory>
+    ensures { OnOk result ((q : ℕ) → is_known lines.new q ≡ ((line == q) || is_known lines.old q)) }
 {
-    lines.insert(line)?;
-    Ok(())
+    lines.insert(line, ())
 }
 
 /// Keeps whom an operation found to have the lock, where it was an attempt at one for a line.
 fn find(
-    holders: &mut HashMap<u32, Option<Instance>>,
+    holders: &mut LineMap<Option<Instance>>,
     cause: Cause,
     done: Option<&Done>,
 ) -> Result<(), NoMemory>
-    ensures { OnOk result ((q : ℕ) → unwrap_or (get nat_eq holders.new q) None ≡ unwrap_or (where_for q (line_of cause) (found_by (option_copied done.entry))) (unwrap_or (get nat_eq holders.old q) None)) }
+    ensures { OnOk result ((q : ℕ) → unwrap_or (known_at holders.new q) None ≡ unwrap_or (where_for q (line_of cause) (found_by (option_copied done.entry))) (unwrap_or (known_at holders.old q) None)) }
 {
     let Some(line) = line(cause) else {
         return Ok(());
@@ -114,18 +112,7 @@ fn find(
     let Some(holder) = found(done) else {
         return Ok(());
     };
-    keep(holders, line, holder)
-}
-
-fn keep(
-    holders: &mut HashMap<u32, Option<Instance>>,
-    line: u32,
-    holder: Option<Instance>,
-) -> Result<(), NoMemory>
-    ensures { OnOk result ((q : ℕ) → get nat_eq holders.new q ≡ (if line == q then Some holder else get nat_eq holders.old q)) }
-{
-    holders.insert(line, holder)?;
-    Ok(())
+    holders.insert(line, holder)
 }
 
 /// For which line an operation was done.

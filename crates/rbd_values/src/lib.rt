@@ -5,8 +5,8 @@
 //! session names the snapshot `.sync` that a synchronisation makes.
 //!
 //! Contracts see a [`Name`], an [`AskedName`] and [`Bytes`] as the list of their bytes, a
-//! [`Sequence`] and a [`Growing`] list as the list of their items, wherever these lie, and a number
-//! as the number.
+//! [`Sequence`] and a [`Growing`] list as the list of their items, wherever these lie, a number as
+//! the number, and what is [`Shared`] as the value.
 //!
 //! ```text
 //! Name::parse(Bytes::from_slice(alloc, b".sync")?)         the name `.sync`
@@ -33,6 +33,7 @@ mod memory;
 mod name;
 mod number;
 mod sequence;
+mod shared;
 
 pub use asked_name::AskedName;
 pub use byte_string::Bytes;
@@ -42,3 +43,4 @@ pub use memory::NoMemory;
 pub use name::{Name, Names, is_name_byte};
 pub use number::{AtMost, Number};
 pub use sequence::Sequence;
+pub use shared::Shared;

@@ -1,7 +1,8 @@
 -- Who acts at a slot of a client has an operation done: what is known then, by everybody.
-use Rattle.std.proofs.Common.{◌≡◌, ◌≢◌, ◌⊎◌, inl, inr, ℕ, ◌<◌, cond, false, ◌∷◌, length, Option, Some, None, refl, sym, ap, ◌∙◌, subst, arith, ◌==◌, Bool, true}
+use Rattle.std.proofs.Common.{◌≡◌, ◌≢◌, ◌⊎◌, inl, inr, ℕ, ◌<◌, cond, false, ◌∷◌, length, Option, Some, None, refl, sym, ap, ◌∙◌, subst, ◌==◌, Bool, true}
 use Rattle.std.specs.Prelude.{IsSome}
 use Rattle.std.proofs.lemmas.Bool.{true≢false, eq-eqb, ne_eqb}
+use Rattle.std.proofs.Math.Nat.{lt_irrefl}
 use Rattle.std.proofs.lemmas.Option.{none-some, same_Some}
 use Rattle.rbd_client.specs.declared.actor.Actor.{Actor}
 use Rattle.rbd_client.specs.declared.actor.Actor.TheVariants as actor
@@ -50,9 +51,6 @@ use Rattle.rbd_world.proofs.Unborn.{IsNew, acted_drawn, learned_drawn, never_bor
 use Rattle.rbd_world.proofs.AtSites.{at_either, beside_then, can_give, elsewhere_now, here_now, is_done, others_true, sending_then, stands_in, stands_then, tells_alone, whole_then}
 use Rattle.rbd_world.proofs.Carried.{HasWholeImages, StandFlat}
 use Rattle.rbd_world.proofs.Changed.{lives_there, same_or_other}
-
-below_itself : (n : ℕ) → n < n → ⊥
-below_itself n less = omega (arith, less)
 
 -- who knows no header has each by its lock
 pub by_no_lock : (site : SiteId) (r : Records) (me : Instance) (k : Knowledge) → ((image : ℕ) → known_header k site image ≡ None) → KnowsByLock site r me k
@@ -135,7 +133,7 @@ module _ {R : Type 0} (stands : R → Standing) (old new : WorldView R) (w : IsS
               let lives = w.lives session l at in
               let less : v.instance.life < l.latest.life = lives.older v late c runs in
               let mine : v.instance ≡ l.latest = sym (late_is (Some v) sent v refl) ∙ sym same ∙ lives.latest c runs in
-              below_itself l.latest.life (subst (λ (i : Instance). i.life < l.latest.life) mine less)
+              lt_irrefl l.latest.life (subst (λ (i : Instance). i.life < l.latest.life) mine less)
 
       by : (m ≡ session) ⊎ (m ≢ session) → me ≢ y.instance
       by (inr differ) = session_differs y.instance m ((w.sending m x y is).1).whose differ

@@ -3,6 +3,8 @@
 use Rattle.std.proofs.Common.{◌≡◌, ◌≢◌, ◌⊎◌, inl, inr, ℕ, ◌≤◌, ◌<◌, ◌==◌, ◌&&◌, cond, Bool, true, false, List, ◌∷◌, length, slice_set, is_some, Option, Some, None, refl, sym, ap, ◌∙◌, subst, arith}
 use Rattle.std.specs.Prelude.{IsFalse, IsSome}
 use Rattle.std.proofs.lemmas.Bool.{true≢false, cases_lt, eq-eqb, eqb-true, ne_eqb}
+use Rattle.std.proofs.Math.Bool.{and-false}
+use Rattle.std.proofs.Math.Nat.{lt_irrefl}
 use Rattle.std.proofs.lemmas.List.{length-set, get_or-set_same, get_or-set_other, get_or_past}
 use Rattle.std.proofs.lemmas.Option.{none-some, same_Some}
 use Rattle.rbd_client.specs.Client.{ClientView}
@@ -15,6 +17,7 @@ use Rattle.rbd_kinds.specs.declared.id.Instance.{Instance}
 use Rattle.rbd_kinds.specs.declared.id.SiteId.{SiteId}
 use Rattle.rbd_kinds.specs.declared.operation.Op.{Op}
 use Rattle.rbd_kinds.specs.declared.operation.Op.TheVariants as op
+use Rattle.rbd_kinds.proofs.Plain.{eqb_flip}
 use Rattle.rbd_machine.specs.Knowledge.{Knowledge, nothing_known, is_drawn}
 use Rattle.rbd_machine.specs.Permits.{Permits}
 use Rattle.rbd_machine.specs.Plan.{Standing}
@@ -67,9 +70,6 @@ without_is slot (Some u) v is P each = subst (λ (z : LateView). P z.instance) (
 
 -- ---- who sent it
 
-below_itself : (n : ℕ) → n < n → ⊥
-below_itself n less = omega (arith, less)
-
 pub record HasLate {R : Type 0} (session slot : ℕ) (lives : List (LivesView R)) (x : Sent) : Type 0 where
   pub lives_are : LivesView R
   pub there : lives_in session lives ≡ Some lives_are
@@ -110,7 +110,7 @@ module _ {R : Type 0} (stands : R → Standing) (old : WorldView R) (w : IsSound
           let ran : has.lives_are.running ≡ Some q = ap (λ (l : LivesView R). l.running) (sym one) ∙ runs.runs in
           let less : has.late.instance.life < has.lives_are.latest.life = lives.older has.late has.is q ran in
           let mine : has.late.instance ≡ has.lives_are.latest = has.instance ∙ same ∙ lives.latest q ran in
-          below_itself has.lives_are.latest.life (subst (λ (i : Instance). i.life < has.lives_are.latest.life) mine less)
+          lt_irrefl has.lives_are.latest.life (subst (λ (i : Instance). i.life < has.lives_are.latest.life) mine less)
 
   -- and than what other sessions may still send
   pub sent_by_other : (m y : ℕ) (z : Sent) → m ≢ session → late_at m y old.lives ≡ Some z → x.instance ≢ z.instance
@@ -287,11 +287,7 @@ module _ {R : Type 0} (stands : R → Standing) (old new : WorldView R) (w : IsS
 
   it_isnt : (m y : ℕ) → IsElsewhere session slot m y → (m == session && y == slot) ≡ false
   it_isnt m y (inl differ) = ap (λ b. b && y == slot) (ne_eqb m session differ)
-  it_isnt m y (inr differ) = ap (λ b. m == session && b) (ne_eqb y slot differ) ∙ none (m == session)
-    where
-      none : (b : Bool) → (b && false) ≡ false
-      none true = refl
-      none false = refl
+  it_isnt m y (inr differ) = ap (λ b. m == session && b) (ne_eqb y slot differ) ∙ and-false (m == session)
 
   knows_there : (m y : ℕ) → IsElsewhere session slot m y → knows_then (Sending m y) ≡ w.knows (Sending m y)
   knows_there m y apart = ap (λ b. cond b nothing_known (w.knows (Sending m y))) (it_isnt m y apart)
@@ -420,15 +416,8 @@ module _ {R : Type 0} (stands : R → Standing) (old new : WorldView R) (w : IsS
       from : (b : Bool) → (m == session && y == slot) ≡ b → (x.instance.session == m && slot == y) ≡ b
       from b is = ap (λ i. i == m && slot == y) may.whose ∙ flipped ∙ is
         where
-          flip : (n i : ℕ) → (n == i) ≡ (i == n)
-          flip n i = go (same_or_other n i)
-            where
-              go : (n ≡ i) ⊎ (n ≢ i) → (n == i) ≡ (i == n)
-              go (inl same) = eq-eqb n i same ∙ sym (eq-eqb i n (sym same))
-              go (inr differ) = ne_eqb n i differ ∙ sym (ne_eqb i n (λ e. differ (sym e)))
-
           flipped : (session == m && slot == y) ≡ (m == session && y == slot)
-          flipped = ap (λ c. c && slot == y) (flip session m) ∙ ap (λ c. m == session && c) (flip slot y)
+          flipped = ap (λ c. c && slot == y) (eqb_flip session m) ∙ ap (λ c. m == session && c) (eqb_flip slot y)
 
       by : ((m ≡ session) × (y ≡ slot)) ⊎ IsElsewhere session slot m y → late_at m y new.lives ≡ sent_after m y (h ∷ w.run)
       by (inl (one, two)) =

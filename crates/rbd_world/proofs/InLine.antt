@@ -1,5 +1,5 @@
--- What a write does in its line behind its look-up: it stays there, and once it is past its own
--- look it takes no ticket any more.
+-- What a write does in its line behind its look-up: it stays there, and once it is past its look
+-- under the lock it takes no ticket any more.
 use Rattle.std.proofs.Common.{◌≡◌, ℕ, ◌&&◌, cond, Bool, true, false, List, [], Option, Some, None, refl, sym, ap, ◌∙◌, subst}
 use Rattle.std.proofs.lemmas.List.{append-nil}
 use Rattle.std.proofs.Math.Bool.{and-false}
@@ -148,7 +148,7 @@ module _ (slot : ℕ) (p : ImageAt) where
   not_waiting stage.Waiting past = sym past
   not_waiting stage.Past past = refl
 
-  -- who is past its own look has no look of its own any more
+  -- who is past its look under the lock has no look of its own any more
   not_own : (t : Track) (m : Member) → t.place ≡ Some p → member_of slot (t.lines p.site p.image) ≡ Some m → is_past m.stage ≡ true → (s : SiteId) (i : ℕ)
       → is_own_at s i (course_of slot t).place ≡ false
   not_own t m there found past s i =

@@ -110,7 +110,7 @@ module _ {R : Type 0} (stands : R → Standing) (old new : WorldView R) (w : IsS
 
     -- ---- its line goes on, or is refused
 
-    -- it stands at its own look
+    -- it stands at its look under the lock
     at_look : StandsAtLook w.homes r.line a.site w.run
     at_look = record {
       begun = way.begun;

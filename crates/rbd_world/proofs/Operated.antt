@@ -145,7 +145,7 @@ module _ {R : Type 0} (stands : R → Standing) (old new : WorldView R) (w : IsS
         (done_so stands old new w session slot c there s o wanted (Itself r.line) result d became at_sites sound_then recalls (λ asked is. sym (is_mine asked is))
         (way_is_over stands slot c living.sound r runs (way_of r.line w.run) keeps acts))
 
-    -- its way isn't begun, or over, and it is past its own look then
+    -- its way isn't begun, or over, and it is past its look under the lock then
     still_over : (n : Option (Occupant R)) → ComesToIn stands slot c.session.lines (fed.Answer a) result r n d.session.lines
         → KeepsToItsWay stands (does_it ∷ w.run) (state_in slot d.slots).way (running_in n)
     still_over None behind = tt

@@ -27,7 +27,8 @@ use Rattle.rbd_world.specs.declared.event.Event.{Event}
 use Rattle.rbd_world.specs.declared.event.Event.TheVariants as event
 use Rattle.rbd_world.specs.declared.event.Outcome.{Outcome}
 use Rattle.rbd_world.specs.declared.sites.Sites.{Sites}
-use Rattle.rbd_world.specs.Begun.{LinesBegun, has_line}
+use Rattle.rbd_world.specs.Begun.{has_line}
+use Rattle.rbd_world.specs.declared.begun.BegunLines.{BegunLines}
 use Rattle.rbd_world.specs.Noted.{IsNotedStep, noted_by}
 use Rattle.rbd_world.specs.Run.{Happening, Nothing, Waited, Began, Did, Refused, Trimmed, Expired, Heard, Stopped, Restarted, Sent, entries_of, ending_entries, outcome_of}
 use Rattle.rbd_world.specs.Step.{AreSameSites, DoesAtSites, DoesToLives, DoesToParts, LeavesLives, LeavesParts, begins_of, begun_behind, come, delivered, done_by, ended_watch, expired_at, goes_on_by, happens, heard_by, is_begun, last_life, next_life, next_number, polled, polled_in, releases, restarted, restarted_of, stopped, submitted, trimmed_at}
@@ -186,28 +187,28 @@ module _ {R : Type 0} (stands : R → Standing) where
       by (Some (occupant.Running r)) = acting_begins_nothing sites c slot r (actor_at stands slot c)
 
   -- no line was begun
-  lines_stay : (h : Happening) (b : LinesBegun) → BeginsNothing h → (line : ℕ) → has_line line b ≡ begun_behind (λ l. has_line l b) h line
+  lines_stay : (h : Happening) (b : BegunLines) → BeginsNothing h → (line : ℕ) → has_line line b ≡ begun_behind (λ l. has_line l b) h line
   lines_stay h b none line = sym (ap (λ f. has_line line b || f) (begins_no_line h none line) ∙ or-false (has_line line b))
 
   -- ---- what was done
 
-  pub parts_of : (e : Event) (h : Happening) (sites new_sites : Sites) (old new : List (LivesView R)) (b : LinesBegun) → BeginsNothing h → DoesAtSites h sites new_sites → DoesToLives stands e h old new
+  pub parts_of : (e : Event) (h : Happening) (sites new_sites : Sites) (old new : List (LivesView R)) (b : BegunLines) → BeginsNothing h → DoesAtSites h sites new_sites → DoesToLives stands e h old new
       → DoesToParts stands e h sites new_sites old new b b
   parts_of e h sites new_sites old new b none at_sites lives = record { sites = at_sites; lives = lives; begun = lines_stay h b none }
 
   -- as a poll by its parts
-  pub poll_does : (session slot : ℕ) (sites new_sites : Sites) (old new : List (LivesView R)) (b : LinesBegun) → DoesAtSites (polled stands sites slot (client_in session old)) sites new_sites
+  pub poll_does : (session slot : ℕ) (sites new_sites : Sites) (old new : List (LivesView R)) (b : BegunLines) → DoesAtSites (polled stands sites slot (client_in session old)) sites new_sites
       → DoesToLives stands (event.Poll session slot) (polled stands sites slot (client_in session old)) old new
       → DoesToParts stands (event.Poll session slot) (polled stands sites slot (client_in session old)) sites new_sites old new b b
   poll_does session slot sites new_sites old new b at_sites lives =
       parts_of (event.Poll session slot) (polled stands sites slot (client_in session old)) sites new_sites old new b (polled_begins_nothing sites slot (client_in session old)) at_sites lives
 
   -- of sites, sessions, lines and history
-  module _ {F : Type 0} (r : Result Outcome F) (sites : Sites) (old : List (LivesView R)) (b : LinesBegun) (history : List Entry) where
-    abbrev Does : Event → (new_sites : Sites) → (new : List (LivesView R)) → (after : LinesBegun) → (later : List Entry) → Type 0
+  module _ {F : Type 0} (r : Result Outcome F) (sites : Sites) (old : List (LivesView R)) (b : BegunLines) (history : List Entry) where
+    abbrev Does : Event → (new_sites : Sites) → (new : List (LivesView R)) → (after : BegunLines) → (later : List Entry) → Type 0
     Does e new_sites new after later = IfOk r (IsNotedStep stands e (happens stands e (λ l. has_line l b) sites old) sites new_sites old new b after history later)
 
-    noted_step : (e : Event) (h : Happening) (new_sites : Sites) (new : List (LivesView R)) (after : LinesBegun) (later : List Entry) → IfOk r (λ o. o ≡ outcome_of h) → OnOk r (later ≡ noted_by history h)
+    noted_step : (e : Event) (h : Happening) (new_sites : Sites) (new : List (LivesView R)) (after : BegunLines) (later : List Entry) → IfOk r (λ o. o ≡ outcome_of h) → OnOk r (later ≡ noted_by history h)
         → OnOk r (DoesToParts stands e h sites new_sites old new b after) → IfOk r (IsNotedStep stands e h sites new_sites old new b after history later)
     noted_step e h new_sites new after later outcome noted parts = by r outcome noted parts
       where
@@ -244,7 +245,7 @@ module _ {R : Type 0} (stands : R → Standing) where
         noted_step e h sites new b history outcome (always_ok _ (unnoted_by h is.notes history))
         (where_ok _ _ (λ does. parts_of e h sites sites old new b is.begins (left_by h leaves sites) does) lives)
 
-    pub submission_noted : (session line : ℕ) (c : Command) (new : List (LivesView R)) (after : LinesBegun) (later : List Entry)
+    pub submission_noted : (session line : ℕ) (c : Command) (new : List (LivesView R)) (after : BegunLines) (later : List Entry)
         → IfOk r (λ o. o ≡ outcome_of (submitted (has_line line b) line c (client_in session old))) → OnOk r (later ≡ noted_by history (submitted (has_line line b) line c (client_in session old)))
         → OnOk r (DoesToLives stands (event.Submit session line c) (submitted (has_line line b) line c (client_in session old)) old new)
         → OnOk r ((l : ℕ) → has_line l after ≡ begun_behind (λ l. has_line l b) (submitted (has_line line b) line c (client_in session old)) l)
@@ -309,8 +310,8 @@ module _ {R : Type 0} (stands : R → Standing) where
 
   -- ---- what is left where memory was refused
 
-  module _ {T F : Type 0} (r : Result T F) (sites new_sites : Sites) (old new : List (LivesView R)) (b : LinesBegun) where
-    pub leaves_alike : (after : LinesBegun) → OnErr r (AreSameSites sites new_sites) → OnErr r (LeavesLives stands old new) → OnErr r ((l : ℕ) → has_line l after ≡ has_line l b)
+  module _ {T F : Type 0} (r : Result T F) (sites new_sites : Sites) (old new : List (LivesView R)) (b : BegunLines) where
+    pub leaves_alike : (after : BegunLines) → OnErr r (AreSameSites sites new_sites) → OnErr r (LeavesLives stands old new) → OnErr r ((l : ℕ) → has_line l after ≡ has_line l b)
         → OnErr r (LeavesParts stands sites new_sites old new b after)
     leaves_alike after same left lines = by r same left lines
       where
@@ -328,7 +329,7 @@ module _ {R : Type 0} (stands : R → Standing) where
         by (Err e) same left = record { sites = same; lives = subst (LeavesLives stands old) (sym left) (leaves_all stands old); begun = λ line. refl }
 
     -- where the sites weren't touched
-    pub leaves_sites : (after : LinesBegun) → OnErr r (new ≡ old) → OnErr r ((l : ℕ) → has_line l after ≡ has_line l b) → OnErr r (LeavesParts stands sites sites old new b after)
+    pub leaves_sites : (after : BegunLines) → OnErr r (new ≡ old) → OnErr r ((l : ℕ) → has_line l after ≡ has_line l b) → OnErr r (LeavesParts stands sites sites old new b after)
     leaves_sites after left lines = by r left lines
       where
         by : (r : Result T F) → OnErr r (new ≡ old) → OnErr r ((l : ℕ) → has_line l after ≡ has_line l b) → OnErr r (LeavesParts stands sites sites old new b after)

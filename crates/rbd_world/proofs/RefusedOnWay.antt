@@ -1,4 +1,4 @@
--- A request that is refused on its way to the lock is refused as its own look would be.
+-- A request that is refused on its way to the lock is refused as its look under the lock would be.
 use Rattle.std.proofs.Common.{◌≡◌, ◌⊎◌, inl, inr, ℕ, Bool, true, false, cond, List, [], ◌∷◌, ◌++◌, Some, refl, sym, ap, ◌∙◌, subst}
 use Rattle.std.proofs.lemmas.Bool.{true≢false}
 use Rattle.std.proofs.lemmas.Option.{none-some, same_Some}

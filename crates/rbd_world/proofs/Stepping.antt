@@ -9,7 +9,8 @@ use Rattle.rbd_machine.specs.Plan.{Standing}
 use Rattle.rbd_world.specs.declared.event.Event.{Event}
 use Rattle.rbd_world.specs.declared.event.Outcome.{Outcome}
 use Rattle.rbd_world.specs.declared.sites.Sites.{Sites}
-use Rattle.rbd_world.specs.Begun.{LinesBegun, has_line}
+use Rattle.rbd_world.specs.Begun.{has_line}
+use Rattle.rbd_world.specs.declared.begun.BegunLines.{BegunLines}
 use Rattle.rbd_world.specs.Run.{Happening, entries_of}
 use Rattle.rbd_world.specs.Sound.{IsKept, IsSoundWorld}
 use Rattle.rbd_world.specs.Step.{AreSameSites, Does, IsBuiltEvent, IsSoundIf, IsStep, IsUndone, LeavesParts, StepsParts, happening, happens, is_begun, is_start_of, names_session}
@@ -23,11 +24,11 @@ module _ {R : Type 0} (stands : R → Standing) where
   clients_sound w sound session (Some c) is = (sound.clients session c is).sound
 
   -- the table of lines tells what the history does
-  same_happening : (e : Event) (b : LinesBegun) (w : WorldView R) → IsKept stands b w
+  same_happening : (e : Event) (b : BegunLines) (w : WorldView R) → IsKept stands b w
       → happens stands e (λ line. has_line line b) w.sites w.lives ≡ happening stands e w
   same_happening e b w kept = ap (λ begun. happens stands e begun w.sites w.lives) (fun_ext kept.lines)
 
-  module _ (e : Event) (b after : LinesBegun) (old new : WorldView R) (result : Outcome) (k : IsKept stands b old)
+  module _ (e : Event) (b after : BegunLines) (old new : WorldView R) (result : Outcome) (k : IsKept stands b old)
       (did : StepsParts stands e (happens stands e (λ line. has_line line b) old.sites old.lives) old.sites new.sites old.lives new.lives b after old.history new.history old.calls new.calls result) where
     abbrev what : Happening
     what = happening stands e old
@@ -81,7 +82,7 @@ same_sites old new same =
     ∙ ap (λ mail. record { a = old.a; b = old.b; mail = mail }) same.mail
 
 module _ {R : Type 0} (stands : R → Standing) where
-  pub undone : (b after : LinesBegun) (old new : WorldView R) → LeavesParts stands old.sites new.sites old.lives new.lives b after
+  pub undone : (b after : BegunLines) (old new : WorldView R) → LeavesParts stands old.sites new.sites old.lives new.lives b after
       → new.history ≡ old.history → new.calls ≡ old.calls → IsUndone stands old new
   undone b after old new left history calls = record {
     sites = same_sites old.sites new.sites left.sites;
@@ -90,13 +91,13 @@ module _ {R : Type 0} (stands : R → Standing) where
     calls = calls;
   }
 
-  pub undone_sound : (b after : LinesBegun) (old new : WorldView R) → IsKept stands b old → LeavesParts stands old.sites new.sites old.lives new.lives b after
+  pub undone_sound : (b after : BegunLines) (old new : WorldView R) → IsKept stands b old → LeavesParts stands old.sites new.sites old.lives new.lives b after
       → new.history ≡ old.history → new.calls ≡ old.calls → IsSoundWorld stands new
   undone_sound b after old new k left history calls =
       undone_is_sound stands old new k.sound (undone b after old new left history calls)
       (λ session. left.lives.sound session (clients_sound stands old k.sound session (client_in session old.lives) refl))
 
-  pub undone_kept : (b after : LinesBegun) (old new : WorldView R) → IsKept stands b old → LeavesParts stands old.sites new.sites old.lives new.lives b after
+  pub undone_kept : (b after : BegunLines) (old new : WorldView R) → IsKept stands b old → LeavesParts stands old.sites new.sites old.lives new.lives b after
       → new.history ≡ old.history → IsSoundWorld stands new → IsKept stands after new
   undone_kept b after old new k left history sound = record {
     sound = sound;

@@ -7,7 +7,7 @@ use Rattle.rbd_world.specs.declared.event.Call.{Call}
 use Rattle.rbd_world.specs.declared.event.Event.{Event}
 use Rattle.rbd_world.specs.declared.event.Outcome.{Outcome}
 use Rattle.rbd_world.specs.declared.sites.Sites.{Sites}
-use Rattle.rbd_world.specs.Begun.{LinesBegun}
+use Rattle.rbd_world.specs.declared.begun.BegunLines.{BegunLines}
 use Rattle.rbd_world.specs.Noted.{noted_by}
 use Rattle.rbd_world.specs.Run.{Happening, Nothing, Waited, Began, Did, Refused, Trimmed, Expired, Heard, Stopped, Restarted, entries_of, outcome_of}
 use Rattle.rbd_world.specs.Step.{DoesToParts, StepsParts}
@@ -27,7 +27,7 @@ noted_entries history (Restarted who) = sym (append-nil history)
 
 -- the call bears the event and its outcome
 pub noted_steps : {R : Type 0} (stands : R → Standing) (e : Event) (h : Happening) (old_sites new_sites : Sites) (old new : List (LivesView R))
-    (old_begun new_begun : LinesBegun) (old_history new_history : List Entry) (old_calls new_calls : List Call) (result : Outcome)
+    (old_begun new_begun : BegunLines) (old_history new_history : List Entry) (old_calls new_calls : List Call) (result : Outcome)
     → DoesToParts stands e h old_sites new_sites old new old_begun new_begun → new_history ≡ noted_by old_history h
     → new_calls ≡ old_calls ++ record { event = e; outcome = result } ∷ [] → result ≡ outcome_of h
     → StepsParts stands e h old_sites new_sites old new old_begun new_begun old_history new_history old_calls new_calls result

@@ -1,7 +1,7 @@
--- Who has its turn at an object: who stands ahead of it is past its own look and has no ticket for
--- it.
+-- Who has its turn at an object: who stands ahead of it is past its look under the lock and has no
+-- ticket for it.
 use Rattle.std.proofs.Common.{◌≡◌, ℕ, ◌||◌, not, Bool, true, false, List, [], ◌∷◌, Option, Some, None, refl, sym, ap, ◌∙◌}
-use Rattle.std.proofs.lemmas.Bool.{true≢false, and_parts}
+use Rattle.std.proofs.lemmas.Bool.{true≢false, and_parts, not-false}
 use Rattle.rbd_kinds.specs.Sharing.{go_together, is_alone}
 use Rattle.rbd_guard.specs.Order.{is_in}
 use Rattle.rbd_line.specs.Line.{Member, LetsPass, IsFairLine, IsFairMember, member_of, is_member, ahead, comes_next, has_turn, holds, is_past, lets_pass, objects_in}
@@ -33,15 +33,11 @@ ticket_of slot number members next = by (member_of slot members) refl next
 
 -- who doesn't wait has its turn
 pub turn_of : (slot number : ℕ) (t : Track) → t.turn ≡ Some number → waits slot t ≡ false → has_turn slot number (line_in t.place t.lines) ≡ true
-turn_of slot number t turn goes = by (has_turn slot number (line_in t.place t.lines)) (sym (ap (λ o. lacks_turn slot o (line_in t.place t.lines)) turn) ∙ lacks (awaits_line slot t) goes)
+turn_of slot number t turn goes = not-false (has_turn slot number (line_in t.place t.lines)) (sym (ap (λ o. lacks_turn slot o (line_in t.place t.lines)) turn) ∙ lacks (awaits_line slot t) goes)
   where
     lacks : (a : Bool) → (a || awaits_turn slot t) ≡ false → awaits_turn slot t ≡ false
     lacks true is = absurd (true≢false is)
     lacks false is = is
-
-    by : (b : Bool) → not b ≡ false → b ≡ true
-    by true is = refl
-    by false is = absurd (true≢false is)
 
 module _ (slot number : ℕ) (members : List Member) (fair : IsFairLine members) (ticket : HasTicket slot number members) (turn : has_turn slot number members ≡ true) where
   its_past : is_past ticket.member.stage ≡ true

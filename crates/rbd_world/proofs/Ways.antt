@@ -221,7 +221,7 @@ module _ {R : Type 0} (stands : R → Standing) (slot : ℕ) (c : ClientView R) 
         by (way.On b) is there = absurd (not_on b is)
         by (way.Taken p) is there = inr (record { site = p.site; image = p.image; way = there })
 
--- ---- behind its own look
+-- ---- behind its look under the lock
 
 newcomer_behind : (e : Option Extent) (k : Course) (site : SiteId) (o : Op) (a : Answer) → is_newcomer_at k.place ≡ false → is_newcomer_at (answered e k site o a).place ≡ false
 newcomer_behind e k site (op.Header image header.Get) (answer.Header h) none = by (is_own_at site image k.place)
@@ -242,7 +242,7 @@ holds_no_more e at k p none orderly holds = holds
 
 module _ {R : Type 0} (stands : R → Standing) (slot : ℕ) (c : ClientView R) (sound : IsSoundClient stands c) (r : Running R) (runs : running_at slot c.session ≡ Some r)
     (seat : Seat) (who : Instance) (run : List Happening) (under : IsUnderWay stands seat who run r) (a : Answer) (can : CanBeFed (stands r.request).plan (fed.Answer a)) where
-  -- at its own look it is answered, and looks at no header any more
+  -- at its look under the lock it is answered, and looks at no header any more
   module _ (site : SiteId) (image : ℕ) (waiting : WaitsForLook stands slot site image c.session) where
     same : waiting.request ≡ r
     same = same_Some waiting.request r (sym waiting.runs ∙ runs)

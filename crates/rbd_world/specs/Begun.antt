@@ -1,10 +1,12 @@
--- The lines that were begun, in a set.
-use Rattle.std.specs.Prelude.{ℕ, nat_eq, Bool, List}
-use Rattle.std.specs.List.{list_any}
+-- The lines that were begun.
+use Rattle.std.specs.Prelude.{ℕ, Bool}
+use Rattle.rbd_lines.specs.Known.{HasRoom as HasRoomFor, is_known}
+use Rattle.rbd_world.specs.declared.begun.BegunLines.{BegunLines}
 
-pub record LinesBegun : Type 0 where
-  pub lines : List ℕ
-  pub room : ℕ
+-- a line was begun
+abbrev pub has_line : (line : ℕ) → BegunLines → Bool
+has_line line b = is_known b.lines line
 
-abbrev pub has_line : (line : ℕ) → LinesBegun → Bool
-has_line line b = list_any (nat_eq line) b.lines
+-- There is room for a line.
+abbrev pub HasRoom : (line : ℕ) → BegunLines → Type 0
+HasRoom line b = HasRoomFor b.lines line

@@ -2,6 +2,7 @@
 use Rattle.std.specs.Prelude.{◌≡◌, ℕ, true, false, List, Some}
 use Rattle.rbd_line.specs.Line.{Member, member_of, holds, is_past}
 
--- the member in a slot, where there is one, is past its own look, and has no ticket for an object
+-- the member in a slot, where there is one, is past its look under the lock, and has no ticket for
+-- an object
 abbrev pub IsPastWithout : (slot object : ℕ) → List Member → Type 0
 IsPastWithout slot number members = (m : Member) → member_of slot members ≡ Some m → (is_past m.stage ≡ true) × (holds number m ≡ false)

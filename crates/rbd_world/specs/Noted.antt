@@ -7,7 +7,7 @@ use Rattle.rbd_world.specs.declared.event.Event.{Event}
 use Rattle.rbd_world.specs.declared.event.Outcome.{Outcome}
 use Rattle.rbd_world.specs.declared.event.Outcome.TheVariants as outcome
 use Rattle.rbd_world.specs.declared.sites.Sites.{Sites}
-use Rattle.rbd_world.specs.Begun.{LinesBegun}
+use Rattle.rbd_world.specs.declared.begun.BegunLines.{BegunLines}
 use Rattle.rbd_world.specs.Run.{Happening, Nothing, Waited, Began, Did, Refused, Trimmed, Expired, Heard, Stopped, Restarted, ending_entries, entry_of, outcome_of}
 use Rattle.rbd_world.specs.Step.{DoesToParts}
 use Rattle.rbd_world.specs.World.{LivesView}
@@ -30,7 +30,7 @@ is_start (outcome.Submitted slot) = true
 is_start _ = false
 
 -- An event did this to all parts, and so it is noted; its call isn't kept yet.
-pub record IsNotedStep {R : Type 0} (stands : R → Standing) (e : Event) (h : Happening) (old_sites new_sites : Sites) (old new : List (LivesView R)) (old_begun new_begun : LinesBegun)
+pub record IsNotedStep {R : Type 0} (stands : R → Standing) (e : Event) (h : Happening) (old_sites new_sites : Sites) (old new : List (LivesView R)) (old_begun new_begun : BegunLines)
     (old_history new_history : List Entry) (result : Outcome) : Type 0 where
   pub parts : DoesToParts stands e h old_sites new_sites old new old_begun new_begun
   pub history : new_history ≡ noted_by old_history h

@@ -47,7 +47,8 @@ use Rattle.rbd_stands.specs.Owned.{IsOwnedStep}
 use Rattle.rbd_stands.specs.Site.{StandsFor}
 use Rattle.rbd_watch.specs.Posting.{numbered}
 use Rattle.rbd_watch.specs.Watching.{oldest_of}
-use Rattle.rbd_world.specs.Begun.{LinesBegun, has_line}
+use Rattle.rbd_world.specs.Begun.{has_line}
+use Rattle.rbd_world.specs.declared.begun.BegunLines.{BegunLines}
 use Rattle.rbd_world.specs.Order.{IsInOrder, KeepsOrder}
 use Rattle.rbd_world.specs.Owing.{IsUnhindered, owed_in}
 use Rattle.rbd_world.specs.Past.{HadNoHeader, known_along}
@@ -460,6 +461,6 @@ pub record IsNewWorld {R : Type 0} (stands : R → Standing) (w : WorldView R) :
   pub calls : w.calls ≡ []
 
 -- a world beside its table of the lines that were begun
-pub record IsKept {R : Type 0} (stands : R → Standing) (b : LinesBegun) (w : WorldView R) : Type 0 where
+pub record IsKept {R : Type 0} (stands : R → Standing) (b : BegunLines) (w : WorldView R) : Type 0 where
   pub sound : IsSoundWorld stands w
   pub lines : (line : ℕ) → has_line line b ≡ is_begun line w.history

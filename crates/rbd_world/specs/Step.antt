@@ -51,7 +51,8 @@ use Rattle.rbd_stands.specs.Effect.{effect_of}
 use Rattle.rbd_stands.specs.Site.{StandsFor}
 use Rattle.rbd_watch.specs.Posting.{numbered}
 use Rattle.rbd_watch.specs.Watching.{oldest_of}
-use Rattle.rbd_world.specs.Begun.{LinesBegun, has_line}
+use Rattle.rbd_world.specs.Begun.{has_line}
+use Rattle.rbd_world.specs.declared.begun.BegunLines.{BegunLines}
 use Rattle.rbd_world.specs.Run.{Asked, Doer, Itself, OnWay, House, AfterStop, Happening, Nothing, Waited, Began, Did, Refused, Trimmed, Expired, Heard, Stopped, Restarted, Operation, Sent, entries_of, lines_at, outcome_of, records_behind}
 use Rattle.rbd_world.specs.World.{LateView, LivesView, WorldView, client_in, late_at, lives_in, records_in, site_in}
 use Rattle.rbd_world.specs.declared.event.Call.{Call}
@@ -493,19 +494,19 @@ begun_behind begun h line = begun line || is_begun line (entries_of h)
 
 module _ {R : Type 0} (stands : R → Standing) where
   -- what an event does to all parts
-  pub record DoesToParts (e : Event) (h : Happening) (old_sites new_sites : Sites) (old new : List (LivesView R)) (old_begun new_begun : LinesBegun) : Type 0 where
+  pub record DoesToParts (e : Event) (h : Happening) (old_sites new_sites : Sites) (old new : List (LivesView R)) (old_begun new_begun : BegunLines) : Type 0 where
     pub sites : DoesAtSites h old_sites new_sites
     pub lives : DoesToLives stands e h old new
     pub begun : (line : ℕ) → has_line line new_begun ≡ begun_behind (λ l. has_line l old_begun) h line
 
   -- what is left of them where it was refused memory
-  pub record LeavesParts (old_sites new_sites : Sites) (old new : List (LivesView R)) (old_begun new_begun : LinesBegun) : Type 0 where
+  pub record LeavesParts (old_sites new_sites : Sites) (old new : List (LivesView R)) (old_begun new_begun : BegunLines) : Type 0 where
     pub sites : AreSameSites old_sites new_sites
     pub lives : LeavesLives stands old new
     pub begun : (line : ℕ) → has_line line new_begun ≡ has_line line old_begun
 
   -- A step of all parts: what it does to them, what history and calls have more, and its outcome.
-  pub record StepsParts (e : Event) (h : Happening) (old_sites new_sites : Sites) (old new : List (LivesView R)) (old_begun new_begun : LinesBegun)
+  pub record StepsParts (e : Event) (h : Happening) (old_sites new_sites : Sites) (old new : List (LivesView R)) (old_begun new_begun : BegunLines)
       (old_history new_history : List Entry) (old_calls new_calls : List Call) (result : Outcome) : Type 0 where
     pub parts : DoesToParts e h old_sites new_sites old new old_begun new_begun
     pub history : new_history ≡ old_history ++ entries_of h

@@ -63,8 +63,8 @@ pub record IsOfRelease (o : Op) : Type 0 where
 -- ---- what the state of a slot says
 
 -- A request that has begun no way has done nothing on one, unless its way is over and it is past
--- its own look. Where one is on its way its operations lead to where it stands, and where it has
--- taken the lock they lead to the way's end.
+-- its look under the lock. Where one is on its way its operations lead to where it stands, and
+-- where it has taken the lock they lead to the way's end.
 abbrev pub GoesWith : (left : Plan) → Way → (steps : List Answered) → Type 0
 GoesWith left way.Unbegun steps = (steps ≡ []) ⊎ (TookTheLock steps × LooksNoMore left)
 GoesWith left (way.On a) steps = IsWayThere a.site a.image steps (rest_of_acquire a (Return reply.Done))

@@ -1,5 +1,5 @@
 //! What can happen to a world, and what came of it.
-use rbd_kinds::{Command, ImageId, NoMemory, SessionNo, SiteId, Slot, TryClone};
+use rbd_kinds::{Command, ImageId, NoMemory, SessionNo, Shared, SiteId, Slot, TryClone};
 
 /// One event: at most one operation on one object of one site.
 #[derive(Debug, Drop)]
@@ -8,7 +8,7 @@ pub enum Event {
     Submit {
         session: SessionNo,
         line: u32,
-        command: Command,
+        command: Shared<Command>,
     },
     /// Who acts at a slot of a session does the operation that is wanted there: the request in it,
     /// its way to the lock of its image, or, at slot 0, the release of a lock.

@@ -17,7 +17,7 @@ use crate::noting::entry_by;
 use crate::sender::Sender;
 use rbd_effect::effect_of;
 use rbd_flat::{Effect, Entry};
-use rbd_kinds::{Answer, Fed, HeaderView, ImageId, Instance, NoMemory, Op, SiteId};
+use rbd_kinds::{Answer, Fed, HeaderView, ImageId, Instance, NoMemory, Op, Shared, SiteId};
 use rbd_owner::is_waiting;
 use rbd_site::Site;
 use std::alloc::Global;
@@ -104,14 +104,23 @@ fn fence_of(op: &Op, answer: &Answer) -> Option<Instance>
     }
 }
 
-/// The effect of an operation that will be answered so. Only what is done has one that the header
-/// of its image tells.
+/// The effect of an operation that will be answered so.
 fn effect_now(
     alloc: Global,
     at: &Site,
     op: &Op,
     answer: &Answer,
-) -> Result<Option<Effect>, NoMemory>
+) -> Result<Option<Shared<Effect>>, NoMemory>
+    ensures { IfOk result (λ effect. effect ≡ effect_there (records_of at.now) (of_done.Op op.now) answer.now) }
+{
+    match effect_by(alloc, at, op, answer)? {
+        Some(effect) => Ok(Some(Shared::new(alloc, effect)?)),
+        None => Ok(None),
+    }
+}
+
+/// The same, not shared. Only what is done has an effect that the header of its image tells.
+fn effect_by(alloc: Global, at: &Site, op: &Op, answer: &Answer) -> Result<Option<Effect>, NoMemory>
     ensures { IfOk result (λ effect. effect ≡ effect_there (records_of at.now) (of_done.Op op.now) answer.now) }
 {
     match answer {

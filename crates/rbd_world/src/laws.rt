@@ -40,8 +40,8 @@ pub fn steps_keep_worlds_sound<R: Request>()
         → IsSoundWorld R.stands new }
 {}
 
-/// Whatever list of events comes, the world behind it is sound: so its calls, history, logs and mail
-/// are those of one run, in which all holds that [`steps_keep_worlds_sound`] keeps.
+/// Whatever list of events comes, the world behind it is sound: so its calls, history, logs and
+/// mail are those of one run, in which all holds that [`steps_keep_worlds_sound`] keeps.
 pub fn lists_of_events_are_runs<R: Request>()
     ensures { (calls : List Call) (old new : WorldView R) → IsSoundWorld R.stands old → AreCallsOf R.stands calls old new → IsSoundWorld R.stands new }
 {}
@@ -65,8 +65,8 @@ pub fn what_is_wanted_may_be_done<R: Request>()
 {}
 
 /// Of two `write`, `fill` or `discard` requests of one instance, the one that found an image first
-/// changes each of its objects first: at whichever place of the run it changes one, the other hasn't
-/// changed it yet.
+/// changes each of its objects first: at whichever place of the run it changes one, the other
+/// hasn't changed it yet.
 pub fn writes_keep_their_order<R: Request>()
     ensures { (w : WorldView R) (sound : IsSoundWorld R.stands w) (who : Who) (one other : ℕ) (s : Which) (image number : ℕ)
         → IsWriterOf who one sound.run → IsWriterOf who other sound.run → found_before one other s image sound.run ≡ true

@@ -80,8 +80,8 @@
 //!   changes an image is its owner's, and a lock is broken only where its owner is fenced
 //!   (`IsOwnedStep`). No two clients are in each other's way, nor what stopped lives may still
 //!   send;
-//! - of two `write`, `fill` or `discard` requests of one instance, the one that found an image first
-//!   changes each of its objects first, however their operations are mixed;
+//! - of two `write`, `fill` or `discard` requests of one instance, the one that found an image
+//!   first changes each of its objects first, however their operations are mixed;
 //! - as long as nobody is stopped or fenced, object maps tell exactly which objects exist, but for
 //!   the object that a line makes or removes next, or whose state it sets next (`rbd_exact`).
 //!
@@ -94,7 +94,7 @@
 //! # Cost
 //!
 //! A step costs its operation, and look-ups by number: of a session, of a slot, of a notice, and of
-//! a line in a hash table. History, calls, logs and mail grow at their end, and are never copied or
+//! a line on its page. History, calls, logs and mail grow at their end, and are never copied or
 //! read. A poll whose operation is done looks once more at the header of its image, whose list of
 //! snapshots is shared. A stop costs its session's 65 slots.
 //!

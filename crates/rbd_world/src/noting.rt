@@ -8,7 +8,7 @@ ghost use Rattle.rbd_world.specs.Sending.{doer_of};
 use crate::event::{Call, Event, Outcome};
 use crate::sender::Sender;
 use rbd_flat::{Cause, Effect, Entry};
-use rbd_kinds::{Instance, NoMemory, Reply, SiteId};
+use rbd_kinds::{Instance, NoMemory, Reply, Shared, SiteId};
 
 /// What happened, and by which calls.
 #[derive(Debug, Drop)]
@@ -69,7 +69,7 @@ pub fn entry_by(
     site: SiteId,
     number: u64,
     fence: Option<Instance>,
-    effect: Option<Effect>,
+    effect: Option<Shared<Effect>>,
 ) -> Entry
     ensures { result ≡ entry_by cause site number fence effect }
 {
@@ -85,7 +85,7 @@ pub fn entry_by(
 }
 
 /// The entry of an operation that fenced nobody.
-fn unfenced(cause: Cause, site: SiteId, number: u64, effect: Option<Effect>) -> Entry
+fn unfenced(cause: Cause, site: SiteId, number: u64, effect: Option<Shared<Effect>>) -> Entry
     ensures { result ≡ entry_unfenced cause site number effect }
 {
     match effect {

@@ -141,8 +141,8 @@ fn sender_of(actor: &Actor, line: u32) -> Sender
     Sender::Itself(line)
 }
 
-/// Who acts at a slot does what is wanted there, if anybody does. (Each second poll finds nobody: so
-/// the room that an operation needs is another function's.)
+/// Who acts at a slot does what is wanted there, if anybody does. (Each second poll finds nobody:
+/// so the room that an operation needs is another function's.)
 fn act<R: Request>(
     alloc: Global,
     sites: &mut Sites,

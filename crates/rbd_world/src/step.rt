@@ -4,7 +4,8 @@ ghost use Rattle.std.specs.Vec.{vec_capacity, vec_len};
 ghost use Rattle.rbd_client.specs.Client.{ClientView};
 ghost use Rattle.rbd_requests.specs.declared.request.SessionRequest.{SessionRequest as Of};
 ghost use Rattle.rbd_requests.specs.Session.{stands_of};
-ghost use Rattle.rbd_world.specs.Begun.{LinesBegun, has_line};
+ghost use Rattle.rbd_world.specs.Begun.{has_line};
+ghost use Rattle.rbd_world.specs.declared.begun.BegunLines.{BegunLines};
 ghost use Rattle.rbd_world.specs.Noted.{IsNotedStep};
 ghost use Rattle.rbd_world.specs.Step.{DropsWhatItMay, IsBuiltEvent, LeavesParts, MayCome, StepsParts, WantsWhatItMay, happens, polled};
 ghost use Rattle.rbd_world.specs.World.{client_in, late_at};
@@ -120,9 +121,9 @@ pub fn poll_parts<E: Machine + Drop>(
 ) -> Result<Outcome, NoMemory>
     requires wants { (c : ClientView (Of E)) → client_in session lives.old.items ≡ Some c → WantsWhatItMay (stands_of E.stands) sites.old slot c }
     requires rest { (c : ClientView (Of E)) → client_in session lives.old.items ≡ Some c → DropsWhatItMay (stands_of E.stands) slot c }
-    ensures steps { (begun : LinesBegun) → let h = polled (stands_of E.stands) sites.old slot (client_in session lives.old.items) in
+    ensures steps { (begun : BegunLines) → let h = polled (stands_of E.stands) sites.old slot (client_in session lives.old.items) in
         IfOk result (StepsParts (stands_of E.stands) (of_event.Poll session slot) h sites.old sites.new lives.old.items lives.new.items begun begun book.old.history.items book.new.history.items book.old.calls.items book.new.calls.items) }
-    ensures err { (begun : LinesBegun) → OnErr result (LeavesParts (stands_of E.stands) sites.old sites.new lives.old.items lives.new.items begun begun) }
+    ensures err { (begun : BegunLines) → OnErr result (LeavesParts (stands_of E.stands) sites.old sites.new lives.old.items lives.new.items begun begun) }
     ensures history { OnErr result (book.new.history.items ≡ book.old.history.items) }
     ensures calls { OnErr result (book.new.calls.items ≡ book.old.calls.items) }
 {

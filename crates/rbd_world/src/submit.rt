@@ -51,7 +51,7 @@ pub fn submit<E: Machine + Drop>(
     ensures same { OnErr result ((l : ℕ) → has_line l begun.new ≡ has_line l begun.old) }
     ensures unnoted { OnErr result (history.new.items ≡ history.old.items) }
 {
-    begun.reserve()?;
+    begun.reserve(at.line)?;
     let is_begun = begun.has(at.line);
     let outcome = submit_to(alloc, lives, history, at, command, is_begun)?;
     if has_begun(&outcome) {

@@ -1,9 +1,6 @@
 -- Parts go to no label of their own.
 use Rattle.std.proofs.Common.{ℕ, Bool, true, false, List, [], ◌∷◌}
 use Rattle.std.specs.Prelude.{nat_le}
-use Rattle.rbd_machine.specs.Steps.{on_bits}
-use Rattle.rbd_kinds.specs.declared.answer.Answer.{Answer}
-use Rattle.rbd_kinds.specs.declared.answer.Answer.TheVariants as answer
 use Rattle.rbd_kinds.specs.declared.header.HeaderView.{HeaderView}
 use Rattle.rbd_kinds.specs.declared.header.SnapContext.{SnapContext}
 use Rattle.rbd_kinds.specs.declared.id.SiteId.{SiteId}
@@ -11,7 +8,7 @@ use Rattle.rbd_layout.specs.declared.types.Piece.{Piece}
 use Rattle.rbd_header.specs.Header.{context_of}
 use Rattle.rbd_machine.specs.Label.{Label}
 use Rattle.rbd_machine.specs.Plan.{Plan, IsClosed}
-use Rattle.rbd_machine.proofs.Closed.{closed_not_there, closed_on_done}
+use Rattle.rbd_machine.proofs.Closed.{closed_on_bits, closed_on_done}
 use Rattle.rbd_zero.specs.Full.{cut_bytes, full_by, full_piece, writing_full}
 use Rattle.rbd_zero.specs.Shrink.{pieces_from}
 use Rattle.rbd_zero.specs.Size.{cutting, resize, resize_by, sizing, zero_pieces}
@@ -48,14 +45,10 @@ module _ (labels : Label → Plan) where
   closed_pieces [] site image h next closed = closed
   closed_pieces (p ∷ pieces) site image h next closed = closed_zero site image h p (zero_pieces site image h pieces next) (closed_pieces pieces site image h next closed)
 
-  closed_on_bits : (next : List ℕ → Plan) → ((bits : List ℕ) → IsClosed labels (next bits)) → (a : Answer) → IsClosed labels (on_bits next a)
-  closed_on_bits next closed (answer.Bits bits) = closed bits
-  closed_on_bits next closed a = closed_not_there labels a
-
   closed_resize_by : (grows : Bool) (site : SiteId) (image : ℕ) (h : HeaderView) (to objects : ℕ) (next : Plan) → IsClosed labels next → IsClosed labels (resize_by grows site image h to objects next)
   closed_resize_by true site image h to objects next closed = closed_on_done labels (sizing site image to next) (closed_on_done labels next closed)
   closed_resize_by false site image h to objects next closed =
-      closed_on_bits (cutting site image h to next) (λ bits. closed_pieces (pieces_from h to bits) site image h (sizing site image to next) (closed_on_done labels next closed))
+      closed_on_bits labels (cutting site image h to next) (λ bits. closed_pieces (pieces_from h to bits) site image h (sizing site image to next) (closed_on_done labels next closed))
 
   pub closed_resize : (site : SiteId) (image : ℕ) (h : HeaderView) (to objects : ℕ) (next : Plan) → IsClosed labels next → IsClosed labels (resize site image h to objects next)
   closed_resize site image h to objects next closed = closed_resize_by (nat_le h.size to) site image h to objects next closed

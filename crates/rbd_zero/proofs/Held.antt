@@ -12,7 +12,7 @@ use Rattle.rbd_layout.specs.Pieces.{IsHeld, IsPartsOf, places_of}
 use Rattle.rbd_layout.specs.declared.types.Piece.{Piece}
 use Rattle.rbd_layout.proofs.Cover.{cover}
 use Rattle.rbd_layout.proofs.Mixed.{cases_lt}
-use Rattle.rbd_layout.proofs.Places.{byte_of_place, held_after, held_all, held_before, held_none, held_own, offset_within}
+use Rattle.rbd_layout.proofs.Places.{byte_of_place, held_after, held_all, held_at_start, held_before, held_none, held_own, offset_within}
 use Rattle.rbd_zero.specs.Zero.{head_of, is_whole}
 use Rattle.rbd_zero.proofs.AllBytes.{whole_is_all}
 
@@ -30,9 +30,6 @@ held_by l is n m = sets (cases_lt (n / l.count) (object_of l m / l.count))
     sets (inr (inl same)) = objects same (cases_lt n (object_of l m))
     sets (inr (inr after)) = (0, held_none l is n m after)
 
-none_held : (l : Layout) (n : ℕ) → IsHeld l n 0 0
-none_held l n = record { within = omega arith; each = λ offset inside. ((λ less. absurd (omega (arith, less))), (λ less. absurd (omega (arith, less)))) }
-
 places_len : (parts : List Part) → length (flat_map places_of parts) ≡ parts_len parts
 places_len [] = refl
 places_len (p ∷ parts) =
@@ -46,7 +43,7 @@ whole_is_held h p is whole =
     let are : IsPartsOf l (head_of h) p.object p.parts = (whole_is_all h p is).0 whole in
     let (held, there) = held_by l is p.object h.size in
     let none_before : 0 + h.size ≡ h.size = omega arith in
-    let places = cover l is p.object 0 h.size 0 held (none_held l p.object) (subst (λ below. IsHeld l p.object below held) (sym none_before) there) in
+    let places = cover l is p.object 0 h.size 0 held (held_at_start l p.object) (subst (λ below. IsHeld l p.object below held) (sym none_before) there) in
     let many : length (map (byte_at l p.object) (range_with_len 0 (held - 0))) ≡ held - 0 = length-map-range_with_len (byte_at l p.object) 0 (held - 0) in
     let len : parts_len p.parts ≡ held - 0 = sym (places_len p.parts) ∙ ap length are.cover ∙ ap length places ∙ many in
     let same : held ≡ parts_len p.parts = omega (arith, len) in

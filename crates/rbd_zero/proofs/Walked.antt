@@ -2,7 +2,6 @@
 use Rattle.std.proofs.Common.{◌≡◌, ℕ, Bool, true, false, List, [], ◌∷◌, ◌++◌, refl, sym, ap, ◌∙◌, append_assoc}
 use Rattle.std.specs.Prelude.{nat_le}
 use Rattle.std.proofs.lemmas.List.{append-nil}
-use Rattle.rbd_kinds.specs.declared.answer.Answer.{Answer}
 use Rattle.rbd_kinds.specs.declared.answer.Answer.TheVariants as answer
 use Rattle.rbd_kinds.specs.declared.header.HeaderView.{HeaderView}
 use Rattle.rbd_kinds.specs.declared.header.SnapContext.{SnapContext}
@@ -16,7 +15,7 @@ use Rattle.rbd_machine.specs.Path.{Answered, IsWalk}
 use Rattle.rbd_machine.specs.Plan.{Plan, Return, Goto}
 use Rattle.rbd_machine.specs.Steps.{own, on_done, on_bits}
 use Rattle.rbd_machine.specs.declared.reason.Reason.TheVariants as reason
-use Rattle.rbd_machine.proofs.Walked.{EndsUnrefused, ended, nothing_ends_otherwise, told_done, went_on}
+use Rattle.rbd_machine.proofs.Walked.{EndsUnrefused, ended, told_bits, told_done, went_on}
 use Rattle.rbd_zero.specs.Full.{cut_bytes, full_by, full_piece, replaced, replaced_by, writing_full}
 use Rattle.rbd_zero.specs.Operations.{data_empty, data_remove, data_write_full, data_zero, done, header_set_size, map_get, map_resize, map_set}
 use Rattle.rbd_zero.specs.Shrink.{pieces_from}
@@ -29,12 +28,6 @@ record Did (last next : Plan) (first steps : List Answered) : Type 0 where
   rest : List Answered
   are : steps ≡ first ++ rest
   walk : IsWalk Goto next more rest last
-
--- some states were told
-record ToldBits (last : Plan) (next : List ℕ → Plan) (a : Answer) (feds : List Fed) (steps : List Answered) : Type 0 where
-  bits : List ℕ
-  is : a ≡ answer.Bits bits
-  walk : IsWalk Goto (next bits) feds steps last
 
 module _ (last : Plan) (kind : EndsUnrefused last) where
   -- ---- steps
@@ -57,10 +50,6 @@ module _ (last : Plan) (kind : EndsUnrefused last) where
     are = a.are ∙ ap (λ rest. first ++ rest) b.are ∙ sym (append_assoc first second b.rest);
     walk = b.walk;
   }
-
-  told_bits : (next : List ℕ → Plan) (a : Answer) (feds : List Fed) (steps : List Answered) → IsWalk Goto (on_bits next a) feds steps last → ToldBits last next a feds steps
-  told_bits next (answer.Bits bits) feds steps walk = record { bits = bits; is = refl; walk = walk }
-  told_bits next a feds steps walk = absurd (nothing_ends_otherwise last kind a feds steps walk)
 
   -- ---- a piece
 

@@ -111,12 +111,12 @@ impl FullPiece {
     }
 
     /// The operation that it wants.
-    pub fn next(&self) -> Result<Op, NoMemory>
+    pub fn next(&self, alloc: Global) -> Result<Op, NoMemory>
         ensures { (next : Plan) → IfOk result (Asks (rest_of_full self.now next)) }
     {
         match &self.way {
-            Way::Replacing(replace) => replace.next(),
-            Way::Zeroing(zeros) => zeros.next(),
+            Way::Replacing(replace) => replace.next(alloc),
+            Way::Zeroing(zeros) => zeros.next(alloc),
         }
     }
 
@@ -141,8 +141,8 @@ impl Machine for FullPiece {
         FullPiece::wants(self)
     }
 
-    fn next(&self, _alloc: Global) -> Result<Op, NoMemory> {
-        FullPiece::next(self)
+    fn next(&self, alloc: Global) -> Result<Op, NoMemory> {
+        FullPiece::next(self, alloc)
     }
 
     fn reason(&self) -> Reason {

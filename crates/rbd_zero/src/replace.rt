@@ -11,6 +11,7 @@ use rbd_kinds::{
     Answer, Bytes, DataOp, ImageId, NoMemory, Op, OpKind, SiteId, SnapContext, TryClone, Want,
 };
 use rbd_machine::{Progress, told_done};
+use std::alloc::Global;
 
 /// Bytes that become all of an object.
 ///
@@ -75,28 +76,24 @@ impl Replace {
     }
 
     /// The operation that it wants.
-    pub fn next(&self) -> Result<Op, NoMemory>
+    pub fn next(&self, alloc: Global) -> Result<Op, NoMemory>
         ensures { (next : Plan) → IfOk result (Asks (rest_of_replace self.now next)) }
     {
         match self.stage {
             Stage::Raising => Ok(map_set(self.image, self.object, 1)),
-            Stage::Writing => self.write(),
+            Stage::Writing => self.write(alloc),
         }
     }
 
     /// Its object becomes the bytes.
-    fn write(&self) -> Result<Op, NoMemory>
+    fn write(&self, alloc: Global) -> Result<Op, NoMemory>
         ensures { IfOk result (λ op. op ≡ data_write_full self.now.image self.now.context self.now.object self.now.bytes) }
     {
         let op = DataOp::WriteFull {
             context: self.context.try_clone()?,
             bytes: self.bytes.try_clone()?,
         };
-        Ok(Op::Data {
-            image: self.image,
-            object: self.object,
-            op,
-        })
+        Op::on_object(alloc, self.image, self.object, op)
     }
 
     /// Goes on with an answer. It takes no memory.

@@ -106,13 +106,13 @@ impl Size {
     }
 
     /// The operation that it wants.
-    pub fn next(&self) -> Result<Op, NoMemory>
+    pub fn next(&self, alloc: Global) -> Result<Op, NoMemory>
         ensures { (next : Plan) → IfOk result (Asks (rest_of_size self.now next)) }
     {
         match &self.stage {
             Stage::Growing { objects, to: _ } => Ok(map_resize(self.image, *objects)),
             Stage::Looking(_) => Ok(map_get(self.image)),
-            Stage::Zeroing { piece, to: _ } => piece.next(),
+            Stage::Zeroing { piece, to: _ } => piece.next(alloc),
             Stage::Sizing { to } => Ok(header_set_size(self.image, *to)),
         }
     }
@@ -213,8 +213,8 @@ impl Machine for Size {
         Size::wants(self)
     }
 
-    fn next(&self, _alloc: Global) -> Result<Op, NoMemory> {
-        Size::next(self)
+    fn next(&self, alloc: Global) -> Result<Op, NoMemory> {
+        Size::next(self, alloc)
     }
 
     #[tactic(auto, using(crate::proofs::Sizes::asks_by_itself))]

@@ -149,17 +149,17 @@ impl ZeroPiece {
     }
 
     /// The operation that it wants.
-    pub fn next(&self) -> Result<Op, NoMemory>
+    pub fn next(&self, alloc: Global) -> Result<Op, NoMemory>
         ensures { (next : Plan) → IfOk result (Asks (rest_of_zero self.now next)) }
     {
         match self.stage {
-            Stage::Zeroing => self.zero(false),
+            Stage::Zeroing => self.zero(alloc, false),
             Stage::RaisingToZero => Ok(self.set(1)),
-            Stage::ZeroingThere => self.zero(true),
+            Stage::ZeroingThere => self.zero(alloc, true),
             Stage::RaisingToEmpty => Ok(self.set(1)),
-            Stage::Emptying => self.empty(),
+            Stage::Emptying => self.empty(alloc),
             Stage::Marking => Ok(self.set(2)),
-            Stage::Removing => self.remove(),
+            Stage::Removing => self.remove(alloc),
             Stage::Lowering => Ok(self.set(0)),
         }
     }
@@ -172,7 +172,7 @@ impl ZeroPiece {
     }
 
     /// Its parts become zeros.
-    fn zero(&self, must: bool) -> Result<Op, NoMemory>
+    fn zero(&self, alloc: Global, must: bool) -> Result<Op, NoMemory>
         ensures { IfOk result (λ op. op ≡ operations.data_zero self.now.image self.now.context must self.now.piece) }
     {
         let op = DataOp::Zero {
@@ -180,38 +180,34 @@ impl ZeroPiece {
             must,
             parts: self.piece.parts.try_clone()?,
         };
-        Ok(self.of_object(op))
+        self.of_object(alloc, op)
     }
 
     /// Its object loses its bytes, and stays.
-    fn empty(&self) -> Result<Op, NoMemory>
+    fn empty(&self, alloc: Global) -> Result<Op, NoMemory>
         ensures { IfOk result (λ op. op ≡ operations.data_empty self.now.image self.now.context self.now.piece.object) }
     {
         let op = DataOp::Empty {
             context: self.context.try_clone()?,
         };
-        Ok(self.of_object(op))
+        self.of_object(alloc, op)
     }
 
     /// Its object goes.
-    fn remove(&self) -> Result<Op, NoMemory>
+    fn remove(&self, alloc: Global) -> Result<Op, NoMemory>
         ensures { IfOk result (λ op. op ≡ operations.data_remove self.now.image self.now.context self.now.piece.object) }
     {
         let op = DataOp::Remove {
             context: self.context.try_clone()?,
         };
-        Ok(self.of_object(op))
+        self.of_object(alloc, op)
     }
 
     /// An operation on its object.
-    fn of_object(&self, op: DataOp) -> Op
-        ensures { result ≡ op_of.Data self.now.image self.now.piece.object op }
+    fn of_object(&self, alloc: Global, op: DataOp) -> Result<Op, NoMemory>
+        ensures { IfOk result (λ made. made ≡ op_of.Data self.now.image self.now.piece.object op) }
     {
-        Op::Data {
-            image: self.image,
-            object: self.piece.object,
-            op,
-        }
+        Op::on_object(alloc, self.image, self.piece.object, op)
     }
 
     /// Goes on with an answer. It takes no memory.
@@ -292,8 +288,8 @@ impl Machine for ZeroPiece {
         ZeroPiece::wants(self)
     }
 
-    fn next(&self, _alloc: Global) -> Result<Op, NoMemory> {
-        ZeroPiece::next(self)
+    fn next(&self, alloc: Global) -> Result<Op, NoMemory> {
+        ZeroPiece::next(self, alloc)
     }
 
     fn reason(&self) -> Reason {

@@ -38,7 +38,7 @@ impl Machine for Removal {
     }
 
     fn next(&self, alloc: Global) -> Result<Op, NoMemory> {
-        Ok(self.part.next(alloc))
+        self.part.next(alloc)
     }
 
     fn reason(&self) -> Reason {

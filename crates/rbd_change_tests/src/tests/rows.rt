@@ -1,7 +1,7 @@
-//! Tables of requests: `COMMAND|FIRST LOOK|OWN LOOK|WANTS|REPLY`. Where the own look is empty it is
-//! as the first.
+//! Tables of requests: `COMMAND|FIRST LOOK|OWN LOOK|WANTS|REPLY`. Where the look under the lock is
+//! empty it is as the first.
 
-/// The way of a change that goes beside others to its own look.
+/// The way of a change that goes beside others to its look under the lock.
 pub const BESIDE: &str = "dir-find disk, join discard, header-get, hold, header-get, ";
 
 /// That of a change that is alone.
@@ -12,7 +12,8 @@ pub const REMOVING: &str = "dir-find disk, join alone, header-get, watchers-get,
     hold, header-get, watchers-get, ";
 
 /// Discards, behind the way: parts of an object, all that it has, several objects, and two
-/// stripings. Inside an overlap an object is emptied and doesn't go. The own look decides.
+/// stripings. Inside an overlap an object is emptied and doesn't go. The look under the lock
+/// decides.
 pub const DISCARDS: &str = "\
 discard 1 4095|size 12288||note discard 1 4095, turn 0, data-zero 0 at 1 4095, applied|done
 discard 4096 4096|size 12288||note discard 4096 4096, turn 1, map-set 1 2, data-remove 1, \
@@ -63,8 +64,8 @@ resize 8589930496|size 0 object 8192 count 3||note resize 8589930496, map-resize
 resize 0|size 4096 states 1 none map-get||note resize 0, map-get|NoImage
 resize 0|size 0 none header-set-size||note resize 0, map-resize 0, header-set-size 0|NoImage";
 
-/// Rollbacks, behind the way: an image that grew since the snapshot, and one that shrank.
-/// Objects that weren't there, or had only zeros, go; bytes are cut behind the last that isn't zero.
+/// Rollbacks, behind the way: an image that grew since the snapshot, and one that shrank. Objects
+/// that weren't there, or had only zeros, go; bytes are cut behind the last that isn't zero.
 pub const ROLLBACKS: &str = "\
 rollback one|size 12288 snap 4096 states 112 held ab||note rollback one, map-get, map-set 1 2, \
     data-remove 1 for 1, map-set 1 0, map-set 2 2, data-remove 2 for 1, map-set 2 0, \

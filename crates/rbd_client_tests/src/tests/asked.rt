@@ -58,7 +58,7 @@ hears RequestLock
 0 waits
 free 1
 
-a write waits at its own look until the lock was let go
+a write waits at its look under the lock until the lock was let go
 1 takes write-0, dir-find id-7, header-get header
 hears RequestLock
 1 waits
@@ -114,7 +114,7 @@ rests 7
 0 lock-drop done, notify-ReleasedLock done, waits
 free 1
 
-a lock is kept until all that are past their own look have ended
+a lock is kept until all that are past their look under the lock have ended
 1 takes write-0
 2 takes fill-1
 1,2 dir-find id-7, header-get header, header-get header

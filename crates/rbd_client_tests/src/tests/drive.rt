@@ -9,7 +9,8 @@
 //! | `heard hello there` | these words were told, one after another |
 //! | `heard nothing` | none were |
 //!
-//! That an image moves is that a request of it is past own, or has taken the lock itself.
+//! That an image moves is that a request of it is past its look under the lock, or has taken the
+//! lock itself.
 //!
 //! Whether who acts at a slot may go on, and wants an operation that can give an answer, is looked
 //! at when the test runs, so that no proof has to know where a request stands.

@@ -4,7 +4,7 @@ use super::drive::{OWNS, Tested};
 use rbd_fixtures::cases_hold;
 use std::test::Fail;
 
-const NEW: &str = "a quiesce takes the lock before its own look
+const NEW: &str = "a quiesce takes the lock before its look under the lock
 1 takes quiesce, dir-find id-7, header-get header, watch done, lock-take done
 moves 7
 1 header-get header done
@@ -55,7 +55,7 @@ hears RequestLock
 0 waits
 free 1
 
-no image is quiesced before the own look of a quiesce
+no image is quiesced before the look under the lock of a quiesce
 1 takes quiesce, dir-find id-7, header-get header
 hears RequestLock
 1 waits

@@ -1,5 +1,5 @@
-//! What ends a request on its way to a lock, or at its own look behind it, and what it leaves: its
-//! slot is free, and who stands behind it in its line goes on.
+//! What ends a request on its way to a lock, or at its look under the lock behind it, and what it
+//! leaves: its slot is free, and who stands behind it in its line goes on.
 use super::drive::{OWNS, Tested};
 use rbd_fixtures::cases_hold;
 use std::test::Fail;
@@ -64,7 +64,7 @@ who stands behind one that ended on its way goes its own
 rests 7
 free 1
 
-a write that its own look refuses leaves the lock that it took
+a write that its look under the lock refuses leaves the lock that it took
 1 takes write-0-1, dir-find id-7, header-get header, watch done, lock-take done
 moves 7
 1 header-get small BadRange
@@ -75,7 +75,7 @@ free 1
 hears RequestLock
 0 lock-drop done, notify-ReleasedLock done, waits
 
-a lock is let go once who took it is refused at its own look
+a lock is let go once who took it is refused at its look under the lock
 1 takes write-0, dir-find id-7, header-get header, watch done, lock-take done
 hears RequestLock
 0 waits

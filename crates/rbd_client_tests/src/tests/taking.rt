@@ -3,7 +3,7 @@ use super::drive::{OWNS, Tested};
 use rbd_fixtures::cases_hold;
 use std::test::Fail;
 
-const NEW: &str = "a write takes a free lock behind the watch and before its own look
+const NEW: &str = "a write takes a free lock behind the watch and before its look under the lock
 1 takes write-0, dir-find id-7, header-get header
 rests 7
 1 watch done

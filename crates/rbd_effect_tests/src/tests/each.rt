@@ -5,7 +5,7 @@ ghost use Rattle.rbd_kinds.specs.Form.{IsHeaderInForm};
 use super::make::{answer, op};
 use super::{DISK, GLOBAL, STRIPED, header, shows};
 use rbd_header::new_header;
-use rbd_kinds::{Answer, HeaderOp, HeaderView, ImageId, Op, OpKind, ParentLink, SnapId};
+use rbd_kinds::{Answer, HeaderOp, HeaderView, ImageId, Op, OpKind, ParentLink, Shared, SnapId};
 use std::alloc::Global;
 use std::process::Abort;
 use std::test::Fail;
@@ -209,7 +209,9 @@ fn a_header_with_a_parent_is_a_clone(rt: HostRuntime) -> Result<(), Fail> {
     };
     let op = Op::Header {
         image: DISK,
-        op: HeaderOp::Create { view },
+        op: HeaderOp::Create {
+            view: Shared::new(rt.alloc(), view)?,
+        },
     };
     let want = "Some(Clone { image: ImageId(7), parent: ImageId(5), snap: SnapId(2) })";
     assert!(rt; shows(rt.alloc(), op, Answer::Done, None, want));

@@ -7,7 +7,7 @@ use rbd_header::new_header;
 use rbd_kinds::{
     Answer, Bytes, ChildrenOp, DataOp, DirectoryOp, HeaderOp, ImageId, Instance, JournalClient,
     JournalOp, MapOp, Name, NoMemory, NoticeKind, Op, OpKind, Part, Parts, Position, Role,
-    SessionNo, SiteId, SnapContext, SnapId, SnapIds, SnapStatus, Spans, Tag,
+    SessionNo, Shared, SiteId, SnapContext, SnapId, SnapIds, SnapStatus, Spans, Tag,
 };
 use std::alloc::Global;
 use std::process::Abort;
@@ -76,7 +76,7 @@ fn children(kind: OpKind) -> ChildrenOp {
 fn header(rt: &impl Abort, alloc: Global, kind: OpKind) -> Result<HeaderOp, NoMemory> {
     Ok(match kind {
         OpKind::HeaderCreate => HeaderOp::Create {
-            view: new_header(alloc, STRIPED, 20000),
+            view: Shared::new(alloc, new_header(alloc, STRIPED, 20000))?,
         },
         OpKind::HeaderGet => HeaderOp::Get,
         OpKind::HeaderSetSize => HeaderOp::SetSize { size: 5000 },
@@ -201,11 +201,7 @@ pub fn op(rt: &impl Abort, alloc: Global, kind: OpKind) -> Result<Op, NoMemory> 
         return Ok(Op::Directory(directory(rt, alloc, kind)?));
     }
     if word.starts_with("data-") {
-        return Ok(Op::Data {
-            image: DISK,
-            object: 1,
-            op: data(alloc, kind)?,
-        });
+        return Op::on_object(alloc, DISK, 1, data(alloc, kind)?);
     }
     if word.starts_with("child-") {
         return Ok(Op::Children(children(kind)));

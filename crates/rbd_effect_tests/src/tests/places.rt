@@ -79,28 +79,24 @@ fn whole_is(
     requires { size < 2 ^ 63 }
 {
     let header = header(rt, alloc, layout, size, None);
-    let op = Op::Data {
-        image: DISK,
-        object,
-        op: DataOp::Remove {
-            context: context(alloc),
-        },
+    let remove = DataOp::Remove {
+        context: context(alloc),
     };
-    holds(zeroes(alloc, &header, &op, want))
+    match Op::on_object(alloc, DISK, object, remove) {
+        Ok(op) => holds(zeroes(alloc, &header, &op, want)),
+        Err(_) => false,
+    }
 }
 
 fn zero(alloc: Global, object: u64, offset: u64, len: u64) -> Result<Op, NoMemory> {
     let part = Part { offset, at: 0, len };
     let parts = Parts::from_slice(alloc, &[part])?;
-    Ok(Op::Data {
-        image: DISK,
-        object,
-        op: DataOp::Zero {
-            context: context(alloc),
-            must: false,
-            parts,
-        },
-    })
+    let zero = DataOp::Zero {
+        context: context(alloc),
+        must: false,
+        parts,
+    };
+    Op::on_object(alloc, DISK, object, zero)
 }
 
 /// Whether zeros in one part of an object are zeros at these places.
@@ -233,16 +229,13 @@ fn write(alloc: Global) -> Result<Op, NoMemory> {
     };
     let parts = Parts::from_slice(alloc, &[first, second])?;
     let bytes = Bytes::from_slice(alloc, &[1, 2, 3, 4, 5, 6])?;
-    Ok(Op::Data {
-        image: DISK,
-        object: 1,
-        op: DataOp::Write {
-            context: context(alloc),
-            must: false,
-            parts,
-            bytes,
-        },
-    })
+    let write = DataOp::Write {
+        context: context(alloc),
+        must: false,
+        parts,
+        bytes,
+    };
+    Op::on_object(alloc, DISK, 1, write)
 }
 
 /// Whether an effect puts bytes at places of the image.

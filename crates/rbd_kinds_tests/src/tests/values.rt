@@ -2,7 +2,8 @@
 use super::holds;
 use rbd_kinds::{
     Answer, AskedName, Bytes, Command, Event, HeaderOp, HeaderView, Ids, ImageId, JournalView,
-    Layout, Name, NoMemory, Op, OpKind, Reply, Role, SnapId, SnapStatus, SnapView, Snaps, TryClone,
+    Layout, Name, NoMemory, Op, OpKind, Reply, Role, Shared, SnapId, SnapStatus, SnapView, Snaps,
+    TryClone,
 };
 use std::alloc::Global;
 use std::process::Abort;
@@ -111,14 +112,15 @@ fn is_copied_as(op: Op, kind: OpKind) -> bool {
 }
 
 #[test]
-fn an_operation_and_its_copy_are_of_one_kind(rt: HostRuntime) {
+fn an_operation_and_its_copy_are_of_one_kind(rt: HostRuntime) -> Result<(), Fail> {
     let create = Op::Header {
         image: ImageId(7),
         op: HeaderOp::Create {
-            view: header(Snaps::new(rt.alloc())),
+            view: Shared::new(rt.alloc(), header(Snaps::new(rt.alloc())))?,
         },
     };
     assert!(rt; is_copied_as(create, OpKind::HeaderCreate));
+    Ok(())
 }
 
 /// How a command is told, which is let go here.

@@ -9,8 +9,8 @@ use rbd_fixtures::{
     operation_into, wait_into,
 };
 use rbd_kinds::{
-    Answer, DirectoryOp, Event, HeaderOp, Instance, Instances, NoMemory, NoticeKind, Op, SiteId,
-    Want,
+    Answer, DirectoryOp, Event, HeaderOp, Instance, Instances, NoMemory, NoticeKind, Op, Shared,
+    SiteId, Want,
 };
 use rbd_machine::Reason;
 use rbd_owner::is_waiting;
@@ -75,9 +75,9 @@ fn small_behind(words: &str, key: &str, usual: u8) -> u8 {
 }
 
 impl Site {
-    /// The site of these words: `owner c2`, who has the lock; `watched`, where the instance of these
-    /// tests watches; `watcher c3`, who else does; `patience 2`, how often the owner has to be
-    /// asked; `expires`, where no watch is left then; `faster c3`, who takes the lock while
+    /// The site of these words: `owner c2`, who has the lock; `watched`, where the instance of
+    /// these tests watches; `watcher c3`, who else does; `patience 2`, how often the owner has to
+    /// be asked; `expires`, where no watch is left then; `faster c3`, who takes the lock while
     /// another's is being broken; `gone 3` and `fenced 3`, which operation is answered so. Without
     /// words nobody has the lock, watches, or is in the blocklist.
     pub fn new(alloc: Global, reason: Reason, words: &str) -> Self {
@@ -293,7 +293,7 @@ fn secondary(alloc: Global) -> Result<Answer, NoMemory>
     ensures { IfOk result IsFit }
 {
     match header(alloc, "size 4096 generation 1 secondary")? {
-        Some(header) => Ok(Answer::Header(header)),
+        Some(header) => Ok(Answer::Header(Shared::new(alloc, header)?)),
         None => Ok(Answer::Absent),
     }
 }

@@ -1,5 +1,5 @@
-//! The way of a change, to its own look and to a refusal at each look. What it has to want was
-//! worked out from its diagram.
+//! The way of a change, to its look under the lock and to a refusal at each look. What it has to
+//! want was worked out from its diagram.
 ghost use Rattle.std.specs.Prelude.{None, Some, ◌==◌, if◌then◌else◌, IfOk, IfSome};
 ghost use Rattle.rbd_commands.specs.declared.refusal.Refusal.TheVariants.{BadRange};
 ghost use Rattle.rbd_kinds.specs.declared.reply.Reply.TheVariants.{Done};
@@ -38,11 +38,11 @@ impl Refuses for OnlySize {
 
 const RULE: OnlySize = OnlySize { size: 4096 };
 
-/// A change that does nothing once its own look told a header.
+/// A change that does nothing once its look under the lock told a header.
 #[derive(Debug, Drop)]
 struct Change {
     way: Approach,
-    /// Of each step whether the way was at its own look: `o`, and else `-`.
+    /// Of each step whether the way was at its look under the lock: `o`, and else `-`.
     own: String,
 }
 
@@ -94,7 +94,7 @@ fn made(alloc: Global, sharing: Sharing) -> Result<Option<Change>, NoMemory>
     Ok(Some(Change { way, own }))
 }
 
-/// Whether a change wants these rows, and stands at its own look at these steps.
+/// Whether a change wants these rows, and stands at its look under the lock at these steps.
 fn goes(alloc: Global, sharing: Sharing, own: &str, rows: &str) -> Result<bool, NoMemory> {
     let Some(mut change) = made(alloc, sharing)? else {
         return Ok(false);
@@ -122,8 +122,8 @@ fn cases_go(rt: &impl Abort, alloc: Global, cases: &str) {
     }
 }
 
-/// Whether a change is alone or beside others, and of each of its steps whether it is at its own
-/// look, stands in front of its rows.
+/// Whether a change is alone or beside others, and of each of its steps whether it is at its look
+/// under the lock, stands in front of its rows.
 const CASES: &str = "a change looks before the lock and under it
 alone ----o
 dir-find disk => id-7
@@ -140,7 +140,7 @@ join
 header-get => header size 8192
 BadRange
 
-the own look refuses
+the look under the lock refuses
 alone ----o
 dir-find disk => id-7
 join alone

@@ -2,8 +2,8 @@
 //!
 //! | row | it holds where |
 //! |---|---|
-//! | `1 looks 7` | slot 1 stands at its own look of the image 7, and may go on |
-//! | `1 looks none` | it stands at no own look, or waits there |
+//! | `1 looks 7` | slot 1 stands at its look under the lock of the image 7, and may go on |
+//! | `1 looks none` | it stands at no look under the lock, or waits there |
 //! | `1 gives up` | what runs in slot 1 is given up, and the slot wants nothing more |
 //!
 //! Whether a request may go on, and wants an operation that can give an answer, is looked at when
@@ -143,7 +143,7 @@ fn tell<R: Request>(
     feed(alloc, session, slot, fed)
 }
 
-/// Whether a slot stands at the own look of the image of this number, or at none.
+/// Whether a slot stands at the look under the lock of the image of this number, or at none.
 fn looks_at<R: Request>(session: &Session<R>, slot: Slot, word: &str) -> bool {
     match session.own_look(slot) {
         Some(at) => at.site == SiteId::A && u64::from(at.image.0) == number(word),

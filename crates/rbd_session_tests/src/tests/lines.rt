@@ -31,7 +31,7 @@ a ticket goes with its piece and not before
 2 map-set done, data-write done done
 free 1
 
-a write has the tickets of all its objects from its own look on
+a write has the tickets of all its objects from its look under the lock on
 1 takes write-0-1
 2 takes fill-1
 1,2 dir-find id-7, header-get header, header-get header
@@ -62,7 +62,7 @@ free 2
 1 data-write done done
 free 1
 
-a snapshot waits at its own look for a write ahead
+a snapshot waits at its look under the lock for a write ahead
 1 takes write-0-1
 2 takes snap-create
 1,2 dir-find id-7
@@ -79,7 +79,7 @@ a snapshot waits at its own look for a write ahead
 2 header-get header, map-get bits, map-put done, header-snap-add snap done
 free 1
 
-a write waits at its own look for a snapshot ahead
+a write waits at its look under the lock for a snapshot ahead
 1 takes snap-create
 2 takes write-0
 1,2 dir-find id-7
@@ -157,7 +157,7 @@ a write that is refused leaves its line
 2 header-get header, map-get bits, map-put done, header-snap-add snap done
 free 1
 
-a write that its own look refuses leaves its line
+a write that its look under the lock refuses leaves its line
 1 takes write-0-1
 2 takes snap-create
 3 takes fill-1
@@ -194,7 +194,7 @@ all tickets go with the end of a write
 2 map-set done, data-write done, map-set done, data-write done done
 free 1
 
-a write waits at its own look for a removal ahead
+a write waits at its look under the lock for a removal ahead
 1 takes snap-rm
 2 takes fill-1
 1,2 dir-find id-7

@@ -1,5 +1,5 @@
-//! Who stands at its own look, whether an image is at rest, and what a request that is given up
-//! leaves behind. The image 7 has the objects 0 and 1.
+//! Who stands at its look under the lock, whether an image is at rest, and what a request that is
+//! given up leaves behind. The image 7 has the objects 0 and 1.
 use super::drive::Tested;
 use rbd_fixtures::cases_hold;
 use std::test::Fail;
@@ -16,7 +16,7 @@ rests 8
 rests 7
 free 1
 
-one that waits stands at its own look once it may go on
+one that waits stands at its look under the lock once it may go on
 1 takes write-0
 2 takes snap-create
 1,2 dir-find id-7
@@ -44,7 +44,7 @@ rests 7
 moves 8
 1 looks 7
 
-a read has no own look
+a read has no look under the lock
 1 takes read, looks none, dir-find id-7, looks none, header-get header, looks none
 rests 7
 

@@ -6,7 +6,7 @@ ghost use Rattle.rbd_site.specs.Step.{MayDo};
 use rbd_header::new_header;
 use rbd_kinds::{
     Answer, Bytes, HeaderOp, HeaderView, ImageId, Instance, Layout, Name, NoMemory, Op, SessionNo,
-    SiteId,
+    Shared, SiteId,
 };
 use rbd_site::Site;
 use rbd_watch::Mail;
@@ -25,6 +25,7 @@ pub const IMAGE: ImageId = ImageId(1);
 /// A site, and the mail of both.
 #[derive(Drop)]
 pub struct Bench {
+    pub alloc: Global,
     pub site: Site,
     pub mail: Mail,
 }
@@ -33,6 +34,7 @@ impl Bench {
     /// Site A as it begins, and no mail.
     pub fn new(alloc: Global) -> Result<Self, NoMemory> {
         Ok(Bench {
+            alloc,
             site: Site::new(alloc, SiteId::A)?,
             mail: Mail::new(alloc),
         })
@@ -65,11 +67,12 @@ fn disk(alloc: Global) -> HeaderView
 
 /// Makes the header of the image.
 pub fn create(bench: &mut Bench, me: Instance, alloc: Global) -> Result<Answer, NoMemory> {
+    let view = Shared::new(alloc, disk(alloc))?;
     bench.apply(
         me,
         Op::Header {
             image: IMAGE,
-            op: HeaderOp::Create { view: disk(alloc) },
+            op: HeaderOp::Create { view },
         },
     )
 }

@@ -204,9 +204,8 @@ fn asks_other(
             apply(bench, me, Op::BlockAdd { instance }, want)
         }
         _ => {
-            let op = on_object(alloc, word);
-            let (image, object) = (IMAGE, 0);
-            apply(bench, me, Op::Data { image, object, op }, want)
+            let op = Op::on_object(alloc, IMAGE, 0, on_object(alloc, word))?;
+            apply(bench, me, op, want)
         }
     }
 }

@@ -57,14 +57,8 @@ pub fn context(alloc: Global, number: u32) -> Result<SnapContext, NoMemory> {
 pub fn on_object(bench: &mut Bench, object: u64, op: DataOp) -> Result<Answer, NoMemory>
     requires { MayDoOnData op }
 {
-    bench.apply(
-        C1,
-        Op::Data {
-            image: IMAGE,
-            object,
-            op,
-        },
-    )
+    let op = Op::on_object(bench.alloc, IMAGE, object, op)?;
+    bench.apply(C1, op)
 }
 
 /// Writes one byte at the front of an object, while there are snapshots up to a number.

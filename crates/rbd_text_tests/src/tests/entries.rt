@@ -1,7 +1,7 @@
 //! Each form of a history's line.
 use super::{AGAIN, FIRST, holds, name, sessions};
 use rbd_flat::{Cause, Effect, Entry};
-use rbd_kinds::{ImageId, NoMemory, Reply, SessionNo, SiteId};
+use rbd_kinds::{ImageId, NoMemory, Reply, SessionNo, Shared, SiteId};
 use rbd_text::push_line;
 use std::alloc::Global;
 use std::process::Abort;
@@ -36,14 +36,15 @@ fn a_start_names_line_and_instance(rt: HostRuntime) -> Result<(), Fail> {
 
 #[test]
 fn an_effect_names_cause_operation_and_word(rt: HostRuntime) -> Result<(), Fail> {
+    let effect = Effect::Name {
+        name: name(&rt, rt.alloc(), b"disk")?,
+        image: ImageId(1),
+    };
     let entry = Entry::Effect {
         cause: Cause::Line(2),
         site: SiteId::A,
         number: 3,
-        effect: Effect::Name {
-            name: name(&rt, rt.alloc(), b"disk")?,
-            image: ImageId(1),
-        },
+        effect: Shared::new(rt.alloc(), effect)?,
     };
     assert!(rt; shows(&rt, rt.alloc(), 12, entry, "h 12 effect 2 a3 name\n"));
     Ok(())

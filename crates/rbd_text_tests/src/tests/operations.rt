@@ -89,14 +89,11 @@ fn a_header_has_its_image_in_hexadecimal(rt: HostRuntime) -> Result<(), Fail> {
 
 #[test]
 fn a_data_object_has_sixteen_digits(rt: HostRuntime) -> Result<(), Fail> {
-    let op = Op::Data {
-        image: ImageId(1),
-        object: 4095,
-        op: DataOp::Read {
-            snap: None,
-            parts: Parts::new(rt.alloc()),
-        },
+    let read = DataOp::Read {
+        snap: None,
+        parts: Parts::new(rt.alloc()),
     };
+    let op = Op::on_object(rt.alloc(), ImageId(1), 4095, read)?;
     let want = "o a17 c1.0 data-read rbd_data.1.0000000000000fff none\n";
     assert!(rt; op_shows(&rt, rt.alloc(), op, Answer::Absent, want));
     Ok(())

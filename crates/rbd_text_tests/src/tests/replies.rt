@@ -4,7 +4,7 @@ ghost use Rattle.rbd_text.specs.Replies.{IsShowable};
 use super::{FIRST, header, holds, name, sessions};
 use rbd_kinds::{
     Bytes, HeaderView, Ids, ImageId, MirrorState, Names, NoMemory, ParentLink, Refusal, Reply,
-    Role, SnapId, SnapStatus, SnapView, Snaps,
+    Role, Shared, SnapId, SnapStatus, SnapView, Snaps,
 };
 use rbd_text::push_reply;
 use std::alloc::Global;
@@ -124,7 +124,10 @@ fn clone_header(rt: &impl Abort, alloc: Global) -> Result<HeaderView, NoMemory> 
 fn header_shows(rt: &impl Abort, alloc: Global, view: HeaderView, want: &str) -> bool {
     assert!(rt; rbd_layout::check(&view.layout).is_ok());
     assert!(rt; view.size < 1 << 62);
-    shows(rt, alloc, Reply::Info(view), want)
+    match Shared::new(alloc, view) {
+        Ok(view) => shows(rt, alloc, Reply::Info(view), want),
+        Err(_) => false,
+    }
 }
 
 #[test]

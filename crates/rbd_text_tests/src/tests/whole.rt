@@ -7,7 +7,7 @@ use super::{AGAIN, FIRST, header, holds, name, sessions};
 use rbd_flat::{Cause, Effect, Entry};
 use rbd_kinds::{
     Answer, Command, DirectoryOp, HeaderOp, ImageId, Instance, NoMemory, Op, Reply, Role,
-    SessionNo, SiteId, Snaps,
+    SessionNo, Shared, SiteId, Snaps,
 };
 use rbd_script::{Line, Lines, Said, Script, Sessions};
 use rbd_site::{Done, DoneOp};
@@ -16,20 +16,20 @@ use std::alloc::Global;
 use std::process::Abort;
 use std::test::Fail;
 
-fn command(number: u32, session: u8) -> Line {
-    Line {
+fn command(alloc: Global, number: u32, session: u8) -> Result<Line, NoMemory> {
+    Ok(Line {
         number,
         said: Said::Command {
             session: SessionNo(session),
             beside: false,
-            command: Command::List,
+            command: Shared::new(alloc, Command::List)?,
         },
-    }
+    })
 }
 
-fn push_commands(lines: &mut Lines, commands: &[(u32, u8)]) -> Result<(), NoMemory> {
+fn push_commands(alloc: Global, lines: &mut Lines, commands: &[(u32, u8)]) -> Result<(), NoMemory> {
     for &(number, session) in commands {
-        lines.push(command(number, session))?;
+        lines.push(command(alloc, number, session)?)?;
     }
     Ok(())
 }
@@ -38,7 +38,7 @@ fn push_commands(lines: &mut Lines, commands: &[(u32, u8)]) -> Result<(), NoMemo
 fn script(rt: &impl Abort, alloc: Global, commands: &[(u32, u8)]) -> Result<Script, NoMemory> {
     let sessions = Sessions::from_vec(sessions(rt, alloc)?);
     let mut lines = Lines::new(alloc);
-    push_commands(&mut lines, commands)?;
+    push_commands(alloc, &mut lines, commands)?;
     Ok(Script { sessions, lines })
 }
 
@@ -126,13 +126,13 @@ fn an_empty_script_prints_nothing(rt: HostRuntime) -> Result<(), Fail> {
     Ok(())
 }
 
-fn effect(number: u64, effect: Effect) -> Entry {
-    Entry::Effect {
+fn effect(alloc: Global, number: u64, effect: Effect) -> Result<Entry, NoMemory> {
+    Ok(Entry::Effect {
         cause: Cause::Line(2),
         site: SiteId::A,
         number,
-        effect,
-    }
+        effect: Shared::new(alloc, effect)?,
+    })
 }
 
 fn named(rt: &impl Abort, alloc: Global) -> Result<Effect, NoMemory> {
@@ -153,8 +153,8 @@ fn created() -> Effect {
 /// What `create` adds to the history.
 fn push_created(rt: &impl Abort, alloc: Global, history: &mut Vec<Entry>) -> Result<(), NoMemory> {
     history.push(start(2, FIRST))?;
-    history.push(effect(1, named(rt, alloc)?))?;
-    history.push(effect(2, created()))?;
+    history.push(effect(alloc, 1, named(rt, alloc)?)?)?;
+    history.push(effect(alloc, 2, created())?)?;
     history.push(replied(2, Reply::Done))?;
     Ok(())
 }
@@ -176,7 +176,9 @@ fn push_created_log(rt: &impl Abort, alloc: Global, log: &mut Vec<Done>) -> Resu
     let view = header(Snaps::new(alloc));
     let create = Op::Header {
         image: ImageId(1),
-        op: HeaderOp::Create { view },
+        op: HeaderOp::Create {
+            view: Shared::new(alloc, view)?,
+        },
     };
     log.push(done(2, FIRST, create, Answer::Done))?;
     Ok(())

@@ -1,8 +1,8 @@
 //! Who waits while a client is asked for its lock, and who goes on.
 use super::rows::row_holds;
 
-/// Line 7 is past its own look when c1 is asked, and line 12 at its own: it waits until the lock
-/// was dropped (a28). c2 is faster then, and line 12 asks for the lock in its turn.
+/// Line 7 is past its look under the lock when c1 is asked, and line 12 at its own: it waits until
+/// the lock was dropped (a28). c2 is faster then, and line 12 asks for the lock in its turn.
 const AT_OWN_LOOK: &str = "\
 goes 3 1.1>end 5 1.1>end 7 1.1*3 12 1.2*2 1.2=header-get 26 2.1>notify 2.1
 deliver:1 1.2=none 1.2 1.0=none 1.0 1.1=map-set 1.1*2 1.0 1.1*2 1.2=none 1.2
@@ -20,7 +20,8 @@ fn a_write_past_its_own_look_ends_first_and_one_at_its_own_look_waits(rt: HostRu
     row_holds(&rt, rt.alloc(), AT_OWN_LOOK);
 }
 
-/// Line 5 has taken the lock itself (a7), and goes on to its own look though c1 is asked.
+/// Line 5 has taken the lock itself (a7), and goes on to its look under the lock though c1 is
+/// asked.
 const TAKEN: &str = "goes 3 1.1>end 5 1.1*4 26 2.1>notify 2.1 deliver:1 1.0=none 1.0
 1.1=header-get 1.1>end 1.0*2 2.1>end 6 2.1>end
 |came slot1 a1 a2 a3! slot1 a4 a5 a6 a7 slot1 a8 a9 a10 a11~ a12~ a13~ heard waits a14 a15 a16 a17 \

@@ -2,8 +2,9 @@
 //! lost, come late, or come again.
 use super::rows::row_holds;
 
-/// c1 has the lock, and line 7 is past its own look when c2 asks. So c1 lets the lock go behind the
-/// last piece of line 7 (a25): it drops it, and tells that. Line 26 was on its way, and takes it.
+/// c1 has the lock, and line 7 is past its look under the lock when c2 asks. So c1 lets the lock go
+/// behind the last piece of line 7 (a25): it drops it, and tells that. Line 26 was on its way, and
+/// takes it.
 const HANDED_OVER: &str = "goes 3 1.1>end 5 1.1>end 7 1.1*3 26 2.1>notify 2.1 1.0=none
 deliver:1 1.0=none 1.0 1.1*4 1.0=lock-drop 1.0 1.0=notify 1.0 1.0=none 1.0
 2.1=lock-take 2.1>end 6 2.1>end

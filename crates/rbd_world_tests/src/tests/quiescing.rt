@@ -1,8 +1,8 @@
 //! `quiesce` holds the changes of its own client back, and `resume` lets them go on.
 use super::rows::row_holds;
 
-/// Line 5 waits at its own look, and the read of line 33 doesn't wait. Line 26 is another client's,
-/// and goes its way to the lock.
+/// Line 5 waits at its look under the lock, and the read of line 33 doesn't wait. Line 26 is
+/// another client's, and goes its way to the lock.
 const HELD: &str = "goes 3 1.1>end 29 1.1>end 5 1.1*2 1.1=none 1.1 33 1.2>end
 26 2.1*2 2.1=watch 2.1>notify 30 1.2>end 1.1=header-get 1.1>end
 |came slot1 a1 a2 a3! slot1 a4 a5 a6 a7 a8! slot1 a9 a10 waits slot2 a11 a12 a13 a14 a15! slot1 \

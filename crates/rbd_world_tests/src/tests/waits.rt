@@ -1,7 +1,7 @@
 //! Requests that wait: a poll then is a call, and adds nothing to history and logs.
 use super::rows::row_holds;
 
-/// Line 13 waits before its own look until line 9 has its reply.
+/// Line 13 waits before its look under the lock until line 9 has its reply.
 const SECOND_SNAP: &str = "\
 goes 3 1.1>end 9 13 1.1 1.2*2 1.2=none 1.2*2 1.1>header-snap-add 1.2=none 1.2 1.1 1.2=header-get
 1.2>end

@@ -121,8 +121,8 @@ fn a_write_waits_for_its_turn_at_each_object(rt: HostRuntime) {
     row_holds(&rt, rt.alloc(), TURNS);
 }
 
-/// Line 7 waits before its own look until line 5 has had its own, which is its second. Line 5 goes
-/// the way to the lock for both.
+/// Line 7 waits before its look under the lock until line 5 has had its own, which is its second.
+/// Line 5 goes the way to the lock for both.
 const OWN_LOOKS: &str = "goes 3 1.1>end 5 7 1.1*2 1.2*2 1.2=none 1.2 1.1=watch 1.1*2 1.2=none 1.2
 1.1=header-get 1.1 1.2=header-get 1.2*2 1.1>end 1.2>end
 |came slot1 a1 a2 a3! slot1 slot2 a4 a5 a6 a7 waits a8 a9 waits a10 a11 waits a12 a13 a14 a15! a16 \

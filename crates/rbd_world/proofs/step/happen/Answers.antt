@@ -19,7 +19,8 @@ pub returns-in-Submit-clause-did : goal.returns-in-Submit-clause-did
 returns-in-Submit-clause-did g c =
     subst (λ (e : Event). IfOk c.submit.result (IsNotedStep (stands_of g.E.Machine.stands) e (happens (stands_of g.E.Machine.stands) e (λ l. has_line l c.args.begun.now) c.args.sites.now c.args.lives.now.items)
     c.args.sites.now c.args.sites.now c.args.lives.now.items c.submit.new.lives.items c.args.begun.now c.submit.new.begun c.args.history.now.items c.submit.new.history.items)) (sym c.in-Submit.is)
-    (submission_noted (stands_of g.E.Machine.stands) c.submit.result c.args.sites.now c.args.lives.now.items c.args.begun.now c.args.history.now.items c.in-Submit.session c.in-Submit.line c.in-Submit.command c.submit.new.lives.items c.submit.new.begun c.submit.new.history.items c.submit.ensures.outcome c.submit.ensures.history c.submit.ensures.lives c.submit.ensures.begun)
+    (rw (sym c.deref.ensures)
+    (submission_noted (stands_of g.E.Machine.stands) c.submit.result c.args.sites.now c.args.lives.now.items c.args.begun.now c.args.history.now.items c.in-Submit.session c.in-Submit.line c.deref.result.now c.submit.new.lives.items c.submit.new.begun c.submit.new.history.items c.submit.ensures.outcome c.submit.ensures.history c.submit.ensures.lives c.submit.ensures.begun))
 
 pub returns-in-Submit-clause-err : goal.returns-in-Submit-clause-err
 returns-in-Submit-clause-err g c =
