@@ -1,9 +1,14 @@
-"""A copy of the kit, made of links, in which one tool of the toolchain is a script of ours.
+"""The kit for scripts: where it is, its `rt` as a module, and a copy of it with another tool.
 
-`rt try` builds a program without proof, runs it and keeps nothing. In such a copy what it builds
-can be kept: the script takes it on its way, and then does what the tool does.
+`rt try` builds a program without proof, runs it and keeps nothing. In a copy of the kit, made of
+links, in which one tool of the toolchain is a script of ours, what it builds can be kept: the
+script takes it on its way, and then does what the tool does.
 """
+import functools
+import importlib.machinery
+import importlib.util
 import shutil
+import sys
 from pathlib import Path
 
 
@@ -11,6 +16,23 @@ def kit():
     """Returns the folder of the kit, or None where there is no `rt` on PATH."""
     found = shutil.which("rt")
     return Path(found).resolve().parent.parent if found else None
+
+
+def load_rt(top):
+    """Returns the kit's `rt` as a module, for the repository of this folder: it knows how a crate is
+    checked, in which order, and how an edit is read."""
+    loader = importlib.machinery.SourceFileLoader("rt_of_kit", str(kit() / "bin/rt"))
+    spec = importlib.util.spec_from_loader("rt_of_kit", loader)
+    rt = importlib.util.module_from_spec(spec)
+    sys.modules["rt_of_kit"] = rt
+    loader.exec_module(rt)
+    # (its own answers are computed anew at each call, which takes minutes for a crate at the top)
+    crate = rt.rtlib.Crate
+    crate.below = functools.lru_cache(maxsize=None)(crate.below)
+    rt.rtlib.guarded()
+    rt.rtlib.Crate = rt.Crate
+    rt.Crate.allowed = rt.handles_of(str(top))
+    return rt
 
 
 def link_all(old, new, but=()):

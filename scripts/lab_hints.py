@@ -1,5 +1,7 @@
 """What may help where a line of a script doesn't fit: for `scripts/lab`."""
+import codecs
 import re
+from difflib import get_close_matches
 from typing import NamedTuple, Optional
 
 from lab_marks import BEHIND_SNAP, COMMANDS, LIMIT, SCHEDULE, UNBUILT, Token
@@ -29,7 +31,7 @@ WANTED = {
     "hex": "1 to 65,536 bytes, each as two hexadecimal digits",
     "byte": "one byte, as two hexadecimal digits",
     "site": "a site, which is a or b",
-    "kind": "the word of an operation, as in a trace (data-write)",
+    "kind": "the word of an operation, as data-write; docs/RULES.md lists them",
     "session": "the name of a declared session",
     "new session": "a session's name: 1 to 32 lower-case letters and digits, a letter first",
     "command": f"a command: {one_of([*built(COMMANDS), 'snap ..'])}",
@@ -84,6 +86,8 @@ def of_name(text, part):
         return f"there are no words with dashes; wanted here: {WANTED[part[0]]}"
     if "/" in text:
         return "there are no pools here: the image's name stands alone"
+    if part[0] in ("snap", "target") and text.endswith("@"):
+        return "behind `@` stands the name of a snapshot"
     if part[0] == "snap" and "@" not in text:
         return "a snapshot is named together with its image: IMAGE@SNAP"
     if part[0] == "image" and "@" in text:
@@ -99,6 +103,10 @@ def of_session(text, lines, number):
         return "`&` is a word of its own, with a space behind it"
     if text.startswith("#"):
         return "a comment's `#` is the first byte of its line"
+    if number == 1 and text.encode("latin-1").startswith(codecs.BOM_UTF8):
+        return "the script begins with a byte order mark, and may not"
+    if get_close_matches(text, ["client"]):
+        return "is `client` meant? That declares a session: `client c1 a`"
     if text.encode() in declared_in(lines[number:]):
         return f"the line `client {text} ..` has to stand before this one"
     if text in COMMANDS or text in ("snap", "mirror"):
@@ -159,13 +167,6 @@ def of_fault(fault, lines, number, sessions):
     return of_new_session(text, sessions) if part[0] == "new session" else of_word(text, part)
 
 
-def of_unbuilt(line):
-    """Returns what helps where a line of the grammar isn't built."""
-    if line.split()[0] == b"@until":
-        return f"wanted here: {WANTED['kind']}"
-    return NOT_BUILT
-
-
 def explained(script, number, cause):
     """Returns the line of this number, its token that doesn't fit, and what may help.
 
@@ -183,7 +184,7 @@ def explained(script, number, cause):
         form = "" if cause in ("bad number", "bad name") and not token.text.startswith(b"--") else fault.form
         return Shown(line, token, of_fault(fault, lines, number, sessions), form)
     if not fault and cause == "unknown word" and line.split():
-        return Shown(line, unbuilt_token(line), of_unbuilt(line))
+        return Shown(line, unbuilt_token(line), NOT_BUILT)
     return Shown(line, None, "")
 
 

@@ -3,6 +3,7 @@
 import contextlib
 import os
 import re
+import select
 import signal
 import subprocess
 import sys
@@ -20,13 +21,16 @@ Plays a script on rbd_lab, on a fresh machine too: what is missing is built.
 
   scripts/lab run < SCRIPT           prints the replies
   scripts/lab run --trace < SCRIPT   prints the history and the logs, and then the replies
-  scripts/lab show FILE              prints each line of a script with its reply under it
+  scripts/lab show [FILE]            prints each line of a script, or of standard input, with its
+                                     reply under it; where replies came in another order than their
+                                     lines stand, `(reply 3)` is the third that came
   scripts/lab -h | --help            prints this
   scripts/lab --version              prints which sources these are
 
 All other words go to the program as they are. Standard output is the program's alone, and so is
 the exit status. Standard error says which build ran: the proved one (scripts/proved), or else one
-that was built without proof and runs with checks (scripts/unproved; a minute or two, once).
+that was built without proof (scripts/unproved; a minute or two, once) and runs with checks: it
+takes milliseconds for a command, where the proved one takes microseconds.
 Where a line of the script doesn't fit, standard error also shows the line, with a mark under the
 word that is meant, and with what may help.
 
@@ -37,6 +41,8 @@ Exit status: that of the program
 or 70 where there is no program, or it gave no answer."""
 # Where the script comes from: scripts/lab puts its standard input there.
 SCRIPT = 3
+# How `show` is asked for it.
+STANDARD_INPUT = ("-", "/dev/stdin", "/dev/fd/0")
 NOT_UNDERSTOOD, BAD_LINE, UNREADABLE, UNWRITABLE, NO_ANSWER = 1, 2, 3, 4, 70
 FAULT = re.compile(rb"line ([0-9]+): ([a-z ]+)\n")
 # What a user or a closed pipe does to a program is no fault of it.
@@ -49,8 +55,10 @@ class Build(NamedTuple):
 
 
 def say(*texts):
-    for text in texts:
-        print(f"lab: {text}", file=sys.stderr, flush=True)
+    """Prints on standard error what can be printed there: what can't is no fault of a run."""
+    with contextlib.suppress(OSError):
+        for text in texts:
+            os.write(2, os.fsencode(f"lab: {text}\n"))
 
 
 def fail(why, status=NO_ANSWER):
@@ -78,24 +86,21 @@ def build():
         say("this is the proved build")
         return Build(ran.stdout.rstrip("\n"), True)
     why = ran.stderr.strip().removeprefix("proved: ") or "scripts/proved does not run"
-    say(f"this is NOT the proved build, and runs with checks ({why})")
     ran = subprocess.run([TOP / "scripts/unproved"], stdin=subprocess.DEVNULL, stdout=subprocess.PIPE, text=True)
     if ran.returncode:
         fail("there is no program to run")
+    say(f"this is NOT the proved build, and runs with checks ({why})")
     return Build(ran.stdout.rstrip("\n"), False)
 
 
 def given_script():
-    """Returns the script, to one byte past the longest, or None where it can't be read."""
-    try:
-        if os.isatty(SCRIPT):
-            say("type the script, and end it with control-D")
-        got = b""
-        while len(got) <= LIMIT and (more := os.read(SCRIPT, LIMIT + 1 - len(got))):
-            got += more
-        return got
-    except OSError:
-        return None
+    """Returns the script, to one byte past the longest. It raises where that can't be read."""
+    if os.isatty(SCRIPT):
+        say("type the script, and end it with control-D")
+    got = b""
+    while len(got) <= LIMIT and (more := os.read(SCRIPT, LIMIT + 1 - len(got))):
+        got += more
+    return got
 
 
 def started(build, words, script, stdout):
@@ -103,7 +108,16 @@ def started(build, words, script, stdout):
     with tempfile.TemporaryFile() as given:
         given.write(script)
         given.seek(0)
-        return subprocess.run([build.program, *words], stdin=given, stdout=stdout)
+        with subprocess.Popen([build.program, *words], stdin=given, stdout=stdout) as ran:
+            try:
+                for number in (signal.SIGTERM, signal.SIGHUP):
+                    # What stops this stops the program, and then this ends as that did.
+                    signal.signal(number, lambda number, _: ran.send_signal(number))
+                output, _ = ran.communicate()
+            except BaseException:
+                ran.kill()
+                raise
+        return subprocess.CompletedProcess(ran.args, ran.returncode, output)
 
 
 def end(build, status):
@@ -127,17 +141,29 @@ def explain(build, words, script):
         say(*drawn(number, explained(script, number, said[2].decode())))
 
 
+def is_pipe_closed():
+    """Whether nobody reads standard output any more, as behind `| head`."""
+    watched = select.poll()
+    watched.register(1, 0)
+    return any(what & select.POLLERR for _, what in watched.poll(0))
+
+
 def run(words):
     """Plays the script on standard input."""
-    script = given_script()
-    ours = build()
-    if script is None:
+    try:
+        script = given_script()
+    except OSError as error:
+        say(f"the script cannot be read: {error.strerror}")
         # The program meets the same fault itself.
+        ours = build()
         os.dup2(SCRIPT, 0)
         os.execv(ours.program, [ours.program, *words])
+    ours = build()
     status = started(ours, words, script, None).returncode
     if status == BAD_LINE:
         explain(ours, words, script)
+    if status == UNWRITABLE and not is_pipe_closed():
+        say("the output cannot be written")
     end(ours, status)
 
 
@@ -171,9 +197,10 @@ def shown(script, status, output):
 def show(path):
     """Prints a script, each line with its reply under it."""
     try:
-        script = Path(path).read_bytes()
+        script = given_script() if path in STANDARD_INPUT else Path(path).read_bytes()
     except OSError as error:
-        fail(f"{path} cannot be read: {error.strerror}", UNREADABLE)
+        what = "the script" if path in STANDARD_INPUT else path
+        fail(f"{what} cannot be read: {error.strerror}", UNREADABLE)
     ours = build()
     ran = started(ours, ["run"], script, subprocess.PIPE)
     if ran.returncode in (0, BAD_LINE):
@@ -184,7 +211,10 @@ def show(path):
 def version():
     """Returns which sources these are."""
     words = ["git", "-C", TOP, "describe", "--always", "--dirty=, changed since"]
-    ran = subprocess.run(words, capture_output=True, text=True)
+    try:
+        ran = subprocess.run(words, capture_output=True, text=True)
+    except FileNotFoundError:
+        return "rbd_lab; which commit, git would say, and it isn't here"
     return f"rbd_lab, commit {ran.stdout.strip()}" if ran.returncode == 0 else "rbd_lab, from no git checkout"
 
 
@@ -195,9 +225,9 @@ def main():
     elif words == ["--version"]:
         put([version().encode()])
     elif words[:1] == ["show"]:
-        if len(words) != 2:
-            fail("usage: scripts/lab show FILE", NOT_UNDERSTOOD)
-        show(words[1])
+        if len(words) > 2:
+            fail("usage: scripts/lab show [FILE]", NOT_UNDERSTOOD)
+        show(*words[1:] or "-")
     elif words in (["run"], ["run", "--trace"]):
         run(words)
     else:

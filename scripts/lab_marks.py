@@ -48,6 +48,15 @@ SCHEDULE = {
     "@late": [("session",), SLOT],
     "@trim": [("site",), ID, ("number", 0, GREATEST, "OBJECT")],
 }
+# The words of operations.
+KINDS = {f"dir-{it}" for it in ("find", "add", "remove", "rename", "list")}
+KINDS |= {f"child-{it}" for it in ("add", "remove", "list")} | {"block-add"}
+KINDS |= {f"header-{it}" for it in ("create", "get", "set-size", "snap-add", "snap-remove", "snap-status")}
+KINDS |= {f"header-{it}" for it in ("detach", "role", "mirror", "synced", "remove")}
+KINDS |= {"lock-take", "lock-drop", "lock-break", "watch", "unwatch", "watchers-get", "notify"}
+KINDS |= {f"data-{it}" for it in ("read", "write", "write-full", "zero", "empty", "remove", "copy-up")}
+KINDS |= {f"map-{it}" for it in ("resize", "get", "put", "set", "remove")}
+KINDS |= {f"journal-{it}" for it in ("create", "tag", "append", "read", "spans", "register", "commit", "remove")}
 # What the grammar has and the program doesn't play.
 UNBUILT = ("clone", "children", "flatten", "mirror", "protect", "unprotect", "journal")
 # How a part is written in the grammar.
@@ -104,7 +113,7 @@ def cause_of(part, text, sessions):
         "hex": lambda: len(text) <= 131_072 and bool(re.fullmatch(rb"([0-9a-f]{2})+", text)),
         "byte": lambda: bool(re.fullmatch(rb"[0-9a-f]{2}", text)),
         "site": lambda: text in (b"a", b"b"),
-        "kind": lambda: bool(re.fullmatch(rb"[a-z]+(-[a-z]+)*", text)),
+        "kind": lambda: text.decode("latin-1") in KINDS,
         "session": lambda: text in sessions,
         "new session": lambda: is_session_name(text) and text not in sessions and len(sessions) < 32,
         "flag": lambda: text.decode("latin-1") == part[1],
@@ -205,7 +214,7 @@ def unbuilt_token(line):
     """Returns the token by which a line of the grammar is one that isn't built."""
     tokens = words_of_command(line)
     if tokens[0].text.startswith(b"@"):
-        return tokens[-1] if tokens[0].text == b"@until" else tokens[0]
+        return tokens[0]
     if tokens[1].text == b"create" and tokens[-1].text == b"journal":
         return tokens[-1]
     return tokens[2] if tokens[1].text in (b"snap", b"mirror") else tokens[1]

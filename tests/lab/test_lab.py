@@ -7,9 +7,11 @@ program does. The rest plays small programs of `sh` in place of rbd_lab.
 import os
 import re
 import shutil
+import signal
 import subprocess
 import sys
 import tempfile
+import time
 import unittest
 from importlib.machinery import SourceFileLoader
 from importlib.util import module_from_spec, spec_from_loader
@@ -58,6 +60,10 @@ c1 snap list d | list | `ls`
 c1 snap add d@s | add | `create`
 c1 snap take d@s | take | create, rm, rollback or ls
 c1 mv d e | mv | `rename`
+c1 snap create d@ | d@ | behind `@`
+c1 read d@ 0 1 | d@ | behind `@`
+clint c2 a | clint | is `client` meant
+@until c1 1 xyz zzz | xyz | docs/RULES.md lists them
 c1 export d | export | read, resize
 @stopp c1 | @stopp | @stop, @restart
 c1 ls # all | # | a line of its own
@@ -166,9 +172,9 @@ class Wrapper(unittest.TestCase):
         return subprocess.run([self.room / "scripts/lab", *words], **how)
 
     def test_output_and_status_are_the_programs(self):
-        self.program("cat; echo \"$@\"; exit 4")
+        self.program("cat; echo \"$@\"; exit 5")
         ran = self.lab("run", "--trace", script=b"\xff\0 x")
-        self.assertEqual((ran.stdout, ran.returncode), (b"\xff\0 xrun --trace\n", 4))
+        self.assertEqual((ran.stdout, ran.returncode), (b"\xff\0 xrun --trace\n", 5))
         self.assertEqual(ran.stderr, b"lab: this is the proved build\n")
 
     def test_it_says_that_the_build_is_unproved(self):
@@ -191,11 +197,29 @@ class Wrapper(unittest.TestCase):
         self.program("kill -KILL $$")
         self.assertEqual(self.lab("run").returncode, -9)
 
+    def test_a_signal_to_the_wrapper_stops_the_program_too(self):
+        self.program(f"echo $$ >{self.room}/pid; exec sleep 60")
+        with subprocess.Popen([self.room / "scripts/lab", "run"], stdin=subprocess.DEVNULL, stderr=subprocess.DEVNULL) as ran:
+            pid = self.room / "pid"
+            while not (pid.exists() and pid.read_text().endswith("\n")):
+                time.sleep(0.02)
+            ran.terminate()
+            self.assertEqual(ran.wait(20), -signal.SIGTERM)
+        self.assertRaises(ProcessLookupError, os.kill, int(pid.read_text()), 0)
+
     def test_a_script_that_can_not_be_read_is_the_programs_to_judge(self):
         self.program("cat >/dev/null 2>&1 || exit 3")
         with open(os.devnull, "wb") as none:
-            ran = subprocess.run([self.room / "scripts/lab", "run"], stdin=none, stderr=none)
+            ran = subprocess.run([self.room / "scripts/lab", "run"], stdin=none, stderr=subprocess.PIPE)
         self.assertEqual(ran.returncode, 3)
+        self.assertIn(b"lab: the script cannot be read: Bad file descriptor\n", ran.stderr)
+
+    def test_it_says_that_an_output_can_not_be_written(self):
+        self.program("exit 4")
+        said = b"lab: the output cannot be written\n"
+        for to, is_said in ((">/dev/full", True), ("| true", False)):
+            whole = f"{{ sleep 0.3; {self.room}/scripts/lab run </dev/null; }} {to}"
+            self.assertEqual(said in subprocess.run(whole, shell=True, stderr=subprocess.PIPE).stderr, is_said, to)
 
     def test_other_words_go_to_the_program(self):
         self.program("cat; echo \"usage, $*\"; exit 1")
@@ -208,6 +232,12 @@ class Wrapper(unittest.TestCase):
         ran = self.lab("show", str(self.room / "script"))
         wanted = "1  client c1 a|2  c2 read|   => ok 00 01   (reply 2)|3  c1 ls|   => ok   (reply 1)|"
         self.assertEqual(ran.stdout.decode().replace("\n", "|"), wanted)
+
+    def test_show_of_standard_input(self):
+        self.program("printf '2 c1 ok\\n'")
+        for words in ((), ("-",), ("/dev/stdin",)):
+            ran = self.lab("show", *words, script=b"client c1 a\nc1 ls\n")
+            self.assertEqual(ran.stdout, b"1  client c1 a\n2  c1 ls\n   => ok\n", words)
 
     def test_show_of_a_fault(self):
         self.program("echo 'line 2: missing part'; exit 2")
@@ -234,8 +264,9 @@ class Wrapper(unittest.TestCase):
 
     def test_standard_error_may_be_closed(self):
         self.program("echo 2 c1 ok")
-        ran = subprocess.run(f"{self.room}/scripts/lab run 2>&- </dev/null", shell=True, capture_output=True)
-        self.assertEqual((ran.stdout, ran.returncode), (b"2 c1 ok\n", 0))
+        for to in ("2>&-", "2>/dev/full"):
+            ran = subprocess.run(f"{self.room}/scripts/lab run {to} </dev/null", shell=True, capture_output=True)
+            self.assertEqual((ran.stdout, ran.returncode), (b"2 c1 ok\n", 0), to)
 
     def test_words_to_come_are_not_built(self):
         self.program("exit 1")
@@ -246,6 +277,15 @@ class Wrapper(unittest.TestCase):
             ran = self.lab(word)
             self.assertEqual((ran.returncode, ran.stderr), (0, b""), word)
             self.assertIn(b"rbd_lab", ran.stdout)
+
+    def test_version_needs_no_git(self):
+        tools = self.room / "tools"
+        tools.mkdir()
+        for tool in ("sh", "python3", "dirname", "readlink"):
+            (tools / tool).symlink_to(shutil.which(tool))
+        ran = subprocess.run([self.room / "scripts/lab", "--version"], env={"PATH": str(tools)}, capture_output=True)
+        self.assertEqual((ran.returncode, ran.stderr), (0, b""))
+        self.assertIn(b"git would say", ran.stdout)
 
 
 if __name__ == "__main__":
