@@ -281,7 +281,8 @@ class Wrapper(unittest.TestCase):
     def test_version_needs_no_git(self):
         tools = self.room / "tools"
         tools.mkdir()
-        for tool in ("sh", "python3", "dirname", "readlink"):
+        (tools / "python3").symlink_to(sys.executable)
+        for tool in ("sh", "dirname", "readlink"):
             (tools / tool).symlink_to(shutil.which(tool))
         ran = subprocess.run([self.room / "scripts/lab", "--version"], env={"PATH": str(tools)}, capture_output=True)
         self.assertEqual((ran.returncode, ran.stderr), (0, b""))
