@@ -11,6 +11,9 @@ import shutil
 import sys
 from pathlib import Path
 
+# The most memory that the check of a crate was seen to take at one job, in bytes.
+CHECK_TAKES = 4 << 30
+
 
 def kit():
     """Returns the folder of the kit, or None where there is no `rt` on PATH."""
@@ -32,6 +35,8 @@ def load_rt(top):
     rt.rtlib.guarded()
     rt.rtlib.Crate = rt.Crate
     rt.Crate.allowed = rt.handles_of(str(top))
+    # (its own guess is too high for the crates at the top, which then wait for memory, and get one processor)
+    rt.need = lambda crate: CHECK_TAKES
     return rt
 
 
