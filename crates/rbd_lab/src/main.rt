@@ -50,8 +50,6 @@ mod mode;
 mod play;
 mod run;
 mod script;
-#[cfg(test)]
-mod tests;
 
 /// The words of the command line without the program's name.
 fn words(rt: &(impl Env + AllocGlobal)) -> io::Result<Vec<String>> {

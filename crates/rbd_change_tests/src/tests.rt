@@ -1,4 +1,0 @@
-mod commands;
-mod removal;
-mod rows;
-mod tables;

@@ -1,5 +1,0 @@
-mod Bare
-mod Cut
-mod Ending
-mod Listed
-mod Passed

@@ -1,5 +1,0 @@
-mod frame;
-mod layout;
-mod object;
-mod places;
-mod striped;

@@ -1,7 +1,0 @@
-mod admin;
-mod commands;
-mod machine;
-mod piece;
-mod read;
-mod snaps;
-mod write;

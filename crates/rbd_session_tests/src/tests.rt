@@ -1,4 +1,0 @@
-mod drive;
-mod lines;
-mod looks;
-mod slots;

@@ -1,0 +1,26 @@
+//! Tests of a client, through its public calls: when one of its requests takes the lock of its
+//! image, when a lock is let go, and who waits meanwhile.
+//!
+//! Each test is a text with a paragraph for each case, which `fixtures` reads and `drive` does.
+//! What a row wants was worked out from the rules in prose. The requests are those of all commands
+//! that change an image, and `close`, `quiesce`, `resume` and `tell`:
+//!
+//! | file | subject |
+//! |---|---|
+//! | `taking` | the way to a lock, and who goes it |
+//! | `asked` | a client that is asked for its lock, and when it lets it go |
+//! | `quiescing` | `quiesce` holds changes back, and `resume` lets them go on |
+//! | `closing` | `close`, and who waits behind it |
+//! | `refused` | what ends a request on its way, and what it leaves |
+//! | `hearing` | notices, and `tell` |
+//! | `slots` | slots, and who the client is |
+mod asked;
+mod closing;
+mod drive;
+mod hearing;
+mod notices;
+mod operations;
+mod quiescing;
+mod refused;
+mod slots;
+mod taking;

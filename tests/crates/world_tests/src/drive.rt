@@ -1,0 +1,69 @@
+//! A world, its events one after another, and what is asked of it.
+//!
+//! Whether an event may come is looked at before it does: nothing proves that the rows of a test
+//! keep to that.
+use rbd_admin::CreateRequest;
+use rbd_kinds::{NoMemory, SessionNo, SiteId, Slot};
+use rbd_requests::is_built;
+use rbd_world::{Event, Outcome, World};
+use std::alloc::Global;
+use std::process::Abort;
+
+/// The clients of these tests. No machine is brought, so any type may stand where its type would.
+pub type Clients = World<CreateRequest>;
+
+/// A world of the clients c1, c2 and c4 at site A, and c3 at site B.
+pub fn new_world(rt: &impl Abort, alloc: Global) -> Clients {
+    match World::new(alloc, &[SiteId::A, SiteId::A, SiteId::B, SiteId::A]) {
+        Ok(world) => world,
+        Err(_) => panic!(rt; "there is no memory"),
+    }
+}
+
+/// Whether an event's command is served.
+fn is_built_event(event: &Event) -> bool {
+    match event {
+        Event::Submit {
+            session: _,
+            line: _,
+            command,
+        } => is_built(command),
+        Event::Poll { .. } => true,
+        Event::Deliver { .. } => true,
+        Event::Expire { .. } => true,
+        Event::Stop { .. } => true,
+        Event::Late { .. } => true,
+        Event::Restart { .. } => true,
+        Event::Trim { .. } => true,
+    }
+}
+
+fn step(
+    rt: &impl Abort,
+    alloc: Global,
+    world: &mut Clients,
+    event: &Event,
+) -> Result<Outcome, NoMemory> {
+    assert!(rt; is_built_event(event));
+    world.step(alloc, event)
+}
+
+/// An event comes. It goes by value, so that no caller has to let it go.
+pub fn comes(
+    rt: &impl Abort,
+    alloc: Global,
+    world: &mut Clients,
+    event: Event,
+) -> Result<Outcome, NoMemory> {
+    let outcome = step(rt, alloc, world, &event);
+    drop(event);
+    outcome
+}
+
+/// The word of the kind of operation that is wanted at a slot, or `none`.
+pub fn wanted(world: &Clients, session: SessionNo, slot: Slot) -> &'static str {
+    match world.kind(session, slot) {
+        Some((_, kind)) => kind.word(),
+        None => "none",
+    }
+}
