@@ -12,7 +12,7 @@ use std::marker::Model;
 /// `most` a call, and fails exactly at the calls whose numbers are in `fail` and where it is full.
 /// Calls are numbered from 1, failed ones too, and the number stays at `u64::MAX` (own). Contracts
 /// see a `SinkInMemory`.
-#[derive(Debug, Drop)]
+#[derive(Drop)]
 pub struct MemSink {
     bytes: Vec<u8>,
     room: usize,

@@ -19,7 +19,7 @@ use std::marker::Model;
 /// The tickets of one session's requests. Contracts see each object's `queue` and each request's
 /// `list`, both earliest first, the `object_of` and the `request_of` each queued ticket, how many
 /// tickets were `drawn`, and for how many more there is room.
-#[derive(Debug, Drop)]
+#[derive(Drop)]
 pub struct Guard {
     /// The places of the tickets that are in.
     slab: Slab,

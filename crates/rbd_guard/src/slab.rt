@@ -15,7 +15,7 @@ use std::marker::Model;
 /// Places by index. Each is used, or is one of the free ones, which are linked by index: so a place
 /// whose ticket left is taken again before the slab grows. Contracts see the places, and for how
 /// many more tickets there is room.
-#[derive(Debug, Drop)]
+#[derive(Drop)]
 pub struct Slab {
     places: Vec<Place>,
     /// The first free place.
