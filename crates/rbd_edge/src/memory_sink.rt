@@ -4,7 +4,7 @@ ghost use Rattle.rbd_edge.specs.Calls.{next_call};
 use crate::calls::{is_listed, next_call};
 use crate::failed::Failed;
 use crate::sink::Sink;
-use rbd_kinds::NoMemory;
+use rbd_values::NoMemory;
 use std::alloc::Global;
 use std::marker::Model;
 

@@ -11,7 +11,7 @@ use crate::link::{Ends, Link, Place};
 use crate::slab::Slab;
 use crate::standing::{enter_list, enter_queue, leave_list, leave_queue};
 use crate::ticket::Ticket;
-use rbd_kinds::NoMemory;
+use rbd_values::NoMemory;
 use std::alloc::Global;
 use std::collections::HashMap;
 use std::marker::Model;

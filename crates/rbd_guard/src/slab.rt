@@ -8,7 +8,7 @@ use crate::places::{
     link_list_after, link_list_before, link_queue_after, link_queue_before, next_free, place_at,
     put, set_free,
 };
-use rbd_kinds::NoMemory;
+use rbd_values::NoMemory;
 use std::alloc::Global;
 use std::marker::Model;
 
