@@ -29,7 +29,7 @@ use std::alloc::Global;
 /// ```
 ///
 /// Each operation may be answered `fenced`, which ends the request with Fenced.
-#[derive(Debug, Drop)]
+#[derive(Drop)]
 pub struct CreateRequest {
     site: SiteId,
     name: Name,
@@ -42,7 +42,7 @@ pub struct CreateRequest {
 }
 
 /// A stage of the request.
-#[derive(Debug, Drop)]
+#[derive(Drop)]
 enum Stage {
     Outside,
     Drawing,

@@ -48,7 +48,7 @@ use std::alloc::Global;
 /// ```
 ///
 /// Each operation may be answered `fenced`, which ends the request with Fenced.
-#[derive(Debug, Drop)]
+#[derive(Drop)]
 pub struct ListRequest {
     site: SiteId,
     stage: Stage,
@@ -57,7 +57,7 @@ pub struct ListRequest {
 }
 
 /// A stage of the request.
-#[derive(Debug, Drop)]
+#[derive(Drop)]
 enum Stage {
     Listing,
     Finding(Name, Shown),
@@ -68,7 +68,7 @@ enum Stage {
 }
 
 /// What is shown of an image.
-#[derive(Clone, Copy, Debug, PartialEq, Eq)]
+#[derive(Clone, Copy, PartialEq, Eq)]
 enum Shown {
     Header,
     Snaps,

@@ -28,7 +28,7 @@ use rbd_machine::{Progress, refusal_of, told_done};
 /// ```
 ///
 /// Any operation may be answered `fenced`, which ends the request with Fenced.
-#[derive(Debug, Drop)]
+#[derive(Drop)]
 pub struct RemoveSnap {
     site: SiteId,
     image: ImageId,
@@ -37,7 +37,7 @@ pub struct RemoveSnap {
 }
 
 /// A stage of it.
-#[derive(Debug, Drop)]
+#[derive(Drop)]
 pub enum Stage {
     Removing,
     Unmapping,

@@ -37,20 +37,20 @@ use std::alloc::Global;
 pub type SnapRequest = ChangeRequest<SnapChange, SnapPart>;
 
 /// What is to be done to the snapshot of a name.
-#[derive(Debug, Drop)]
+#[derive(Drop)]
 pub struct SnapChange {
     kind: ChangeKind,
     snap: Name,
 }
 
-#[derive(Clone, Copy, Debug, PartialEq, Eq)]
+#[derive(Clone, Copy, PartialEq, Eq)]
 enum ChangeKind {
     Create,
     Remove,
 }
 
 /// What is done behind the event of a change of a snapshot.
-#[derive(Debug, Drop)]
+#[derive(Drop)]
 pub enum SnapPart {
     Take(TakeSnap),
     Remove(RemoveSnap),

@@ -32,7 +32,7 @@ use rbd_machine::{Progress, refusal_of, told_done};
 /// ```
 ///
 /// Any operation may be answered `fenced`, which ends the request with Fenced.
-#[derive(Debug, Drop)]
+#[derive(Drop)]
 pub struct TakeSnap {
     site: SiteId,
     image: ImageId,
@@ -45,7 +45,7 @@ pub struct TakeSnap {
 }
 
 /// A stage of it.
-#[derive(Debug, Drop)]
+#[derive(Drop)]
 pub enum Stage {
     Copying,
     Putting(Bytes),

@@ -36,7 +36,7 @@ use std::mem::replace;
 /// ```
 ///
 /// Each operation may be answered `fenced`, which ends the request with Fenced.
-#[derive(Debug, Drop)]
+#[derive(Drop)]
 pub struct ExtentRequest<C, P> {
     site: SiteId,
     change: C,
@@ -47,7 +47,7 @@ pub struct ExtentRequest<C, P> {
 }
 
 /// A stage of it, with its image once it is found.
-#[derive(Debug, Drop)]
+#[derive(Drop)]
 enum Stage<P> {
     Approaching(Approach),
     Noting(ImageId),

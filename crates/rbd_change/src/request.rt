@@ -32,7 +32,7 @@ use std::mem::replace;
 /// ```
 ///
 /// Each operation may be answered `fenced`, which ends the request with Fenced.
-#[derive(Debug, Drop)]
+#[derive(Drop)]
 pub struct ChangeRequest<C, P> {
     site: SiteId,
     change: C,
@@ -42,7 +42,7 @@ pub struct ChangeRequest<C, P> {
 }
 
 /// A stage of it, with its image once it is found.
-#[derive(Debug, Drop)]
+#[derive(Drop)]
 enum Stage<P> {
     Approaching(Approach),
     Noting(ImageId),

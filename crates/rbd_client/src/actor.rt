@@ -12,7 +12,7 @@ use rbd_machine::Machine;
 use rbd_owner::{Acquire, Release};
 
 /// Who acts where a slot is polled.
-#[derive(Clone, Copy, Debug)]
+#[derive(Clone, Copy)]
 pub enum Actor {
     /// The slot is free, or what it holds waits.
     Nobody,

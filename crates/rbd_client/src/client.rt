@@ -29,7 +29,7 @@ use std::alloc::Global;
 use std::marker::Model;
 
 /// One client: its requests, each in a slot, and the locks of the images that they change.
-#[derive(Debug, Drop)]
+#[derive(Drop)]
 pub struct Client<R: Request> {
     session: Session<R>,
     locks: Locks,

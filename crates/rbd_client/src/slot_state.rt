@@ -4,7 +4,7 @@ use rbd_kinds::ImageAt;
 use rbd_owner::Acquire;
 
 /// How the request in a slot comes to the lock of its image.
-#[derive(Clone, Copy, Debug)]
+#[derive(Clone, Copy)]
 pub enum Way {
     /// It has begun no way: it needs none yet, or none any more.
     Unbegun,
@@ -15,7 +15,7 @@ pub enum Way {
 }
 
 /// What a client keeps of a slot, beside its session.
-#[derive(Clone, Copy, Debug)]
+#[derive(Clone, Copy)]
 pub struct SlotState {
     pub way: Way,
     pub quiescing: Quiescing,

@@ -45,7 +45,7 @@ use std::alloc::Global;
 /// its `Hold` as soon as every earlier request in the line has ended, and neither a quiesce nor an
 /// asking holds it back. As it is alone, later requests wait until it has ended. It makes no look
 /// under the lock, so it is never past one, and doesn't hold a release back.
-#[derive(Debug, Drop)]
+#[derive(Drop)]
 pub struct Close {
     site: SiteId,
     name: Name,
@@ -53,7 +53,7 @@ pub struct Close {
 }
 
 /// A stage of the request, with the image once it is found.
-#[derive(Debug, Drop)]
+#[derive(Drop)]
 enum Stage {
     Finding,
     Joining(ImageId),

@@ -23,13 +23,13 @@ use std::alloc::Global;
 /// It waits for the image's lock as a change does, so every change before it has ended, and it
 /// refuses nothing by the header: a secondary may be quiesced. From its look under the lock on the
 /// session lets no request of the image's line go past the lock.
-#[derive(Debug, Drop)]
+#[derive(Drop)]
 pub struct Quiesce {
     way: Approach,
 }
 
 /// No header is refused.
-#[derive(Clone, Copy, Debug, PartialEq, Eq)]
+#[derive(Clone, Copy, PartialEq, Eq)]
 struct AnyHeader {}
 
 impl Refuses for AnyHeader {

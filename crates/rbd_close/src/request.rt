@@ -25,7 +25,7 @@ use std::alloc::Global;
 ///
 /// Each is done behind its last operation. One that is answered `none` ends the request with
 /// NoImage, and one that is answered `fenced` with Fenced. It does what the request in it does.
-#[derive(Debug, Drop)]
+#[derive(Drop)]
 pub enum CloseRequest {
     /// `close`
     Close(Close),

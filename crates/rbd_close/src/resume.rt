@@ -18,7 +18,7 @@ use std::alloc::Global;
 ///
 /// It joins no line, since the requests in it wait for it. It ends its own session's quiesce alone,
 /// and is done without one, too (own). `fenced` ends it with Fenced.
-#[derive(Debug, Drop)]
+#[derive(Drop)]
 pub struct Resume {
     site: SiteId,
     name: Name,

@@ -24,7 +24,7 @@ use std::alloc::Global;
 ///
 /// It needs no lock and joins no line. Each operation may be answered `fenced`, which ends the
 /// request with Fenced.
-#[derive(Debug, Drop)]
+#[derive(Drop)]
 pub struct Tell {
     site: SiteId,
     name: Name,
@@ -33,7 +33,7 @@ pub struct Tell {
 }
 
 /// A stage of the request, with the image once it is found.
-#[derive(Debug, Drop)]
+#[derive(Drop)]
 enum Stage {
     Finding,
     Saying(ImageId),

@@ -3,22 +3,27 @@ use Rattle.std.specs.Prelude.{ℕ, Bool, true, false, List, Option, Some, None}
 use Rattle.rbd_commands.specs.declared.command.Command.{Command}
 use Rattle.rbd_commands.specs.declared.command.Command.TheVariants as command
 
--- the image, where it asks for nothing else
-abbrev pub image_alone : Command → Option (List ℕ)
-image_alone (command.Remove image) = Some image
-image_alone (command.Info image) = Some image
-image_alone (command.Used image) = Some image
-image_alone (command.Flatten image) = Some image
-image_alone (command.Quiesce image) = Some image
-image_alone (command.Resume image) = Some image
-image_alone (command.Close image) = Some image
-image_alone (command.SnapList image) = Some image
-image_alone (command.MirrorEnable image) = Some image
-image_alone (command.MirrorDemote image) = Some image
-image_alone (command.MirrorResync image) = Some image
-image_alone (command.MirrorStatus image) = Some image
-image_alone (command.MirrorFollow image) = Some image
-image_alone _ = None
+-- the image, where its name is all that has to be copied: each other part is plain
+abbrev pub only_image : Command → Option (List ℕ)
+only_image (command.Create image size shape) = Some image
+only_image (command.Fill image at len byte) = Some image
+only_image (command.Discard image at len) = Some image
+only_image (command.Resize image size) = Some image
+only_image (command.Remove image) = Some image
+only_image (command.Info image) = Some image
+only_image (command.Used image) = Some image
+only_image (command.Flatten image) = Some image
+only_image (command.Quiesce image) = Some image
+only_image (command.Resume image) = Some image
+only_image (command.Close image) = Some image
+only_image (command.SnapList image) = Some image
+only_image (command.MirrorEnable image) = Some image
+only_image (command.MirrorDemote image) = Some image
+only_image (command.MirrorPromote image force) = Some image
+only_image (command.MirrorResync image) = Some image
+only_image (command.MirrorStatus image) = Some image
+only_image (command.MirrorFollow image) = Some image
+only_image _ = None
 
 -- two names, where it asks for nothing else
 abbrev pub pair_alone : Command → Option (List ℕ × List ℕ)
@@ -31,15 +36,10 @@ pair_alone (command.SnapUnprotect image snap) = Some (image, snap)
 pair_alone (command.SnapRollback image snap) = Some (image, snap)
 pair_alone _ = None
 
--- whether it has other parts than names
-abbrev pub has_parts : Command → Bool
-has_parts (command.Create image size shape) = true
-has_parts (command.Clone parent snap image shape) = true
-has_parts (command.Write image at bytes) = true
-has_parts (command.Fill image at len byte) = true
-has_parts (command.Discard image at len) = true
-has_parts (command.Read image snap at len) = true
-has_parts (command.Resize image size) = true
-has_parts (command.Tell image bytes) = true
-has_parts (command.MirrorPromote image force) = true
-has_parts _ = false
+-- whether it has more to copy than one or two names
+abbrev pub has_more : Command → Bool
+has_more (command.Clone parent snap image shape) = true
+has_more (command.Write image at bytes) = true
+has_more (command.Read image snap at len) = true
+has_more (command.Tell image bytes) = true
+has_more _ = false

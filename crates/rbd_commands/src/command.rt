@@ -146,7 +146,7 @@ pub type FillLength = AtMost<1048576>;
 
 /// The shape that a new image or a clone is asked to have. What isn't asked for is as usual, and
 /// `rbd_layout` says what that is for each of the two.
-#[derive(Clone, Copy, Debug, PartialEq, Eq, Hash)]
+#[derive(Clone, Copy, Debug, PartialEq, Eq)]
 pub struct Shape {
     /// The object size in bytes.
     pub object: Option<Number>,

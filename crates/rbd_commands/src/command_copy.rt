@@ -1,18 +1,22 @@
 //! Copies of commands.
 ghost use Rattle.std.specs.Prelude.{◌≡◌, true, Some, IfOk};
-ghost use Rattle.rbd_commands.specs.CommandCopy.{image_alone, pair_alone, has_parts};
+ghost use Rattle.rbd_commands.specs.CommandCopy.{only_image, pair_alone, has_more};
 ghost use Rattle.rbd_commands.specs.declared.command.Command.TheVariants as variant;
 
 use crate::command::{Command, Payload, ReadLength, Shape};
 use rbd_values::{AskedName, NoMemory, Number, TryClone};
 
-// A command that asks for nothing but one or two names is copied by these: a function with a way
-// out for each command and each of its names takes the prover minutes.
+// What has to be copied of a command is one image's name, or two names, for most of them: a function
+// with a way out for each command and each of its names takes the prover minutes.
 impl TryClone for Command {
     fn try_clone(&self) -> Result<Self, NoMemory> {
         match self {
             Command::List => Ok(Command::List),
-            Command::Remove { image }
+            Command::Create { image, .. }
+            | Command::Fill { image, .. }
+            | Command::Discard { image, .. }
+            | Command::Resize { image, .. }
+            | Command::Remove { image }
             | Command::Info { image }
             | Command::Used { image }
             | Command::Flatten { image }
@@ -22,6 +26,7 @@ impl TryClone for Command {
             | Command::SnapList { image }
             | Command::MirrorEnable { image }
             | Command::MirrorDemote { image }
+            | Command::MirrorPromote { image, .. }
             | Command::MirrorResync { image }
             | Command::MirrorStatus { image }
             | Command::MirrorFollow { image } => copied_of_image(self, image),
@@ -32,26 +37,47 @@ impl TryClone for Command {
             | Command::SnapProtect { image, snap }
             | Command::SnapUnprotect { image, snap }
             | Command::SnapRollback { image, snap } => copied_of_pair(self, image, snap),
-            _ => copied_of_parts(self),
+            _ => copied_of_more(self),
         }
     }
 }
 
-/// A copy of a command that asks for an image alone.
+/// A copy of a command of which only the image's name has to be copied.
 fn copied_of_image(command: &Command, image: &AskedName) -> Result<Command, NoMemory>
-    requires { image_alone command.now ≡ Some image.now }
+    requires { only_image command.now ≡ Some image.now }
     ensures { IfOk result (λ copy. copy ≡ command.now) }
 {
     let image = image.try_clone()?;
     Ok(of_image(command, image))
 }
 
-/// The command of that kind, of an image.
+/// The command of that kind, of an image, with the same plain parts.
 fn of_image(command: &Command, image: AskedName) -> Command
-    requires { image_alone command.now ≡ Some image }
+    requires { only_image command.now ≡ Some image }
     ensures { result ≡ command.now }
 {
     match command {
+        Command::Create { size, shape, .. } => Command::Create {
+            image,
+            size: *size,
+            shape: *shape,
+        },
+        Command::Fill { at, len, byte, .. } => Command::Fill {
+            image,
+            at: *at,
+            len: *len,
+            byte: *byte,
+        },
+        Command::Discard { at, len, .. } => Command::Discard {
+            image,
+            at: *at,
+            len: *len,
+        },
+        Command::Resize { size, .. } => Command::Resize { image, size: *size },
+        Command::MirrorPromote { force, .. } => Command::MirrorPromote {
+            image,
+            force: *force,
+        },
         Command::Remove { .. } => Command::Remove { image },
         Command::Info { .. } => Command::Info { image },
         Command::Used { .. } => Command::Used { image },
@@ -104,17 +130,12 @@ fn of_pair(command: &Command, one: AskedName, other: AskedName) -> Command
     }
 }
 
-/// A copy of a command that has other parts beside names.
-fn copied_of_parts(command: &Command) -> Result<Command, NoMemory>
-    requires { has_parts command.now ≡ true }
+/// A copy of a command that has more to copy: three names, a name that may be absent, or bytes.
+fn copied_of_more(command: &Command) -> Result<Command, NoMemory>
+    requires { has_more command.now ≡ true }
     ensures { IfOk result (λ copy. copy ≡ command.now) }
 {
     match command {
-        Command::Create { image, size, shape } => Ok(Command::Create {
-            image: image.try_clone()?,
-            size: *size,
-            shape: *shape,
-        }),
         Command::Clone {
             parent,
             snap,
@@ -122,37 +143,13 @@ fn copied_of_parts(command: &Command) -> Result<Command, NoMemory>
             shape,
         } => copied_clone(parent, snap, image, *shape),
         Command::Write { image, at, bytes } => copied_write(image, *at, bytes),
-        Command::Fill {
-            image,
-            at,
-            len,
-            byte,
-        } => Ok(Command::Fill {
-            image: image.try_clone()?,
-            at: *at,
-            len: *len,
-            byte: *byte,
-        }),
-        Command::Discard { image, at, len } => Ok(Command::Discard {
-            image: image.try_clone()?,
-            at: *at,
-            len: *len,
-        }),
         Command::Read {
             image,
             snap,
             at,
             len,
         } => copied_read(image, snap, *at, *len),
-        Command::Resize { image, size } => Ok(Command::Resize {
-            image: image.try_clone()?,
-            size: *size,
-        }),
         Command::Tell { image, bytes } => copied_tell(image, bytes),
-        Command::MirrorPromote { image, force } => Ok(Command::MirrorPromote {
-            image: image.try_clone()?,
-            force: *force,
-        }),
         _ => unreachable!(),
     }
 }

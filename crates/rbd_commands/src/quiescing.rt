@@ -6,7 +6,7 @@ use crate::command::Command;
 
 /// What a request does to a quiesce of its image in its session (own). A quiesce holds back the
 /// requests that change the image, each at its look under the lock.
-#[derive(Clone, Copy, Debug, PartialEq, Eq)]
+#[derive(Clone, Copy, PartialEq, Eq)]
 pub enum Quiescing {
     /// It leaves it as it is.
     Leaves,

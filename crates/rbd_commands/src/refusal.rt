@@ -7,7 +7,7 @@ use std::fmt;
 /// Why a command is refused. The numbers, words and conditions are this project's own; the errno is
 /// the one that users of `rbd` see. Which refusal comes where is told by the command's rules; where
 /// several hold at one look, they are tried in an order of their own.
-#[derive(Clone, Copy, Debug, PartialEq, Eq, Hash)]
+#[derive(Clone, Copy, Debug, PartialEq, Eq)]
 pub enum Refusal {
     /// The extent is empty, or ends past the size in the header that was read.
     BadRange,

@@ -18,7 +18,7 @@ use rbd_machine::{Machine, Seat};
 use std::alloc::Global;
 
 /// A request that was made of its work.
-#[derive(Debug, Drop)]
+#[derive(Drop)]
 pub enum Begun<R> {
     /// It is refused before any operation.
     Refused(Refusal),

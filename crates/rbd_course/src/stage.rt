@@ -3,7 +3,7 @@
 /// ```text
 /// Joined ──it waits for the lock──▶ Waiting ──its look under the lock is answered──▶ Past
 /// ```
-#[derive(Clone, Copy, Debug, PartialEq, Eq)]
+#[derive(Clone, Copy, PartialEq, Eq)]
 pub enum Stage {
     /// It has joined the line, and looks around without the lock.
     Joined,

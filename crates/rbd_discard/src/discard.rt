@@ -38,13 +38,13 @@ use std::collections::VecDeque;
 pub type DiscardRequest = ExtentRequest<DiscardChange, DiscardTurn>;
 
 /// The range that becomes zeros.
-#[derive(Debug, Drop)]
+#[derive(Drop)]
 pub struct DiscardChange {
     extent: Extent,
 }
 
 /// One piece of a discard, which is done at its turn.
-#[derive(Debug, Drop)]
+#[derive(Drop)]
 pub struct DiscardTurn {
     pub(crate) piece: ZeroPiece,
 }

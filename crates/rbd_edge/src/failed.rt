@@ -5,7 +5,7 @@ use std::error::Error;
 use std::fmt;
 
 /// A read or a write failed outside of the program, and was not done. The device has counted it.
-#[derive(Clone, Copy, Debug, PartialEq, Eq, Hash)]
+#[derive(Clone, Copy, Debug, PartialEq, Eq)]
 pub struct Failed;
 
 impl fmt::Display for Failed {

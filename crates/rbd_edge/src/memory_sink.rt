@@ -4,7 +4,7 @@ ghost use Rattle.rbd_edge.specs.Calls.{next_call};
 use crate::calls::{is_listed, next_call};
 use crate::failed::Failed;
 use crate::sink::Sink;
-use rbd_kinds::NoMemory;
+use rbd_values::NoMemory;
 use std::alloc::Global;
 use std::marker::Model;
 
@@ -12,7 +12,7 @@ use std::marker::Model;
 /// `most` a call, and fails exactly at the calls whose numbers are in `fail` and where it is full.
 /// Calls are numbered from 1, failed ones too, and the number stays at `u64::MAX` (own). Contracts
 /// see a `SinkInMemory`.
-#[derive(Debug, Drop)]
+#[derive(Drop)]
 pub struct MemSink {
     bytes: Vec<u8>,
     room: usize,

@@ -9,7 +9,7 @@ use std::marker::Model;
 /// A source in memory, for tests: it tells its bytes, gives at most `most` of them a call, and
 /// fails exactly at the calls whose numbers are in `fail`. Calls are numbered from 1, failed ones
 /// too, and the number stays at `u64::MAX` (own). Contracts see a `SourceInMemory`.
-#[derive(Debug, Drop)]
+#[derive(Drop)]
 pub struct MemSource {
     bytes: Vec<u8>,
     at: usize,

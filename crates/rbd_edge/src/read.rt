@@ -13,7 +13,7 @@ use std::fmt;
 const BLOCK: usize = 65_536;
 
 /// Why a source was not read to its end or to the limit.
-#[derive(Clone, Copy, Debug, PartialEq, Eq, Hash)]
+#[derive(Clone, Copy, Debug, PartialEq, Eq)]
 pub enum ReadFault {
     /// The source failed: its count of faults rose by one.
     Failed,

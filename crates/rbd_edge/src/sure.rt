@@ -8,7 +8,7 @@ use std::marker::Model;
 
 /// A source over a vector: it tells its bytes and never fails. Contracts see it as the bytes left.
 /// It keeps the vector and counts where it is, so that no byte moves but into a buffer.
-#[derive(Debug, Drop)]
+#[derive(Drop)]
 pub struct SureSource {
     bytes: Vec<u8>,
     at: usize,
@@ -55,7 +55,7 @@ impl Source for SureSource {
 }
 
 /// A sink that takes every byte, keeps none, tells nothing and never fails.
-#[derive(Clone, Copy, Debug)]
+#[derive(Clone, Copy)]
 pub struct SureSink;
 
 impl SureSink {

@@ -7,7 +7,7 @@ use std::collections::BTreeSet;
 use std::marker::Model;
 
 /// The instances that a site refuses (Ceph: the blocklist). Contracts see the set of them.
-#[derive(Debug, Drop)]
+#[derive(Drop)]
 pub struct Blocklist {
     instances: BTreeSet<Instance>,
 }

@@ -2,7 +2,7 @@ use crate::effect::Effect;
 use rbd_kinds::{Instance, Reply, SessionNo, Shared, SiteId};
 
 /// Why an operation was done.
-#[derive(Clone, Copy, Debug, PartialEq, Eq, Hash)]
+#[derive(Clone, Copy, PartialEq, Eq)]
 pub enum Cause {
     /// For the command of this line of the script.
     Line(u32),
@@ -16,7 +16,7 @@ pub enum Cause {
 
 /// One entry of the history. `number` is the operation's in its site's log, from 1. (An effect is
 /// large, and few entries have one: so it is shared.)
-#[derive(Debug, Drop)]
+#[derive(Drop)]
 pub enum Entry {
     /// A session began the command of this line.
     Start {

@@ -5,7 +5,7 @@ use std::error::Error;
 use std::fmt;
 
 /// Why a read of the flat-copy machine shows no bytes.
-#[derive(Clone, Copy, Debug, PartialEq, Eq, Hash)]
+#[derive(Clone, Copy, Debug, PartialEq, Eq)]
 pub enum FlatFault {
     /// There is no image with the id.
     NoImage,

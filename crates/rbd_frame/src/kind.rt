@@ -3,7 +3,7 @@ ghost use Rattle.std.specs.Prelude.{◌≡◌};
 ghost use Rattle.rbd_frame.specs.Faults.{kind_at, allows_length, byte_of};
 
 /// Which event a frame records. Its byte has the version, 1, in the high half.
-#[derive(Clone, Copy, Debug, PartialEq, Eq)]
+#[derive(Clone, Copy, PartialEq, Eq)]
 pub enum Kind {
     Write,
     Discard,

@@ -4,7 +4,6 @@ use Rattle.std.specs.Prelude.{◌⊎◌}
 use Rattle.std.specs.List.{slice_get}
 use Rattle.std.proofs.lemmas.Bool.{cond-true, eq-eqb, ne_eqb, eqb-true, eqb-false, cond-false, cases_Bool}
 use Rattle.std.proofs.lemmas.Option.{none-some, same_Some}
-use Rattle.rbd_kinds.proofs.Plain.{eqb_flip}
 use Rattle.rbd_guard.specs.Order.{is_in, without, AreApart}
 use Rattle.rbd_guard.specs.Tickets.{Tickets, queue, list, object_of, request_of, without_all, is_ahead, IsSoundGuard}
 use Rattle.rbd_guard.proofs.Apart.{tail_in, head_in, in_right, absent, others}
@@ -43,8 +42,9 @@ all_stay (x ∷ xs) = ap (λ l. x ∷ l) (all_stay xs)
 pub one_and_all : (n : ℕ) (rest xs : List ℕ) → without_all rest (without n xs) ≡ without_all (n ∷ rest) xs
 one_and_all n rest [] = refl
 one_and_all n rest (x ∷ xs) =
+    let flipped : eqb x n ≡ eqb n x = grind arith in
     by (eqb x n) (is_in x rest) refl (one_and_all n rest xs)
-    ∙ ap (λ b. cond (not (b || is_in x rest)) (x ∷ without_all (n ∷ rest) xs) (without_all (n ∷ rest) xs)) (eqb_flip x n)
+    ∙ ap (λ b. cond (not (b || is_in x rest)) (x ∷ without_all (n ∷ rest) xs) (without_all (n ∷ rest) xs)) flipped
   where
     by : (a b : Bool) → is_in x rest ≡ b → without_all rest (without n xs) ≡ without_all (n ∷ rest) xs
         → without_all rest (cond (not a) (x ∷ without n xs) (without n xs)) ≡ cond (not (a || b)) (x ∷ without_all (n ∷ rest) xs) (without_all (n ∷ rest) xs)

@@ -11,7 +11,7 @@ use crate::link::{Ends, Link, Place};
 use crate::slab::Slab;
 use crate::standing::{enter_list, enter_queue, leave_list, leave_queue};
 use crate::ticket::Ticket;
-use rbd_kinds::NoMemory;
+use rbd_values::NoMemory;
 use std::alloc::Global;
 use std::collections::HashMap;
 use std::marker::Model;
@@ -19,7 +19,7 @@ use std::marker::Model;
 /// The tickets of one session's requests. Contracts see each object's `queue` and each request's
 /// `list`, both earliest first, the `object_of` and the `request_of` each queued ticket, how many
 /// tickets were `drawn`, and for how many more there is room.
-#[derive(Debug, Drop)]
+#[derive(Drop)]
 pub struct Guard {
     /// The places of the tickets that are in.
     slab: Slab,

@@ -1,6 +1,6 @@
 /// Where a ticket stands in its object's queue, or in its request's list: the object or the
 /// request, and the places of the tickets before and after it.
-#[derive(Clone, Copy, Debug)]
+#[derive(Clone, Copy)]
 pub struct Link {
     pub key: u64,
     pub before: Option<usize>,
@@ -8,7 +8,7 @@ pub struct Link {
 }
 
 /// The places of the first and the last ticket of a queue or a list, and how many stand in it.
-#[derive(Clone, Copy, Debug)]
+#[derive(Clone, Copy)]
 pub struct Ends {
     pub first: Option<usize>,
     pub last: Option<usize>,
@@ -17,7 +17,7 @@ pub struct Ends {
 
 /// A place of the slab: a ticket's number, and where it stands. Where the place is free, nothing
 /// but `free` counts, which is the next free place.
-#[derive(Clone, Copy, Debug)]
+#[derive(Clone, Copy)]
 pub struct Place {
     pub used: bool,
     pub number: u64,

@@ -8,14 +8,14 @@ use crate::places::{
     link_list_after, link_list_before, link_queue_after, link_queue_before, next_free, place_at,
     put, set_free,
 };
-use rbd_kinds::NoMemory;
+use rbd_values::NoMemory;
 use std::alloc::Global;
 use std::marker::Model;
 
 /// Places by index. Each is used, or is one of the free ones, which are linked by index: so a place
 /// whose ticket left is taken again before the slab grows. Contracts see the places, and for how
 /// many more tickets there is room.
-#[derive(Debug, Drop)]
+#[derive(Drop)]
 pub struct Slab {
     places: Vec<Place>,
     /// The first free place.

@@ -1,7 +1,7 @@
 use std::marker::Model;
 
 /// The right of a request to a turn at an object. Contracts see its number.
-#[derive(Clone, Copy, Debug, PartialEq, Eq)]
+#[derive(Clone, Copy, PartialEq, Eq)]
 pub struct Ticket {
     pub(crate) number: u64,
 }

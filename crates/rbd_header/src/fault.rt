@@ -6,7 +6,7 @@ use std::error::Error;
 use std::fmt;
 
 /// Why a header takes no new snapshot.
-#[derive(Clone, Copy, Debug, PartialEq, Eq, Hash)]
+#[derive(Clone, Copy, Debug, PartialEq, Eq)]
 pub enum SnapAddFault {
     /// A snapshot of that name is listed.
     Exists,
@@ -31,7 +31,7 @@ impl fmt::Display for SnapAddFault {
 impl Error for SnapAddFault {}
 
 /// The lock has another owner, this one.
-#[derive(Clone, Copy, Debug, PartialEq, Eq, Hash)]
+#[derive(Clone, Copy, Debug, PartialEq, Eq)]
 pub struct Held(pub Instance);
 
 impl fmt::Display for Held {

@@ -17,7 +17,7 @@ use std::marker::Model;
 const MOST_SNAPS: usize = 256;
 
 /// An image's header (Ceph: the `rbd_header` object), seen by contracts as what it tells.
-#[derive(Debug, Drop)]
+#[derive(Drop)]
 pub struct Header {
     /// All but the list of snapshots, which is empty here.
     rest: HeaderView,

@@ -6,7 +6,7 @@ use std::collections::VecDeque;
 use std::marker::Model;
 
 /// A frame, and the tag of its position.
-#[derive(Debug, Drop)]
+#[derive(Drop)]
 pub struct Entry {
     pub tag: Tag,
     pub frame: Bytes,

@@ -15,7 +15,7 @@ use std::marker::Model;
 
 /// A journal: spans of positions, the frames that are held, and commit positions (Ceph: RBD
 /// journaling). Contracts see it as `Records`.
-#[derive(Debug, Drop)]
+#[derive(Drop)]
 pub struct Journal {
     alloc: Global,
     spans: Vec<Span>,

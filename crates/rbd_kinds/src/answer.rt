@@ -9,7 +9,7 @@ use rbd_values::{Bytes, Names, NoMemory, Shared, TryClone};
 
 /// The answer to an operation. What a header or a journal tells is large, and shared: so an answer
 /// is no larger than a few words, whatever it is.
-#[derive(Debug, Drop)]
+#[derive(Drop)]
 pub enum Answer {
     Done,
     /// The image of a name, or the id that was drawn.

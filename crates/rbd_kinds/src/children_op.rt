@@ -6,7 +6,7 @@ use crate::id::{ImageId, SnapId};
 use crate::operation_kind::OpKind;
 
 /// An operation on a site's list of clones by their parents (Ceph: `rbd_children`).
-#[derive(Clone, Copy, Debug, PartialEq, Eq)]
+#[derive(Clone, Copy)]
 pub enum ChildrenOp {
     Add {
         parent: ImageId,

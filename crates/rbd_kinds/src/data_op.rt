@@ -11,7 +11,7 @@ use rbd_values::{Bytes, NoMemory, TryClone};
 
 /// An operation on one data object of an image (Ceph: `rbd_data.<id>.<number>`). A change carries
 /// its snapshot context. With `must`, nothing changes where the head is absent.
-#[derive(Debug, Drop)]
+#[derive(Drop)]
 pub enum DataOp {
     /// The bytes of the parts, one part after another, at the head or at a snapshot. Without parts
     /// it asks whether the object exists there.

@@ -7,7 +7,7 @@ use crate::operation_kind::OpKind;
 use rbd_values::{Name, NoMemory, TryClone};
 
 /// An operation on a site's directory of names (Ceph: `rbd_directory`).
-#[derive(Debug, Drop)]
+#[derive(Drop)]
 pub enum DirectoryOp {
     /// Which image has the name.
     Find { name: Name },

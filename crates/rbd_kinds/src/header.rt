@@ -14,7 +14,7 @@ pub type Snaps = Sequence<SnapView>;
 
 /// The snapshots that a change of an object has to keep its contents for (Ceph: the self-managed
 /// snapshot context of RADOS): a number, and the snapshots that exist, newest first.
-#[derive(Debug, Drop)]
+#[derive(Drop)]
 pub struct SnapContext {
     pub seq: SnapId,
     pub snaps: SnapIds,
@@ -22,7 +22,7 @@ pub struct SnapContext {
 
 /// A clone's parent: an image, its snapshot, and how many bytes from the front the clone takes from
 /// it where it has no object of its own (Ceph: RBD layering).
-#[derive(Clone, Copy, Debug, PartialEq, Eq, Hash)]
+#[derive(Clone, Copy, Debug, PartialEq, Eq)]
 pub struct ParentLink {
     pub image: ImageId,
     pub snap: SnapId,
@@ -31,7 +31,7 @@ pub struct ParentLink {
 }
 
 /// Whether a snapshot may be cloned, and whether it may be removed.
-#[derive(Clone, Copy, Debug, PartialEq, Eq, Hash)]
+#[derive(Clone, Copy, Debug, PartialEq, Eq)]
 pub enum SnapStatus {
     Unprotected,
     Unprotecting,
@@ -39,7 +39,7 @@ pub enum SnapStatus {
 }
 
 /// One snapshot as the header lists it. Size and parent are the image's when it was taken.
-#[derive(Debug, Drop)]
+#[derive(Drop)]
 pub struct SnapView {
     pub id: SnapId,
     pub name: Name,
@@ -50,7 +50,7 @@ pub struct SnapView {
 }
 
 /// An image's part in mirroring.
-#[derive(Clone, Copy, Debug, PartialEq, Eq, Hash)]
+#[derive(Clone, Copy, Debug, PartialEq, Eq)]
 pub enum Role {
     /// It isn't mirrored.
     Plain,
@@ -61,14 +61,14 @@ pub enum Role {
 }
 
 /// The name by which two mirrored images know each other: where the first of them was made.
-#[derive(Clone, Copy, Debug, PartialEq, Eq, Hash)]
+#[derive(Clone, Copy, PartialEq, Eq)]
 pub struct GlobalName {
     pub site: SiteId,
     pub image: ImageId,
 }
 
 /// All that an image's header tells.
-#[derive(Debug, Drop)]
+#[derive(Drop)]
 pub struct HeaderView {
     pub layout: Layout,
     /// The size in bytes.

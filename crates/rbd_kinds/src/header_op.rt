@@ -11,7 +11,7 @@ use rbd_values::{Name, NoMemory, Shared, TryClone};
 /// An operation on an image's header, with its exclusive lock and its watchers (Ceph:
 /// `rbd_header.<id>`). The instance that does it is who takes or drops the lock, watches, and
 /// notifies.
-#[derive(Debug, Drop)]
+#[derive(Drop)]
 pub enum HeaderOp {
     Create { view: Shared<HeaderView> },
     Get,

@@ -5,7 +5,7 @@ use rbd_values::{NoMemory, Sequence, TryClone};
 use std::marker::Model;
 
 /// One of the two sites (clusters). Each has its own directory, blocklist and operation log.
-#[derive(Clone, Copy, Debug, PartialEq, Eq, PartialOrd, Ord, Hash)]
+#[derive(Clone, Copy, Debug, PartialEq, Eq, PartialOrd, Ord)]
 pub enum SiteId {
     A,
     B,
@@ -24,7 +24,7 @@ impl Model for SessionNo {
 }
 
 /// A place of a session in which one request runs: 1 to 64, and 0 for the release of a lock.
-#[derive(Clone, Copy, Debug, PartialEq, Eq, PartialOrd, Ord, Hash)]
+#[derive(Clone, Copy, Debug, PartialEq, Eq, PartialOrd, Ord)]
 pub struct Slot(pub u8);
 
 impl Model for Slot {
@@ -47,7 +47,7 @@ pub struct Instance {
 pub type Instances = Sequence<Instance>;
 
 /// An image's id, drawn by its site's directory from 1 upwards and never drawn again.
-#[derive(Clone, Copy, Debug, PartialEq, Eq, PartialOrd, Ord, Hash)]
+#[derive(Clone, Copy, Debug, PartialEq, Eq, PartialOrd, Ord)]
 pub struct ImageId(pub u32);
 
 impl Model for ImageId {
@@ -62,7 +62,7 @@ impl Model for ImageId {
 pub type Ids = Sequence<ImageId>;
 
 /// A snapshot's id, drawn by its image's header from 1 upwards and never drawn again.
-#[derive(Clone, Copy, Debug, PartialEq, Eq, PartialOrd, Ord, Hash)]
+#[derive(Clone, Copy, Debug, PartialEq, Eq, PartialOrd, Ord)]
 pub struct SnapId(pub u32);
 
 impl Model for SnapId {

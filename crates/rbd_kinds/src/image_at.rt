@@ -6,7 +6,7 @@ use crate::id::{ImageId, SiteId};
 
 /// An image at a site: an id means another image at the other one. They are ordered by site, then
 /// by id.
-#[derive(Clone, Copy, Debug, PartialEq, Eq, PartialOrd, Ord)]
+#[derive(Clone, Copy, PartialEq, Eq, PartialOrd, Ord)]
 pub struct ImageAt {
     pub site: SiteId,
     pub image: ImageId,

@@ -4,7 +4,7 @@ use rbd_values::{Bytes, Name, NoMemory, Sequence, TryClone};
 
 /// One period of ownership in a journal: the site and the image of the journal that drew it, and a
 /// number, one above the last that this journal drew. So no two journals draw one tag.
-#[derive(Clone, Copy, Debug, PartialEq, Eq, Hash)]
+#[derive(Clone, Copy, PartialEq, Eq)]
 pub struct Tag {
     pub site: SiteId,
     pub image: ImageId,
@@ -12,14 +12,14 @@ pub struct Tag {
 }
 
 /// Where an event stands in a journal. Sequence numbers run from 1 without gaps, across the tags.
-#[derive(Clone, Copy, Debug, PartialEq, Eq, Hash)]
+#[derive(Clone, Copy, PartialEq, Eq)]
 pub struct Position {
     pub tag: Tag,
     pub seq: u64,
 }
 
 /// The sequence numbers `first` to `last` of a journal, which bear one tag.
-#[derive(Clone, Copy, Debug, PartialEq, Eq, Hash)]
+#[derive(Clone, Copy, PartialEq, Eq)]
 pub struct Span {
     pub tag: Tag,
     pub first: u64,
@@ -30,7 +30,7 @@ pub struct Span {
 pub type Spans = Sequence<Span>;
 
 /// Whose commit position a journal keeps.
-#[derive(Clone, Copy, Debug, PartialEq, Eq, Hash)]
+#[derive(Clone, Copy, PartialEq, Eq)]
 pub enum JournalClient {
     /// The image's owner.
     Local,
@@ -39,7 +39,7 @@ pub enum JournalClient {
 }
 
 /// What a journal tells of itself. Positions are sequence numbers.
-#[derive(Debug, Drop)]
+#[derive(Drop)]
 pub struct JournalView {
     pub spans: Spans,
     /// The least number whose frame is held. Where none is, one more than the end, or `u64::MAX`
@@ -54,7 +54,7 @@ pub struct JournalView {
 }
 
 /// A change of an image as its journal records it. Places and lengths are bytes of the image.
-#[derive(Debug, Drop)]
+#[derive(Drop)]
 pub enum Event {
     Write { at: u64, bytes: Bytes },
     Discard { at: u64, len: u64 },

@@ -7,7 +7,7 @@ use crate::operation_kind::OpKind;
 use rbd_values::{Bytes, NoMemory, TryClone};
 
 /// An operation on an image's journal (Ceph: `journal.<id>`). Positions are sequence numbers.
-#[derive(Debug, Drop)]
+#[derive(Drop)]
 pub enum JournalOp {
     /// Makes a journal that goes on behind these spans.
     Create { spans: Spans },

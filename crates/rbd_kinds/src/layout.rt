@@ -7,7 +7,7 @@ use rbd_values::{NoMemory, Sequence, TryClone};
 /// How an image's bytes are striped over objects (Ceph: RBD striping). `object` and `unit` are
 /// bytes, `count` is objects: a stripe is one unit in each of `count` objects, and `count` objects
 /// that are filled together are an object set.
-#[derive(Clone, Copy, Debug, PartialEq, Eq, Hash)]
+#[derive(Clone, Copy, Debug, PartialEq, Eq)]
 pub struct Layout {
     /// The object size in bytes.
     pub object: u64,
@@ -18,7 +18,7 @@ pub struct Layout {
 }
 
 /// `len` bytes of an image from the byte `at` on.
-#[derive(Clone, Copy, Debug, PartialEq, Eq, Hash)]
+#[derive(Clone, Copy, Debug, PartialEq, Eq)]
 pub struct Extent {
     pub at: u64,
     pub len: u64,
@@ -36,7 +36,7 @@ impl Extent {
 
 /// `len` bytes that lie together in an object from its byte `offset` on, and in the image from its
 /// byte `at` on.
-#[derive(Clone, Copy, Debug, PartialEq, Eq, Hash)]
+#[derive(Clone, Copy, PartialEq, Eq)]
 pub struct Part {
     pub offset: u64,
     pub at: u64,

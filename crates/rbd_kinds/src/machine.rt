@@ -6,7 +6,7 @@ use crate::reply::Reply;
 use crate::sharing::Sharing;
 
 /// What a request wants next.
-#[derive(Clone, Copy, Debug, PartialEq, Eq)]
+#[derive(Clone, Copy, PartialEq, Eq)]
 pub enum Want {
     /// An operation at a site.
     Op {
@@ -46,7 +46,7 @@ pub enum Want {
 }
 
 /// What a request is fed.
-#[derive(Debug, Drop)]
+#[derive(Drop)]
 pub enum Fed {
     /// The answer to its operation.
     Answer(Answer),
@@ -55,7 +55,7 @@ pub enum Fed {
 }
 
 /// What comes of a feeding.
-#[derive(Debug, Drop)]
+#[derive(Drop)]
 pub enum Turn {
     /// It wants more.
     More,

@@ -9,7 +9,7 @@ use rbd_values::{Bytes, NoMemory, TryClone};
 
 /// An operation on the object map of an image's head, or of a snapshot (Ceph:
 /// `rbd_object_map.<id>`, and with `.<snap>` behind it).
-#[derive(Debug, Drop)]
+#[derive(Drop)]
 pub enum MapOp {
     /// Makes the head's map, or lengthens it to so many objects.
     Resize {

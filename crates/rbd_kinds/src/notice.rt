@@ -3,7 +3,7 @@ use crate::id::{ImageId, Instance, SiteId};
 use rbd_values::{Bytes, NoMemory, TryClone};
 
 /// What a notification says.
-#[derive(Debug, Drop)]
+#[derive(Drop)]
 pub enum NoticeKind {
     /// The sender wants the exclusive lock.
     RequestLock,
@@ -14,7 +14,7 @@ pub enum NoticeKind {
 }
 
 /// One notification to one watcher of an image's header. It may come late, never, or several times.
-#[derive(Debug, Drop)]
+#[derive(Drop)]
 pub struct Notice {
     /// Its number, from 1: one numbering serves both sites.
     pub number: u64,

@@ -17,7 +17,7 @@ use std::alloc::Global;
 /// One operation on one object of a site: which object, and what is done to it. Each is one step,
 /// whole or not at all (Ceph: the operations of librados and of the object class `rbd`). There are
 /// 47 kinds.
-#[derive(Debug, Drop)]
+#[derive(Drop)]
 pub enum Op {
     /// On `rbd_directory`.
     Directory(DirectoryOp),

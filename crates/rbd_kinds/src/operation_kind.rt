@@ -4,7 +4,7 @@ ghost use Rattle.rbd_kinds.specs.declared.operation_kind.OpKind.{OpKind};
 ghost use Rattle.rbd_kinds.specs.Operation.{op_word};
 
 /// What an operation does to its one object. The words stand in scripts and traces.
-#[derive(Clone, Copy, Debug, PartialEq, Eq, Hash)]
+#[derive(Clone, Copy, Debug, PartialEq, Eq)]
 pub enum OpKind {
     DirFind,
     DirAdd,

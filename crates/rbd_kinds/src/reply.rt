@@ -5,7 +5,7 @@ use rbd_commands::Refusal;
 use rbd_values::{Bytes, Name, Names, Shared};
 
 /// The reply to a command.
-#[derive(Debug, Drop)]
+#[derive(Drop)]
 pub enum Reply {
     /// It is done.
     Done,
@@ -41,7 +41,7 @@ pub enum Reply {
 }
 
 /// How a secondary follows its primary.
-#[derive(Debug, Drop)]
+#[derive(Drop)]
 pub enum MirrorState {
     /// It isn't a secondary.
     Dash,

@@ -4,7 +4,7 @@ ghost use Rattle.rbd_kinds.specs.Sharing.{are_apart, go_together, is_alone};
 
 /// Beside which other requests of its session and its image a request may be past its look under
 /// the lock (own; Ceph: one client's requests share its lock).
-#[derive(Clone, Copy, Debug, PartialEq, Eq)]
+#[derive(Clone, Copy, PartialEq, Eq)]
 pub enum Sharing {
     /// Beside none: it changes more than bytes.
     Alone,

@@ -8,7 +8,7 @@ use std::error::Error;
 use std::fmt;
 
 /// A layout passes a limit.
-#[derive(Clone, Copy, Debug, PartialEq, Eq, Hash)]
+#[derive(Clone, Copy, Debug, PartialEq, Eq)]
 pub struct BadShape;
 
 impl fmt::Display for BadShape {

@@ -2,14 +2,14 @@
 use rbd_kinds::Parts;
 
 /// Where a byte lies: in an object, by its number, at an offset in bytes.
-#[derive(Clone, Copy, Debug, PartialEq, Eq, Hash)]
+#[derive(Clone, Copy, PartialEq, Eq)]
 pub struct Place {
     pub object: u64,
     pub offset: u64,
 }
 
 /// The parts of one object that an extent touches, ascending in the object and in the image.
-#[derive(Debug, Drop)]
+#[derive(Drop)]
 pub struct Piece {
     /// The object's number.
     pub object: u64,

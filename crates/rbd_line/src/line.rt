@@ -16,7 +16,7 @@ use std::marker::Model;
 /// The line of one image in one session. Contracts see its `members` in line order, each with its
 /// slot, beside which others it goes, its stage and its objects, and for how many more tickets
 /// there is room.
-#[derive(Debug, Drop)]
+#[derive(Drop)]
 pub struct Line {
     /// The members in the order in which they joined.
     standings: Vec<Standing>,

@@ -10,7 +10,7 @@ use rbd_course::Stage;
 use rbd_kinds::{Sharing, Slot};
 
 /// A member of a line: its slot, beside which others it goes, and how far it has come.
-#[derive(Clone, Copy, Debug)]
+#[derive(Clone, Copy)]
 pub struct Standing {
     pub slot: Slot,
     pub sharing: Sharing,

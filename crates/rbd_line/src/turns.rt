@@ -10,7 +10,7 @@ use std::marker::Model;
 
 /// The turns of slots at objects. Contracts see by `holders` which slots hold an object, and by
 /// `held_by` which objects a slot holds, each in the order in which they were taken.
-#[derive(Debug, Drop)]
+#[derive(Drop)]
 pub struct Turns {
     guard: Guard,
 }

@@ -9,7 +9,7 @@ const LINES: usize = 4_096;
 
 /// What is known of lines of a script, by their numbers. It lies in pages of 4,096 lines, each made
 /// when the first of its lines is known.
-#[derive(Debug, Drop)]
+#[derive(Drop)]
 pub struct LineMap<T> {
     pages: Vec<Vec<Option<T>>>,
 }

@@ -5,7 +5,7 @@ ghost use Rattle.rbd_locks.specs.States.{answered, blank, is_counted as counts, 
 use rbd_kinds::{Answer, HeaderOp};
 
 /// What a session counts of the lock of an image at a site.
-#[derive(Clone, Copy, Debug, PartialEq, Eq)]
+#[derive(Clone, Copy, PartialEq, Eq)]
 pub struct LockState {
     /// The lock is its own.
     pub owned: bool,

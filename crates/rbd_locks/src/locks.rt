@@ -17,7 +17,7 @@ use std::marker::Model;
 
 /// What a session counts of the locks of its images, at both sites (Ceph: librbd's
 /// `ExclusiveLock`).
-#[derive(Debug, Drop)]
+#[derive(Drop)]
 pub struct Locks {
     /// By key. An image of which nothing has to be noted isn't there.
     noted: HashMap<u64, Noted>,

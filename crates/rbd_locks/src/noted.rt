@@ -7,7 +7,7 @@ use rbd_kinds::NoMemory;
 use std::collections::HashMap;
 
 /// What is noted of an image: all that is counted of its lock, but who has asked for it.
-#[derive(Clone, Copy, Debug)]
+#[derive(Clone, Copy)]
 pub struct Noted {
     pub owned: bool,
     pub watched: bool,

@@ -41,7 +41,7 @@ pub trait Refuses {
 /// ```
 ///
 /// Any operation may be answered `fenced`, which ends the request with Fenced.
-#[derive(Debug, Drop)]
+#[derive(Drop)]
 pub struct Approach {
     site: SiteId,
     name: Name,
@@ -50,7 +50,7 @@ pub struct Approach {
 }
 
 /// A stage of the way, with the image once it is found.
-#[derive(Debug, Drop)]
+#[derive(Drop)]
 pub enum Stage {
     Finding,
     Joining(ImageId),

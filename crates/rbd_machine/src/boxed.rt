@@ -9,7 +9,7 @@ use std::marker::Model;
 
 /// A machine in memory of its own, seen by contracts as the machine. It is as large as a pointer,
 /// however large the machine is: so it is moved at no cost.
-#[derive(Debug, Drop)]
+#[derive(Drop)]
 pub struct Boxed<M> {
     held: Box<M>,
 }

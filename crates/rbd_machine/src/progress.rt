@@ -3,7 +3,7 @@ use rbd_kinds::Refusal;
 
 /// What comes of a step of a part, as of the way to a look under the lock or of one piece of a
 /// write.
-#[derive(Debug, Drop)]
+#[derive(Drop)]
 pub enum Progress<T> {
     /// The part wants more.
     More,

@@ -2,7 +2,7 @@
 
 /// Why a request asks for an operation: what is told of the operation later, its cause among it,
 /// depends on this.
-#[derive(Clone, Copy, Debug, PartialEq, Eq)]
+#[derive(Clone, Copy, PartialEq, Eq)]
 pub enum Reason {
     /// It is a step of the request's own.
     Own,

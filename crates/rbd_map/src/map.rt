@@ -8,7 +8,7 @@ use std::alloc::Global;
 use std::marker::Model;
 
 /// An object map (Ceph: RBD's object map). Contracts see the list of the objects' states.
-#[derive(Debug, Drop)]
+#[derive(Drop)]
 pub struct ObjectMap {
     /// Four states a byte, and zeros past the last.
     bytes: Vec<u8>,

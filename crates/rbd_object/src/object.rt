@@ -15,7 +15,7 @@ use std::marker::Model;
 
 /// An object with self-managed snapshots (Ceph: RADOS). Contracts see it as `Mapped`: a head that
 /// is absent or bytes, the number `seq`, and the bytes that are kept for snapshots up to it.
-#[derive(Debug, Drop)]
+#[derive(Drop)]
 pub struct Object {
     paged: PagedObject,
 }

@@ -23,7 +23,7 @@ use std::marker::Model;
 
 /// An object as [`crate::Object`] is one, whose contracts see its pages too: `shown` is the
 /// object's value, and `pages` how many pages have a count above 0.
-#[derive(Debug, Drop)]
+#[derive(Drop)]
 pub struct PagedObject {
     sheaves: Sheaves,
     head: Option<Content>,

@@ -8,7 +8,7 @@ use rbd_pages::Content;
 use std::marker::Model;
 
 /// What the head was when it was kept, and the snapshots that it is kept for.
-#[derive(Debug, Drop)]
+#[derive(Drop)]
 pub struct Version {
     snaps: Vec<SnapId>,
     content: Content,

@@ -40,7 +40,7 @@ use std::alloc::Global;
 ///
 /// Any operation that is answered `none` ends the request with NoImage, and any that is answered
 /// `fenced` with Fenced. Where an owner watches and doesn't let go, there is no end.
-#[derive(Clone, Copy, Debug)]
+#[derive(Clone, Copy)]
 pub struct Acquire {
     site: SiteId,
     image: ImageId,
@@ -48,7 +48,7 @@ pub struct Acquire {
 }
 
 /// A step of the way, with the owner that stands in it.
-#[derive(Clone, Copy, Debug)]
+#[derive(Clone, Copy)]
 pub enum Stage {
     Watching,
     Taking,

@@ -26,7 +26,7 @@ use std::alloc::Global;
 /// It isn't refused: whatever its `lock-drop` is answered, the session counts the lock as let go,
 /// and so it ends with Done. No request waits for it and none goes on behind it. So it is a machine
 /// by itself, which a session holds beside its requests and treats as one of them, and no part.
-#[derive(Clone, Copy, Debug)]
+#[derive(Clone, Copy)]
 pub struct Release {
     site: SiteId,
     image: ImageId,
@@ -34,7 +34,7 @@ pub struct Release {
 }
 
 /// A step of it.
-#[derive(Clone, Copy, Debug)]
+#[derive(Clone, Copy)]
 enum Stage {
     Dropping,
     Telling,

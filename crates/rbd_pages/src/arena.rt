@@ -11,7 +11,7 @@ use std::marker::Model;
 
 /// Counted pages, named by their index. Contracts see them as the list of pages. A page with count
 /// 0 is free: its place is taken again before the arena grows.
-#[derive(Debug, Drop)]
+#[derive(Drop)]
 pub struct Arena {
     pages: Vec<Page>,
     /// The first free page, from which the others are linked by index. No page's index ends the

@@ -17,7 +17,7 @@ use std::marker::Model;
 
 /// Bytes that an object holds, as a list of sheaves of its pages. They are changed in place where
 /// no other content names the sheaf, and no other sheaf the page.
-#[derive(Debug, Drop)]
+#[derive(Drop)]
 pub struct Content {
     list: Vec<u32>,
     len: usize,

@@ -16,7 +16,7 @@ const ZEROS: [u8; PAGE] = [0; PAGE];
 
 /// How many places name it, its bytes, and the free page after it. A page of zeros has no bytes:
 /// they are taken at the first one that isn't zero.
-#[derive(Debug, Drop)]
+#[derive(Drop)]
 pub struct Page {
     count: u32,
     next: u32,

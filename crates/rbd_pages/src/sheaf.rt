@@ -14,7 +14,7 @@ pub const SHEAF: usize = 128;
 
 /// How many places name it, its pages, and the free sheaf after it. Contracts see it as a `Sheet`,
 /// with its pages in place of bytes.
-#[derive(Debug, Drop)]
+#[derive(Drop)]
 pub struct Sheaf {
     count: u32,
     next: u32,

@@ -16,7 +16,7 @@ use std::marker::Model;
 
 /// Counted sheaves, named by their index, and the counted pages that they name. A sheaf with count
 /// 0 is free and has no page: its place is taken again before there are more.
-#[derive(Debug, Drop)]
+#[derive(Drop)]
 pub struct Sheaves {
     arena: Arena,
     sheaves: Vec<Sheaf>,

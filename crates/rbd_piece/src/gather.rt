@@ -28,7 +28,7 @@ use std::mem::replace;
 ///          ▼
 ///       the end
 /// ```
-#[derive(Debug, Drop)]
+#[derive(Drop)]
 pub struct Gather {
     site: SiteId,
     image: ImageId,

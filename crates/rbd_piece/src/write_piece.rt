@@ -29,7 +29,7 @@ use std::alloc::Global;
 ///              ▼
 ///           the end
 /// ```
-#[derive(Debug, Drop)]
+#[derive(Drop)]
 pub struct WritePiece {
     site: SiteId,
     image: ImageId,
@@ -40,7 +40,7 @@ pub struct WritePiece {
 }
 
 /// A stage of a piece: its object's state is raised, and then its bytes are written.
-#[derive(Clone, Copy, Debug)]
+#[derive(Clone, Copy)]
 pub enum Stage {
     Raising,
     Writing,

@@ -11,7 +11,7 @@ use std::marker::Model;
 
 /// Which images were cloned of which snapshot (Ceph: the `rbd_children` object), seen by contracts
 /// as a finite set of entries of a parent, a snapshot and a child.
-#[derive(Debug, Drop)]
+#[derive(Drop)]
 pub struct Children {
     alloc: Global,
     entries: BTreeSet<Entry>,

@@ -18,7 +18,7 @@ const MOST_NAMES: usize = 4096;
 
 /// A site's names (Ceph: the `rbd_directory` object), seen by contracts as a finite map from names
 /// to image ids and the id that was drawn last.
-#[derive(Debug, Drop)]
+#[derive(Drop)]
 pub struct Directory {
     alloc: Global,
     names: BTreeMap<Name, ImageId>,

@@ -2,7 +2,7 @@ use rbd_kinds::{ImageId, SnapId};
 use std::marker::Model;
 
 /// A child that was cloned of a parent's snapshot.
-#[derive(Clone, Copy, Debug, PartialEq, Eq, PartialOrd, Ord)]
+#[derive(Clone, Copy, PartialEq, Eq, PartialOrd, Ord)]
 pub struct Entry {
     pub parent: ImageId,
     pub snap: SnapId,

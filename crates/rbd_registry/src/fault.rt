@@ -5,7 +5,7 @@ use std::error::Error;
 use std::fmt;
 
 /// Why a directory takes no new name.
-#[derive(Clone, Copy, Debug, PartialEq, Eq, Hash)]
+#[derive(Clone, Copy, Debug, PartialEq, Eq)]
 pub enum AddFault {
     /// The name is held.
     Exists,
@@ -30,7 +30,7 @@ impl fmt::Display for AddFault {
 impl Error for AddFault {}
 
 /// Why a name isn't changed.
-#[derive(Clone, Copy, Debug, PartialEq, Eq, Hash)]
+#[derive(Clone, Copy, Debug, PartialEq, Eq)]
 pub enum RenameFault {
     /// The old name isn't held.
     NoName,

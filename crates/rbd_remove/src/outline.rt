@@ -12,7 +12,7 @@ use std::collections::VecDeque;
 
 /// What a header tells of what is removed: the link to a parent, the snapshots, and whether there
 /// is a journal.
-#[derive(Debug, Drop)]
+#[derive(Drop)]
 pub struct Outline {
     link: Option<ParentLink>,
     snaps: Snaps,

@@ -12,7 +12,7 @@ use rbd_kinds::{
 use std::alloc::Global;
 
 /// One of the things that an image is, and that a removal takes away by one operation.
-#[derive(Clone, Copy, Debug, PartialEq, Eq)]
+#[derive(Clone, Copy, PartialEq, Eq)]
 pub enum Remnant {
     /// Its name in the directory.
     Name,

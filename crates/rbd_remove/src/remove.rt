@@ -34,7 +34,7 @@ use std::collections::VecDeque;
 /// ```
 ///
 /// Any operation may be answered `fenced`, which ends the request with Fenced.
-#[derive(Debug, Drop)]
+#[derive(Drop)]
 pub struct Remove {
     site: SiteId,
     image: ImageId,
@@ -44,7 +44,7 @@ pub struct Remove {
 }
 
 /// A stage of a removal.
-#[derive(Debug, Drop)]
+#[derive(Drop)]
 pub enum Stage {
     Looking(Outline),
     Removing(Remnant),

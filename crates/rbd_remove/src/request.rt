@@ -49,7 +49,7 @@ use std::alloc::Global;
 /// ```
 ///
 /// Each operation may be answered `fenced`, which ends the request with Fenced.
-#[derive(Debug, Drop)]
+#[derive(Drop)]
 pub struct RemoveRequest {
     site: SiteId,
     session: SessionNo,
@@ -59,7 +59,7 @@ pub struct RemoveRequest {
 }
 
 /// A stage of the request, with the image once it is found.
-#[derive(Debug, Drop)]
+#[derive(Drop)]
 enum Stage {
     Finding(Name),
     Joining(ImageId),

@@ -10,7 +10,7 @@ use std::marker::Model;
 
 /// What a read keeps of the header that it looked at, and the extent that fits there. Contracts see
 /// it as `Seen`.
-#[derive(Debug, Drop)]
+#[derive(Drop)]
 pub struct Looked {
     layout: Layout,
     extent: Extent,

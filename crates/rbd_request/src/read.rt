@@ -43,7 +43,7 @@ use std::alloc::Global;
 ///        generation ▼
 ///                the bytes
 /// ```
-#[derive(Debug, Drop)]
+#[derive(Drop)]
 pub struct ReadRequest {
     site: SiteId,
     name: Name,
@@ -57,7 +57,7 @@ pub struct ReadRequest {
 }
 
 /// A stage of a read, with what it found out.
-#[derive(Debug, Drop)]
+#[derive(Drop)]
 pub enum Stage {
     Finding,
     Looking(ImageId),

@@ -35,14 +35,14 @@ use std::collections::VecDeque;
 pub type WriteRequest = ExtentRequest<WriteChange, WriteTurn>;
 
 /// The bytes that are written, and where.
-#[derive(Debug, Drop)]
+#[derive(Drop)]
 pub struct WriteChange {
     at: u64,
     bytes: Bytes,
 }
 
 /// One piece of a write, which is done at its turn.
-#[derive(Debug, Drop)]
+#[derive(Drop)]
 pub struct WriteTurn {
     pub(crate) piece: WritePiece,
 }

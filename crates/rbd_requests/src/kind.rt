@@ -5,7 +5,7 @@ ghost use Rattle.rbd_requests.specs.Served.{is_built as is_one_built, IsOfKind};
 use rbd_kinds::Command;
 
 /// The request that serves a command.
-#[derive(Clone, Copy, Debug, PartialEq, Eq)]
+#[derive(Clone, Copy, PartialEq, Eq)]
 pub enum Kind {
     /// `write`, `fill`
     Write,

@@ -19,7 +19,7 @@ use std::alloc::Global;
 /// let mut request: SessionRequest<Follower> = SessionRequest::Write(request);
 /// request.wants()       // what the write wants: an operation at site A, of the kind dir-find
 /// ```
-#[derive(Debug, Drop)]
+#[derive(Drop)]
 pub enum SessionRequest<E> {
     /// `read`
     Read(Boxed<ReadRequest>),

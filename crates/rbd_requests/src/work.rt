@@ -21,7 +21,7 @@ use rbd_resize::{ResizeRequest, RollbackRequest};
 use std::alloc::Global;
 
 /// What a request of a session is made of.
-#[derive(Debug, Drop)]
+#[derive(Drop)]
 pub enum Work<E> {
     /// A command that is served (`is_built`).
     Plain(Command),

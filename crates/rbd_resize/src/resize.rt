@@ -33,13 +33,13 @@ use std::alloc::Global;
 pub type ResizeRequest = ChangeRequest<SizeChange, NewSize>;
 
 /// The size in bytes that is asked for.
-#[derive(Debug, Drop)]
+#[derive(Drop)]
 pub struct SizeChange {
     to: u64,
 }
 
 /// What sets it, behind the event.
-#[derive(Debug, Drop)]
+#[derive(Drop)]
 pub struct NewSize {
     size: Size,
 }

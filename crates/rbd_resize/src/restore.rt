@@ -41,7 +41,7 @@ use std::marker::Model;
 /// ```
 ///
 /// What else is answered `none` ends the request with NoImage, and `fenced` with Fenced.
-#[derive(Debug, Drop)]
+#[derive(Drop)]
 pub struct Restore {
     site: SiteId,
     image: ImageId,
@@ -59,7 +59,7 @@ pub struct Restore {
 }
 
 /// A stage of it.
-#[derive(Debug, Drop)]
+#[derive(Drop)]
 pub enum Stage {
     Reading,
     Replacing(FullPiece),

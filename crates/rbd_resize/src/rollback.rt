@@ -34,13 +34,13 @@ use std::mem::replace;
 /// ```
 ///
 /// Any operation may be answered `fenced`, which ends the request with Fenced.
-#[derive(Debug, Drop)]
+#[derive(Drop)]
 pub struct Rollback {
     stage: Stage,
 }
 
 /// A stage of it, with the objects that are left to restore.
-#[derive(Debug, Drop)]
+#[derive(Drop)]
 pub enum Stage {
     Sizing(Size, Option<Restore>),
     Restoring(Restore),

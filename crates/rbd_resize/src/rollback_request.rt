@@ -30,7 +30,7 @@ use std::alloc::Global;
 pub type RollbackRequest = ChangeRequest<RollbackChange, Rollback>;
 
 /// The snapshot that is asked for.
-#[derive(Debug, Drop)]
+#[derive(Drop)]
 pub struct RollbackChange {
     snap: Name,
 }

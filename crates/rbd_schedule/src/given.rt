@@ -7,7 +7,7 @@ use rbd_script::{Line, Said};
 use rbd_world::Event;
 
 /// A command that a script gives to a session, as the event of its submission.
-#[derive(Debug, Drop)]
+#[derive(Drop)]
 pub struct Given {
     pub session: SessionNo,
     /// The number of its line, from 1.

@@ -23,7 +23,7 @@ use rbd_world::World;
 use std::alloc::Global;
 
 /// The commands of a session, in the order of the script.
-#[derive(Debug, Drop)]
+#[derive(Drop)]
 pub struct Queue {
     pub commands: Vec<Given>,
     /// All before it were begun, and have their replies or are lost.

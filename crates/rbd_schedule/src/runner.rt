@@ -26,7 +26,6 @@ use std::alloc::Global;
 use std::collections::HashSet;
 
 /// A world, and the commands of the script for each of its sessions. As a world it isn't `Drop`.
-#[derive(Debug)]
 pub struct Runner<E: Machine + Drop> {
     pub world: World<E>,
     /// The commands that each session was given so far.

@@ -9,7 +9,7 @@ use rbd_kinds::NoMemory;
 use std::fmt;
 
 /// Why bytes aren't a script.
-#[derive(Clone, Copy, Debug, PartialEq, Eq, Hash)]
+#[derive(Clone, Copy, Debug, PartialEq, Eq)]
 pub enum ScriptFault {
     /// The first line that has a fault.
     Line(LineFault),
@@ -17,14 +17,14 @@ pub enum ScriptFault {
 }
 
 /// The fault of a line, by the line's number from 1.
-#[derive(Clone, Copy, Debug, PartialEq, Eq, Hash)]
+#[derive(Clone, Copy, Debug, PartialEq, Eq)]
 pub struct LineFault {
     pub line: u32,
     pub cause: LineCause,
 }
 
 /// Why a line isn't one of a script: its first fault from the left.
-#[derive(Clone, Copy, Debug, PartialEq, Eq, Hash)]
+#[derive(Clone, Copy, Debug, PartialEq, Eq)]
 pub enum LineCause {
     /// The word isn't one of those that may stand there, or no session of that name is declared.
     UnknownWord,

@@ -11,14 +11,14 @@ use crate::word::is;
 use rbd_kinds::{AskedName, Command};
 
 /// The words behind `mirror`.
-#[derive(Clone, Copy, Debug)]
+#[derive(Clone, Copy)]
 pub enum MirrorVerb {
     Of(OfMirrored),
     Promote,
 }
 
 /// What is done to a mirrored image that is named alone.
-#[derive(Clone, Copy, Debug)]
+#[derive(Clone, Copy)]
 pub enum OfMirrored {
     Enable,
     Demote,

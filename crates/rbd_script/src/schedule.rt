@@ -11,7 +11,7 @@ use crate::tokens::Tokens;
 use crate::word::is;
 
 /// The words of the lines of a schedule.
-#[derive(Clone, Copy, Debug)]
+#[derive(Clone, Copy)]
 pub enum ScheduleVerb {
     Poll,
     Until,

@@ -2,7 +2,7 @@
 use rbd_kinds::{Command, Growing, ImageId, Name, Number, OpKind, SessionNo, Shared, SiteId, Slot};
 
 /// A script: the sessions that it declares, and its lines.
-#[derive(Debug, Drop)]
+#[derive(Drop)]
 pub struct Script {
     /// In the order of declaration. A session's number is its place, from 0.
     pub sessions: Sessions,
@@ -11,7 +11,7 @@ pub struct Script {
 }
 
 /// A session: where it is declared, its name, and its home site.
-#[derive(Debug, Drop)]
+#[derive(Drop)]
 pub struct Declared {
     /// The number of the line that declares it, from 1.
     pub line: u32,
@@ -23,7 +23,7 @@ pub struct Declared {
 pub type Sessions = Growing<Declared>;
 
 /// One line of a script, by its number from 1.
-#[derive(Debug, Drop)]
+#[derive(Drop)]
 pub struct Line {
     pub number: u32,
     pub said: Said,

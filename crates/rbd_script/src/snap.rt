@@ -11,14 +11,14 @@ use crate::word::is;
 use rbd_kinds::{AskedName, Command};
 
 /// The words behind `snap`.
-#[derive(Clone, Copy, Debug)]
+#[derive(Clone, Copy)]
 pub enum SnapVerb {
     Of(OfSnap),
     List,
 }
 
 /// What is done to one snapshot.
-#[derive(Clone, Copy, Debug)]
+#[derive(Clone, Copy)]
 pub enum OfSnap {
     Create,
     Remove,

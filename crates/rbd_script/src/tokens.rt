@@ -23,7 +23,7 @@ use rbd_kinds::{AskedName, AtMost, ImageId, Name, OpKind, Payload, SessionNo, Si
 use std::alloc::Global;
 
 /// The tokens of a line that are still to be read, from left to right.
-#[derive(Clone, Copy, Debug)]
+#[derive(Clone, Copy)]
 pub struct Tokens<'a> {
     alloc: Global,
     rest: &'a [u8],

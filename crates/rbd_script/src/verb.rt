@@ -9,7 +9,7 @@ use crate::word::is;
 use rbd_kinds::{AskedName, Command};
 
 /// The first word of a command.
-#[derive(Clone, Copy, Debug)]
+#[derive(Clone, Copy)]
 pub enum Verb {
     Create,
     Clone,
@@ -28,7 +28,7 @@ pub enum Verb {
 }
 
 /// The words of the commands that name an image and nothing else.
-#[derive(Clone, Copy, Debug)]
+#[derive(Clone, Copy)]
 pub enum ImageVerb {
     Remove,
     Info,

@@ -187,7 +187,7 @@ fn has_turn_in(lines: &HashMap<u64, Line>, key: u64, slot: Slot, object: u64) ->
 }
 
 /// The lines of a session's images, each under a key. A line is held while somebody is in it.
-#[derive(Debug, Drop)]
+#[derive(Drop)]
 pub struct Lines {
     lines: HashMap<u64, Line>,
     /// A line for the next image whose line is joined.

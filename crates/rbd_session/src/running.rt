@@ -2,7 +2,7 @@
 use rbd_kinds::{Extent, ImageAt, Refusal, Sequence};
 
 /// What a slot holds.
-#[derive(Debug, Drop)]
+#[derive(Drop)]
 pub enum Occupant<R> {
     /// A request that is refused before any operation.
     Refused { line: u32, refusal: Refusal },
@@ -10,7 +10,7 @@ pub enum Occupant<R> {
 }
 
 /// A request that runs. It stands at an operation, and waits or may go on.
-#[derive(Debug, Drop)]
+#[derive(Drop)]
 pub struct Running<R> {
     /// The number of its command's line in the script.
     pub line: u32,

@@ -21,7 +21,7 @@ use std::alloc::Global;
 use std::marker::Model;
 
 /// One client: its requests, each in a slot.
-#[derive(Debug, Drop)]
+#[derive(Drop)]
 pub struct Session<R: Request> {
     instance: Instance,
     home: SiteId,

@@ -2,7 +2,7 @@
 use rbd_kinds::{Answer, ImageId, Instance, Op};
 
 /// One operation of a site's log.
-#[derive(Debug, Drop)]
+#[derive(Drop)]
 pub struct Done {
     /// Its place in the log, from 1.
     pub number: u64,
@@ -13,7 +13,7 @@ pub struct Done {
 }
 
 /// What was done.
-#[derive(Debug, Drop)]
+#[derive(Drop)]
 pub enum DoneOp {
     /// An operation of an instance.
     Op(Op),

@@ -2,7 +2,7 @@
 use rbd_kinds::{ImageId, SnapId};
 
 /// An object map of an image (Ceph: `rbd_object_map.<id>`, and with `.<snap>` behind it).
-#[derive(Clone, Copy, Debug, PartialEq, Eq, PartialOrd, Ord)]
+#[derive(Clone, Copy, PartialEq, Eq, PartialOrd, Ord)]
 pub struct MapKey {
     pub image: ImageId,
     /// The snapshot whose map it is, or `None` for the head's.

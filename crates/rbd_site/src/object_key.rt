@@ -2,7 +2,7 @@
 use rbd_kinds::ImageId;
 
 /// A data object of an image: which of them, from 0 (Ceph: `rbd_data.<id>.<number>`).
-#[derive(Clone, Copy, Debug, PartialEq, Eq, PartialOrd, Ord)]
+#[derive(Clone, Copy, PartialEq, Eq, PartialOrd, Ord)]
 pub struct ObjectKey {
     pub image: ImageId,
     pub number: u64,

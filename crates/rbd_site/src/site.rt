@@ -19,7 +19,7 @@ use std::marker::Model;
 
 /// A site (a cluster): its records and the log of the operations that made them. Contracts see it
 /// as its id and its log; the records are what the log leaves.
-#[derive(Debug, Drop)]
+#[derive(Drop)]
 pub struct Site {
     id: SiteId,
     store: Store,

@@ -31,7 +31,7 @@ use std::collections::BTreeMap;
 
 /// The records of a site: its directory, the children of its snapshots, its blocklist, and the
 /// headers of its images, with who watches them, their object maps and their data objects.
-#[derive(Debug, Drop)]
+#[derive(Drop)]
 pub struct Store {
     pub alloc: Global,
     pub directory: Directory,

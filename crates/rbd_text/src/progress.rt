@@ -12,7 +12,7 @@ use rbd_site::{Done, DoneOp};
 use std::alloc::Global;
 
 /// What a history tells of one command.
-#[derive(Clone, Copy, Debug)]
+#[derive(Clone, Copy)]
 pub struct Progress {
     /// It was begun.
     pub started: bool,

@@ -6,7 +6,7 @@ use std::marker::Model;
 
 /// Some items in order, which needn't be such that can be copied, and to which more are added at
 /// the end. Contracts see the list of them.
-#[derive(Debug, Drop)]
+#[derive(Drop)]
 pub struct Growing<T> {
     items: Vec<T>,
 }

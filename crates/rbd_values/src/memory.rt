@@ -7,7 +7,7 @@ use std::fmt;
 
 /// A growth of memory was refused. It is merged with no other refusal, and comes at no stated
 /// moment.
-#[derive(Clone, Copy, Debug, PartialEq, Eq, Hash)]
+#[derive(Clone, Copy, Debug, PartialEq, Eq)]
 pub struct NoMemory;
 
 impl fmt::Display for NoMemory {

@@ -8,7 +8,7 @@ use std::marker::Model;
 
 /// What was told to watchers, at either site: one numbering serves both (Ceph: notify). Contracts
 /// see the list of notices, oldest first.
-#[derive(Debug, Drop)]
+#[derive(Drop)]
 pub struct Mail {
     alloc: Global,
     /// Numbered from 1 without gaps.

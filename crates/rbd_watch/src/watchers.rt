@@ -11,7 +11,7 @@ use std::marker::Model;
 
 /// The instances that watch an image's header (Ceph: watch). Contracts see the list of them, in
 /// order of registration and without repetition.
-#[derive(Debug, Drop)]
+#[derive(Drop)]
 pub struct Watchers {
     alloc: Global,
     instances: IndexSet<Instance>,

@@ -7,7 +7,7 @@ use rbd_lines::LineMap;
 use std::alloc::Global;
 
 /// The lines of the script that were begun.
-#[derive(Debug, Drop)]
+#[derive(Drop)]
 pub struct BegunLines {
     lines: LineMap<()>,
 }

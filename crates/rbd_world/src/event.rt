@@ -2,7 +2,7 @@
 use rbd_kinds::{Command, ImageId, NoMemory, SessionNo, Shared, SiteId, Slot, TryClone};
 
 /// One event: at most one operation on one object of one site.
-#[derive(Debug, Drop)]
+#[derive(Drop)]
 pub enum Event {
     /// A session begins the command of a line of the script, in its lowest free slot.
     Submit {
@@ -93,7 +93,7 @@ impl TryClone for Event {
 }
 
 /// What came of an event.
-#[derive(Clone, Copy, Debug, PartialEq, Eq)]
+#[derive(Clone, Copy, PartialEq, Eq)]
 pub enum Outcome {
     /// It named nothing that is there, and nothing changed.
     Nothing,
@@ -124,7 +124,7 @@ pub enum Outcome {
 }
 
 /// An event, and what came of it.
-#[derive(Debug, Drop)]
+#[derive(Drop)]
 pub struct Call {
     pub event: Event,
     pub outcome: Outcome,

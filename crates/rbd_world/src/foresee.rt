@@ -23,7 +23,7 @@ use rbd_site::Site;
 use std::alloc::Global;
 
 /// An operation that is to be done: whose, by whom, and where.
-#[derive(Debug, Drop)]
+#[derive(Drop)]
 pub struct Due {
     pub who: Instance,
     pub by: Sender,
@@ -32,7 +32,7 @@ pub struct Due {
 }
 
 /// What it will come to.
-#[derive(Debug, Drop)]
+#[derive(Drop)]
 pub struct Foreseen {
     /// What its sender is fed.
     pub fed: Fed,

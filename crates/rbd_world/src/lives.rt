@@ -6,7 +6,7 @@ use std::marker::Model;
 
 /// What an instance may still send that was stopped: what each of its slots wanted then, where it
 /// hasn't come yet (own: an operation of each slot may be under way at a stop).
-#[derive(Debug, Drop)]
+#[derive(Drop)]
 pub struct Late {
     pub instance: Instance,
     /// Slot n's at n.
@@ -22,7 +22,7 @@ impl Model for Late {
 }
 
 /// The lives of a session, one after another, each an instance of its own.
-#[derive(Debug, Drop)]
+#[derive(Drop)]
 pub struct Lives<R: Request> {
     /// The site at which the session is.
     pub home: SiteId,

@@ -11,7 +11,7 @@ use rbd_flat::{Cause, Effect, Entry};
 use rbd_kinds::{Instance, NoMemory, Reply, Shared, SiteId};
 
 /// What happened, and by which calls.
-#[derive(Debug, Drop)]
+#[derive(Drop)]
 pub struct Book {
     pub history: Vec<Entry>,
     pub calls: Vec<Call>,

@@ -36,7 +36,7 @@ use rbd_kinds::{NoMemory, Slot};
 use std::alloc::Global;
 
 /// Who acts where a slot is polled, and which slot that is.
-#[derive(Clone, Copy, Debug)]
+#[derive(Clone, Copy)]
 pub struct Acting {
     pub slot: Slot,
     pub actor: Actor,

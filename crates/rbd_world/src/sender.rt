@@ -8,7 +8,7 @@ use rbd_kinds::{Instance, Slot};
 use rbd_machine::Reason;
 
 /// Who has an operation done.
-#[derive(Clone, Copy, Debug)]
+#[derive(Clone, Copy)]
 pub enum Sender {
     /// The command of a line, by itself.
     Itself(u32),

@@ -16,7 +16,7 @@ use std::alloc::Global;
 
 /// Both sites (clusters), each with its own records and its own log, and what both told those that
 /// watch: one numbering of notices serves both.
-#[derive(Debug, Drop)]
+#[derive(Drop)]
 pub struct Sites {
     pub a: Site,
     pub b: Site,

@@ -22,7 +22,7 @@ use rbd_requests::{SessionRequest, Work};
 use std::alloc::Global;
 
 /// A line of a script, with the session whose command it is.
-#[derive(Clone, Copy, Debug)]
+#[derive(Clone, Copy)]
 pub struct SessionLine {
     pub session: SessionNo,
     pub line: u32,

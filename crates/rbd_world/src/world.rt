@@ -43,7 +43,6 @@ use std::marker::Model;
 /// ```
 ///
 /// It isn't `Drop`: [`World::close`] lets it go.
-#[derive(Debug)]
 pub struct World<E: Machine + Drop> {
     sites: Sites,
     lives: Vec<Lives<SessionRequest<E>>>,

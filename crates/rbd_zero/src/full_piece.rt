@@ -39,13 +39,13 @@ use std::alloc::Global;
 /// ```
 ///
 /// What is answered `none` ends the request with NoImage, and `fenced` with Fenced.
-#[derive(Debug, Drop)]
+#[derive(Drop)]
 pub struct FullPiece {
     way: Way,
 }
 
 /// The way that it goes, by its bytes.
-#[derive(Debug, Drop)]
+#[derive(Drop)]
 pub enum Way {
     Replacing(Replace),
     Zeroing(ZeroPiece),

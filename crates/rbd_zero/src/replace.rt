@@ -23,7 +23,7 @@ use std::alloc::Global;
 ///    ▼
 /// the end
 /// ```
-#[derive(Debug, Drop)]
+#[derive(Drop)]
 pub struct Replace {
     site: SiteId,
     image: ImageId,
@@ -34,7 +34,7 @@ pub struct Replace {
 }
 
 /// A stage of it.
-#[derive(Clone, Copy, Debug)]
+#[derive(Clone, Copy)]
 pub enum Stage {
     Raising,
     Writing,

@@ -19,7 +19,7 @@ use std::collections::VecDeque;
 use std::marker::Model;
 
 /// A head, by its header, and a smaller size. Contracts see it as `Shrunk`.
-#[derive(Debug, Drop)]
+#[derive(Drop)]
 pub struct Shrink {
     header: HeaderView,
     to: u64,

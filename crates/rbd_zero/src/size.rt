@@ -43,7 +43,7 @@ use std::collections::VecDeque;
 /// ```
 ///
 /// Any operation may be answered `fenced`, which ends the request with Fenced.
-#[derive(Debug, Drop)]
+#[derive(Drop)]
 pub struct Size {
     site: SiteId,
     image: ImageId,
@@ -53,7 +53,7 @@ pub struct Size {
 }
 
 /// A stage of it, with the size that is set.
-#[derive(Debug, Drop)]
+#[derive(Drop)]
 pub enum Stage {
     Growing { objects: u64, to: u64 },
     Looking(Shrink),

@@ -47,7 +47,7 @@ use std::alloc::Global;
 /// What is answered `none` ends the request with NoImage, and `fenced` with Fenced. That an object
 /// inside the overlap isn't there, so that `data-zero` is answered `none`, is told only of a clone
 /// whose object was never copied up: there copy-up will join.
-#[derive(Debug, Drop)]
+#[derive(Drop)]
 pub struct ZeroPiece {
     site: SiteId,
     image: ImageId,
@@ -57,7 +57,7 @@ pub struct ZeroPiece {
 }
 
 /// A stage of a piece.
-#[derive(Clone, Copy, Debug)]
+#[derive(Clone, Copy)]
 pub enum Stage {
     Zeroing,
     RaisingToZero,

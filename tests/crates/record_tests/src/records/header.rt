@@ -53,7 +53,7 @@ fn cloned(alloc: Global) -> Result<Header, NoMemory> {
 }
 
 /// A change that may be done at any header.
-#[derive(Debug, Drop)]
+#[derive(Drop)]
 enum Change {
     Size(u64),
     Status(SnapId, SnapStatus),

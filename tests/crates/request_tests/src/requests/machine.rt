@@ -32,7 +32,7 @@ impl Refuses for OnlySize {
 const RULE: OnlySize = OnlySize { size: 4096 };
 
 /// A change that does nothing once its look under the lock told a header.
-#[derive(Debug, Drop)]
+#[derive(Drop)]
 struct Change {
     way: Approach,
     /// Of each step whether the way was at its look under the lock: `o`, and else `-`.
