@@ -101,7 +101,7 @@ fn come_from(
         op,
     };
     let outcome = send(alloc, sites, history, due)?;
-    late.wanted[slot.0 as usize] = None;
+    drop(late.wanted[slot.0 as usize].take());
     Ok(outcome)
 }
 

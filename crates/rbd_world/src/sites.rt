@@ -31,9 +31,16 @@ impl Sites {
         ensures mail { IfOk result (λ sites. sites.mail ≡ []) }
     {
         let a = Site::new(alloc, SiteId::A)?;
-        let b = Site::new(alloc, SiteId::B)?;
-        let mail = Mail::new(alloc);
-        Ok(Sites { a, b, mail })
+        match Site::new(alloc, SiteId::B) {
+            Ok(b) => {
+                let mail = Mail::new(alloc);
+                Ok(Sites { a, b, mail })
+            }
+            Err(fault) => {
+                drop(a);
+                Err(fault)
+            }
+        }
     }
 
     /// One of them.

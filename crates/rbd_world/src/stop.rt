@@ -53,8 +53,8 @@ fn stop_life<R: Request>(
         return Ok(Outcome::Nothing);
     };
     let left = leave(alloc, client, history)?;
-    life.running = None;
-    life.late = Some(left);
+    drop(life.running.take());
+    drop(life.late.replace(left));
     Ok(Outcome::Stopped)
 }
 
@@ -154,7 +154,7 @@ fn restart_life<R: Request>(alloc: Global, life: &mut Lives<R>) -> Result<Outcom
     }
     let client = Client::new(alloc, next_life(&life.latest), life.home)?;
     life.latest = client.instance();
-    life.running = Some(client);
+    drop(life.running.replace(client));
     Ok(Outcome::Restarted)
 }
 

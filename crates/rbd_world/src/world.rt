@@ -73,17 +73,22 @@ impl<E: Machine + Drop> World<E> {
         ensures clients { IfOk result (λ w. AreAtHome homes.now w.lives) }
         ensures sound { IfOk result (IsSoundWorld (stands_of E.stands)) }
     {
-        let sites = Sites::new(alloc)?;
         let lives = first_lives(alloc, homes)?;
-        Ok(World {
-            sites,
-            lives,
-            begun: BegunLines::new(alloc),
-            book: Book {
-                history: Vec::new(alloc),
-                calls: Vec::new(alloc),
-            },
-        })
+        match Sites::new(alloc) {
+            Ok(sites) => Ok(World {
+                sites,
+                lives,
+                begun: BegunLines::new(alloc),
+                book: Book {
+                    history: Vec::new(alloc),
+                    calls: Vec::new(alloc),
+                },
+            }),
+            Err(fault) => {
+                drop(lives);
+                Err(fault)
+            }
+        }
     }
 
     /// Lets the world go. Nothing else does: a crate in which a world is dropped would prove the
@@ -257,7 +262,10 @@ fn first_lives<R: Request>(alloc: Global, homes: &[SiteId]) -> Result<Vec<Lives<
 {
     let mut lives = Vec::new(alloc);
     for number in 0..homes.len() {
-        lives.push(first_life(alloc, SessionNo(number as u8), homes[number])?)?;
+        match first_life(alloc, SessionNo(number as u8), homes[number]) {
+            Ok(life) => lives.push(life)?,
+            Err(fault) => return Err(fault),
+        }
     }
     Ok(lives)
 }

@@ -2,8 +2,9 @@ use Rattle.std.proofs.Common.{rules, ◌≡◌, true, false, is_some, sym, ap, �
 use Rattle.std.specs.Prelude.{nat_lt}
 use Rattle.std.proofs.lemmas.Bool.{lt-ltb}
 use Rattle.rbd_world.specs.Run.{outcome_of}
-use Rattle.rbd_world.specs.Step.{last_life, next_life}
+use Rattle.rbd_world.specs.Step.{LivesOn, last_life, next_life, restarted_of}
 use Rattle.rbd_world.specs.World.{LivesView}
+use Rattle.rbd_world.specs.declared.event.Event.TheVariants as of_event
 use Rattle.rbd_world.proofs.Ongoing.{restart_lives_on, restarts}
 use Rattle.rbd_world.proofs.stop.restart_life.Goals as goal
 
@@ -22,7 +23,9 @@ returns-clause-life g c = λ session.
     subst (λ (l : LivesView _). nat_lt l.latest.life last_life ≡ true) c.life.view_is (lt-ltb c.life.inside.latest.life last_life c.next_life.ensures.below) in
     let who : c.in_ok-client.client.session.instance ≡ next_life c.args.life.now.latest = search rules in
     let home : c.in_ok-client.client.session.home ≡ c.args.life.now.home = search rules in
-    restart_lives_on g.R.Machine.stands session c.args.life.now before c.life.view_is (restarts g.R.Machine.stands c.args.life.now.latest c.args.life.now.running none below)
+    subst (λ running. LivesOn g.R.Machine.stands (of_event.Restart session) (restarted_of c.args.life.now.latest c.args.life.now.running) c.args.life.now
+    (record { home = c.life.inside.home; latest = c.instance-life-inside.result; running = running; late = c.life.inside.late })) (sym c.replace.ensures.after)
+    (restart_lives_on g.R.Machine.stands session c.args.life.now before c.life.view_is (restarts g.R.Machine.stands c.args.life.now.latest c.args.life.now.running none below)
     c.in_ok-client.client
     (record { instance = who; at_home = home; slots = c.in_ok-client.ensures.slots; locks = c.in_ok-client.ensures.locks; heard = c.in_ok-client.ensures.heard; sound = c.in_ok-client.ensures.sound })
-    c.instance-life-inside.result (c.instance-life-inside.ensures ∙ who)
+    c.instance-life-inside.result (c.instance-life-inside.ensures ∙ who))

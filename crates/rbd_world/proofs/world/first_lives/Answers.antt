@@ -7,16 +7,16 @@ use Rattle.rbd_world.proofs.world.first_lives.Goals as goal
 pub loop-number-init : goal.loop-number-init
 loop-number-init g c = subst (AreMade g.R.Machine.stands c.args.homes.now 0) (sym c.new-lives.ensures.items) (none_made g.R.Machine.stands c.args.homes.now)
 
-made_at : (g : _) (c : goal.In_ok-push g) → IsAt g.R.Machine.stands c.args.homes.now c.loop-number.number c.in_ok-first_life.field-0
+made_at : (g : _) (c : goal.In_ok-push-in-Ok g) → IsAt g.R.Machine.stands c.args.homes.now c.loop-number.number c.in-Ok.life
 made_at g c = record {
-  home = λ home is. c.in_ok-first_life.ensures.home ∙ get_or_from_slice_get c.args.homes.now c.loop-number.number home site.A is;
-  first = c.in_ok-first_life.ensures.first;
+  home = λ home is. c.in-Ok.ensures.home ∙ get_or_from_slice_get c.args.homes.now c.loop-number.number home site.A is;
+  first = c.in-Ok.ensures.first;
 }
 
 pub loop-number-preserved : goal.loop-number-preserved
 loop-number-preserved g c =
-    subst (AreMade g.R.Machine.stands c.args.homes.now (c.loop-number.number + 1)) (sym c.in_ok-push.ensures.items)
-    (one_made g.R.Machine.stands c.args.homes.now c.loop-number.number c.loop-number.lives.items c.in_ok-first_life.field-0 c.loop-number.invariant (made_at g c))
+    subst (AreMade g.R.Machine.stands c.args.homes.now (c.loop-number.number + 1)) (sym c.in_ok-push-in-Ok.ensures.items)
+    (one_made g.R.Machine.stands c.args.homes.now c.loop-number.number c.loop-number.lives.items c.in-Ok.life c.loop-number.invariant (made_at g c))
 
 pub returns-clause-first : goal.returns-clause-first
 returns-clause-first g c = all_first g.R.Machine.stands c.args.homes.now c.loop-number.number c.loop-number.lives.items c.loop-number.invariant
