@@ -11,8 +11,8 @@ import shutil
 import sys
 from pathlib import Path
 
-# The most memory that the check of a crate was seen to take at one job, in bytes.
-CHECK_TAKES = 4 << 30
+# How much of the memory that the kit guesses a check takes: the most that was seen, of any crate.
+TAKEN = 0.75
 
 
 def kit():
@@ -35,8 +35,9 @@ def load_rt(top):
     rt.rtlib.guarded()
     rt.rtlib.Crate = rt.Crate
     rt.Crate.allowed = rt.handles_of(str(top))
-    # (its own guess is too high for the crates at the top, which then wait for memory, and get one processor)
-    rt.need = lambda crate: CHECK_TAKES
+    # (by its own guess the crates at the top wait for memory, and then get one processor)
+    guess = rt.need
+    rt.need = lambda crate: int(TAKEN * guess(crate))
     return rt
 
 
