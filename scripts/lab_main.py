@@ -24,6 +24,12 @@ Plays a script on rbd_lab, on a fresh machine too: what is missing is built.
   scripts/lab show [FILE]            prints each line of a script, or of standard input, with its
                                      reply under it; where replies came in another order than their
                                      lines stand, `(reply 3)` is the third that came
+  scripts/lab show --locks [FILE]    the same, and what each line changed of the images' locks: who
+                                     has one, who asked for it, who watches; notices by number
+  scripts/lab draw [FILE] [-o OUT]   draws what the script did, an operation a row, as one page that
+                                     a browser opens: a row that is chosen shows the state there;
+                                     where OUT ends with .svg, as a picture; without -o on standard
+                                     output
   scripts/lab -h | --help            prints this
   scripts/lab --version              prints which sources these are
 
@@ -176,8 +182,9 @@ def replies_in(output):
     return found
 
 
-def shown(script, status, output):
-    """Returns the texts that show a script with what the program answered."""
+def shown(script, status, output, facts):
+    """Returns the texts that show a script with what the program answered, and the facts of each
+    line."""
     lines = script.removesuffix(b"\n").split(b"\n") if script else []
     wide = len(str(len(lines)))
     said = FAULT.fullmatch(output) if status == BAD_LINE else None
@@ -192,20 +199,76 @@ def shown(script, status, output):
             cause = said[2].decode()
             mark = drawn(number, explained(script, number, cause))[1:]
             yield from (it.encode() for it in [*mark, f"{' ' * wide} => {cause}: nothing is played"])
+        yield from (b"%*s  -- %s" % (wide, b"", it.encode()) for it in facts.get(number, ()))
+    # (0 stands for the rounds that close a script)
+    if facts.get(0):
+        yield b"%*s  (the rounds at the end)" % (wide, b"")
+        yield from (b"%*s  -- %s" % (wide, b"", it.encode()) for it in facts[0])
 
 
-def show(path):
-    """Prints a script, each line with its reply under it."""
+def script_at(path):
+    """Returns the script of a file, or of standard input."""
     try:
-        script = given_script() if path in STANDARD_INPUT else Path(path).read_bytes()
+        return given_script() if path in STANDARD_INPUT else Path(path).read_bytes()
     except OSError as error:
         what = "the script" if path in STANDARD_INPUT else path
         fail(f"{what} cannot be read: {error.strerror}", UNREADABLE)
+
+
+def replies_of(output):
+    """Returns the replies of what `run --trace` prints: what stands behind history and logs."""
+    return b"".join(it for it in output.splitlines(True) if not it.startswith((b"h ", b"o ")))
+
+
+def folded(script, output):
+    """Returns the lines of a script, and what happened, step by step."""
+    # (whoever only plays a script needs none of this)
+    from lab_drawing.fold import NotOfThisScript, steps
+    from lab_drawing.reading import script_of
+
+    try:
+        return script_of(script), steps(script, output)
+    except NotOfThisScript as error:
+        fail(f"the trace is not understood: {error}")
+
+
+def show(path, with_locks):
+    """Prints a script, each line with its reply under it, and with locks what it changed of them."""
+    script = script_at(path)
     ours = build()
-    ran = started(ours, ["run"], script, subprocess.PIPE)
+    ran = started(ours, ["run", "--trace"] if with_locks else ["run"], script, subprocess.PIPE)
+    facts = {}
+    if with_locks and ran.returncode == 0:
+        from lab_drawing.locks import facts as facts_of
+
+        facts = facts_of(*folded(script, ran.stdout))
     if ran.returncode in (0, BAD_LINE):
-        put(shown(script, ran.returncode, ran.stdout))
+        put(shown(script, ran.returncode, replies_of(ran.stdout), facts))
     end(ours, ran.returncode)
+
+
+def draw(path, out):
+    """Draws what a script did."""
+    from lab_drawing.page import Page
+    from lab_drawing.picture import Picture
+
+    script = script_at(path)
+    ours = build()
+    ran = started(ours, ["run", "--trace"], script, subprocess.PIPE)
+    if ran.returncode == BAD_LINE:
+        explain(ours, ["run", "--trace"], script)
+    if ran.returncode:
+        end(ours, ran.returncode)
+    title = "a script" if path in STANDARD_INPUT else Path(path).name
+    of = Picture if out and out.endswith(".svg") else Page
+    drawn_as = of(*folded(script, ran.stdout), title).whole().encode()
+    if not out:
+        put([drawn_as.removesuffix(b"\n")])
+        return
+    try:
+        Path(out).write_bytes(drawn_as)
+    except OSError as error:
+        fail(f"{out} cannot be written: {error.strerror}", UNWRITABLE)
 
 
 def version():
@@ -218,6 +281,17 @@ def version():
     return f"rbd_lab, commit {ran.stdout.strip()}" if ran.returncode == 0 else "rbd_lab, from no git checkout"
 
 
+def drawing_asked(words):
+    """Returns the script and the file that `draw` is asked for by its words."""
+    out = None
+    if "-o" in words[:-1]:
+        place = words.index("-o")
+        out, words = words[place + 1], words[:place] + words[place + 2 :]
+    if len(words) > 1 or "-o" in words:
+        fail("usage: scripts/lab draw [FILE] [-o OUT]", NOT_UNDERSTOOD)
+    return (words or ["-"])[0], out
+
+
 def main():
     words = sys.argv[1:]
     if words in (["-h"], ["--help"]):
@@ -225,9 +299,13 @@ def main():
     elif words == ["--version"]:
         put([version().encode()])
     elif words[:1] == ["show"]:
-        if len(words) > 2:
-            fail("usage: scripts/lab show [FILE]", NOT_UNDERSTOOD)
-        show(*words[1:] or "-")
+        with_locks = words[1:2] == ["--locks"]
+        files = words[1 + with_locks :]
+        if len(files) > 1:
+            fail("usage: scripts/lab show [--locks] [FILE]", NOT_UNDERSTOOD)
+        show(*files or "-", with_locks)
+    elif words[:1] == ["draw"]:
+        draw(*drawing_asked(words[1:]))
     elif words in (["run"], ["run", "--trace"]):
         run(words)
     else:

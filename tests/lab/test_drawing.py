@@ -1,0 +1,570 @@
+#!/usr/bin/env python3
+"""Tests of what `scripts/lab draw` and `show --locks` work out and draw, without the program:
+`scripts/quick` runs them, in seconds.
+
+What is wanted of the examples was worked out by hand, from docs/RULES.md, the scripts and their
+traces. The traces that the tests begin with are in examples/, and else in traces/, beside a script
+more, where they are as the program printed them (tests/lab/fold_test.py plays them again).
+"""
+import random
+import shutil
+import subprocess
+import sys
+import tempfile
+import unittest
+import xml.etree.ElementTree as xml
+from functools import cache
+from importlib.machinery import SourceFileLoader
+from importlib.util import module_from_spec, spec_from_loader
+from pathlib import Path
+
+sys.dont_write_bytecode = True
+TOP = Path(__file__).resolve().parent.parent.parent
+sys.path.insert(0, str(TOP / "scripts"))
+import lab_marks
+from lab_drawing import fold, locks, marks, page, picture, reading, records
+
+TRACES = Path(__file__).parent / "traces"
+EXAMPLES = sorted(it.stem for it in (TOP / "examples").glob("*.script"))
+# The scripts beside the examples.
+OTHERS = sorted(it.stem for it in TRACES.glob("*.script"))
+# Behind an operation: what is so. `by` is the line that made it happen.
+WANTED = {
+    "first": """\
+a1 | names | disk 1
+a3 | size | 8192
+a6 | by | end
+a11 | owner | c1.0
+a14 | object 0 | 0: 68656c6c6f
+a14 | state 0 | 1
+a19 | names | disk 1, other 2
+a21 | size of 2 | 4096
+a25 | object 0 | 0: 68656c6c6f
+""",
+    "pieces": """\
+a10 | object 0 | 4094: 6865
+a10 | object 1 | -
+a11 | state 1 | 1
+a12 | object 1 | 0: 6c6c6f
+a30 | object 0 | 4094: 6841
+a32 | object 1 | 0: 426c6f
+a42 | object 2 | -
+a47 | object 2 | 4094: 0102
+a53 | object 2 | 4094: 0102
+""",
+    "refusals": """\
+a2 | names | -
+a3 | names | disk 1
+a12 | object 0 | 0: aa
+a13 | names | disk 1
+a29 | object 0 | 0: aa
+a29 | object 1 | -
+a29 | size | 8192
+""",
+    "snapshots": """\
+a10 | object 0 | 0: 6f6e65
+a16 | snaps | monday 1 8192
+a15 | state 0 at 1 | 1
+a16 | object 0 at 1 | -
+a21 | object 0 | 0: 74776f
+a21 | object 0 at 1 | 0: 6f6e65
+a34 | object 0 | 0: 74776f, 4094: 6865
+a36 | object 1 | 0: 6c6c6f
+a36 | object 1 at 1 | -
+a46 | state 1 at 1 | -
+a46 | state 1 at 2 | 1
+a47 | snaps | monday 1 8192, tuesday 2 8192
+a52 | object 0 | 0: 736978, 4094: 6865
+a52 | object 0 at 1 | 0: 6f6e65
+a52 | object 0 at 2 | 0: 74776f, 4094: 6865
+a68 | snaps | tuesday 2 8192
+a69 | state 0 at 1 | -
+a69 | state 0 at 2 | 1
+a85 | snaps | tuesday 2 8192, monday 3 8192
+a90 | object 0 at 1 | 0: 6f6e65
+a90 | object 0 at 3 | -
+""",
+    "changes": """\
+a3 | size | 10000
+a6 | state 0 | -
+a13 | object 0 | 0: 4096 × aa
+a15 | object 1 | 0: 4096 × aa
+a17 | object 2 | 0: 1808 × aa
+a26 | snaps | full 1 10000
+a30 | object 0 | 0: 4000 × aa
+a30 | object 0 at 1 | 0: 4096 × aa
+a31 | state 1 | 2
+a32 | object 1 | -
+a32 | object 1 at 1 | 0: 4096 × aa
+a33 | state 1 | -
+a33 | state 1 at 1 | 1
+a57 | object 0 | 0: 4096 × aa
+a59 | state 1 | 1
+a60 | object 1 | 0: 4096 × aa
+a63 | object 2 at 1 | 0: 1808 × aa
+a75 | object 1 | 0: 904 × aa
+a76 | state 2 | 2
+a77 | object 2 | -
+a78 | state 2 | -
+a79 | size | 5000
+a87 | size | 10000
+a87 | object 1 | 0: 904 × aa
+a106 | object 0 | -
+a111 | size | 0
+a116 | object 1 at 1 | 0: 4096 × aa
+a116 | size | 0
+""",
+    "in-use": """\
+a10 | by | 8
+a16 | snaps | monday 1 8192
+a20 | by | 12
+a22 | snaps | -
+a23 | state 0 at 1 | -
+a26 | watched | c1.0
+a27 | names | disc 1
+a32 | object 0 | 0: 1122
+a32 | object 0 at 1 | -
+a36 | owner | c1.0
+a37 | owner | -
+a37 | watched | c1.0
+a39 | watched | -
+a43 | watched | c2.0
+a44 | owner | c2.0
+a48 | names | -
+a49 | size | -
+a49 | owner | -
+a49 | watched | -
+a49 | object 0 | 0: 1122
+a50 | object 0 | -
+a50 | state 0 | 1
+a51 | state 0 | -
+a54 | names | disc 2
+a60 | size of 2 | 8192
+a60 | object 0 of 2 | -
+""",
+    "two-clients": """\
+a1 | by | 8
+a3 | by | 8
+a4 | by | 13
+a4 | slot | 1
+a6 | watched | c1.0
+a6 | owner | -
+a7 | owner | c1.0
+a9 | by | 13
+a9 | state 0 | 1
+a9 | object 0 | -
+a10 | by | 14
+a10 | object 0 | 4094: 1122
+a11 | by | 16
+a15 | by | 16
+a15 | object 1 | -
+a16 | by | end
+a16 | state 1 | 1
+a18 | object 1 | 0: 3344
+a22 | owner | c1.0
+a22 | by | end
+""",
+    "handover": """\
+a7 | owner | c1.0
+a10 | object 0 | 0: 11
+a11 | by | 10
+a15 | by | 10
+a15 | watched | c1.0 c2.0
+a15 | asked | -
+a16 | by | 11
+a16 | asked | 1
+a17 | by | 14
+a17 | slot | 0
+a17 | owner | -
+a17 | asked | -
+a18 | by | 14
+a19 | owner | c2.0
+a19 | by | 16
+a22 | object 0 | 0: 1122
+a22 | by | 16
+a23 | by | end
+a26 | owner | c2.0
+""",
+    "lost-notice": """\
+a14 | owner | c1.0
+a15 | by | 9
+a16 | by | 10
+a16 | asked | 1
+a17 | by | 15
+a18 | by | 15
+a19 | by | 16
+a19 | asked | 1 2
+a20 | by | 20
+a20 | owner | -
+a21 | by | 20
+a21 | slot | 0
+a22 | by | 21
+a22 | owner | c2.0
+a25 | object 0 | 0: 1122
+a25 | by | 21
+a26 | by | end
+""",
+    "stopped-owner": """\
+a6 | owner | -
+a7 | owner | c1.0
+a10 | by | 8
+a10 | object 0 | 0: 11
+a11 | by | 11
+a14 | by | 11
+a14 | watched | c1.0
+a15 | by | 14
+a15 | watched | -
+a15 | owner | c1.0
+a16 | by | 16
+a18 | watched | c2.0
+a20 | fenced | -
+a21 | fenced | c1.0
+a21 | owner | c1.0
+a22 | owner | -
+a23 | owner | c2.0
+a26 | by | 16
+a26 | object 0 | 0: 1133
+a27 | by | 18
+a27 | slot | 1
+a27 | object 0 | 0: 1133
+a28 | by | 22
+a30 | watched | c2.0 c1.1
+a33 | asked | 1
+a34 | owner | -
+a34 | slot | 0
+a35 | owner | c1.1
+a36 | slot | 0
+a39 | object 0 | 0: 113344
+a40 | by | end
+a43 | owner | c1.1
+a43 | fenced | c1.0
+""",
+    # The `@until` ends before the notify, and the watch expires before that: so nobody hears it, and
+    # the owner is taken for dead.
+    "until-and-expire": """\
+a15 | by | 8
+a15 | watched | c1.0 c2.0
+a16 | by | 9
+a16 | watched | c2.0
+a16 | owner | c1.0
+a17 | by | 10
+a17 | asked | -
+a20 | by | 10
+a20 | fenced | c1.0
+a21 | by | 11
+a21 | owner | -
+a22 | owner | c2.0
+a25 | object 0 | 0: 1122
+a26 | by | end
+""",
+}
+# Each notice: its number, from whom, to whom, what it says, the operation that posted it, and behind
+# which operation it was heard or lost.
+NOTICES = {
+    "handover": [(1, "c2.0", "c1.0", "ask", "a16", "heard a16"), (2, "c1.0", "c2.0", "released", "a18", "heard a23")],
+    "lost-notice": [
+        (1, "c2.0", "c1.0", "ask", "a16", "lose a16"),
+        (2, "c2.0", "c1.0", "ask", "a19", "heard a19, heard a19"),
+        (3, "c1.0", "c2.0", "released", "a21", "heard a26"),
+    ],
+    "stopped-owner": [
+        (1, "c1.1", "c2.0", "ask", "a33", "heard a33"),
+        (2, "c2.0", "c1.1", "released", "a36", "heard a36"),
+    ],
+}
+LOCKS = {
+    7: ["disk: c1.0 has the lock; watched by c1.0"],
+    10: ["disk: c1.0 has the lock; watched by c1.0 and c2.0"],
+    11: [
+        "notice 1 to c1.0: c2.0 wants the lock of disk",
+        "disk: c1.0 has the lock, which is asked for by c2.0 (notice 1); watched by c1.0 and c2.0",
+    ],
+    13: ["c1.0 hears notice 1"],
+    14: ["notice 2 to c2.0: the lock of disk is free", "disk: the lock is free; watched by c1.0 and c2.0"],
+    16: ["disk: c2.0 has the lock; watched by c1.0 and c2.0"],
+    fold.END: ["c2.0 hears notice 2"],
+}
+
+
+@cache
+def example(name):
+    """Returns a script, which is an example or stands in traces/, and its trace."""
+    found = ((folder / f"{name}.{kind}" for folder in (TOP / "examples", TRACES)) for kind in ("script", "trace"))
+    return tuple(next(it for it in paths if it.exists()).read_bytes() for paths in found)
+
+
+@cache
+def steps_of(name):
+    """Returns the steps of an example."""
+    return fold.steps(*example(name))
+
+
+def drawing(name, of):
+    """Returns an example's picture, or its page."""
+    return of(reading.script_of(example(name)[0]), steps_of(name), f"{name}.script")
+
+
+def behind(steps):
+    """Returns the state behind each operation, with the operation's step."""
+    state, found = {}, {}
+    for step in steps:
+        state = state | step.changes
+        if step.operation:
+            found[step.operation.number] = (step, state)
+    return found
+
+
+def fact(what, step, state):
+    """Returns a fact of a state, in the words of WANTED."""
+    what, _, image = what.partition(" of ")
+    what, _, snap = what.partition(" at ")
+    at = f"a/{image or 1}"
+    lock, header = state.get(f"{at}/lock") or {}, state.get(f"{at}/header") or {}
+    kind, _, number = what.partition(" ")
+    there = state.get(f"{at}/data/{number}") or {"head": None, "kept": {}}
+    return {
+        "by": lambda: step.by or "end",
+        "slot": lambda: step.slot,
+        "owner": lambda: lock.get("owner"),
+        "asked": lambda: " ".join(map(str, lock.get("asked", []))),
+        "watched": lambda: " ".join(lock.get("watchers", [])),
+        "fenced": lambda: " ".join(state.get("a/fenced", [])),
+        "names": lambda: ", ".join(f"{name} {id}" for name, id in state.get("a/names", {}).items()),
+        "size": lambda: header.get("size"),
+        "snaps": lambda: ", ".join(f"{name} {id} {size}" for id, name, size in header.get("snaps", [])),
+        "state": lambda: state.get(f"{at}/map/{snap or 0}/{number}"),
+        "object": lambda: there["kept"].get(int(snap)) if snap else there["head"],
+    }[kind]()
+
+
+class Fold(unittest.TestCase):
+    def test_each_example_is_there(self):
+        self.assertEqual(sorted(WANTED), sorted(EXAMPLES + OTHERS))
+
+    def test_states(self):
+        for name, rows in WANTED.items():
+            found = behind(steps_of(name))
+            for row in rows.splitlines():
+                number, what, wanted = row.split(" | ")
+                got = fact(what, *found[number])
+                self.assertEqual("-" if got in (None, "") else str(got), wanted, f"{name}: {row}")
+
+    def test_notices(self):
+        for name in WANTED:
+            posted, came, last = {}, {}, None
+            steps = steps_of(name)
+            for step in steps:
+                last = step.operation.number if step.operation else last
+                for number in step.told.get("posted", []):
+                    posted[number] = last
+                if step.kind in ("heard", "lose"):
+                    came.setdefault(step.told["notice"], []).append(f"{step.kind} {last}")
+            state = {key: value for step in steps for key, value in step.changes.items()}
+            got = []
+            for number, operation in posted.items():
+                it = state[f"notice/{number}"]
+                got.append((number, it["from"], it["to"], it["kind"], operation, ", ".join(came.get(number, []))))
+            self.assertEqual(got, NOTICES.get(name, []), name)
+
+    def test_what_is_read_is_what_is_replied(self):
+        for name in WANTED:
+            trace, shown = example(name)[1], {}
+            for step in steps_of(name):
+                if "shown" in step.told:
+                    shown.setdefault(step.line, []).extend(step.told["shown"])
+            for reply in reading.trace_of(trace).replies:
+                if reply.line in shown:
+                    got = b"".join(data for _, data in sorted(shown[reply.line])).hex()
+                    self.assertEqual(reply.text, f"ok {got}", f"{name}, line {reply.line}")
+
+    def test_each_line_of_the_trace_is_one_step(self):
+        for name in WANTED:
+            trace, steps = reading.trace_of(example(name)[1]), steps_of(name)
+            places = [it.place for it in steps if it.place]
+            self.assertEqual(places, list(range(1, len(trace.history) + 1)), name)
+            logged = [it.operation.number for it in steps if it.operation]
+            self.assertEqual(logged, [it.number for site in "ab" for it in trace.logs[site]], name)
+
+    def test_the_trace_of_another_script(self):
+        one, other = example("handover"), example("lost-notice")
+        self.assertRaises(fold.NotOfThisScript, fold.steps, one[0], other[1])
+        self.assertRaises(fold.NotOfThisScript, fold.steps, other[0], one[1])
+
+    def test_a_session_that_nobody_polls_keeps_its_lock(self):
+        # The notice is posted and heard, and no slot 0 was polled: so it is asked, and has it still.
+        found = behind(steps_of("handover"))
+        self.assertEqual(found["a16"][1]["a/1/lock"], {"owner": "c1.0", "asked": [1], "watchers": ["c1.0", "c2.0"]})
+
+
+    def test_each_command_that_is_built_has_its_plan(self):
+        built = [it for it in lab_marks.COMMANDS if it not in lab_marks.UNBUILT]
+        built += [f"snap {it}" for it in lab_marks.BEHIND_SNAP if it not in lab_marks.UNBUILT]
+        self.assertEqual(sorted(fold.PLANS), sorted(built))
+
+
+class Records(unittest.TestCase):
+    def test_runs_are_bytes(self):
+        given = random.Random(50)
+        for _ in range(300):
+            runs, plain = (), bytearray(64)
+            for _ in range(8):
+                at, length = given.randrange(56), given.randrange(1, 8)
+                data = bytes(given.randrange(1, 256) for _ in range(length))
+                if given.random() < 0.6:
+                    runs, plain[at : at + length] = records.written(runs, at, data), data
+                else:
+                    runs, plain[at : at + length] = records.without(runs, at, length), bytes(length)
+                self.assertEqual(records.seen(runs, 0, 64), bytes(plain))
+                ends = [0, *(begin + len(data) for begin, data in runs)]
+                self.assertTrue(all(begin > end or not end for end, (begin, _) in zip(ends, runs)))
+
+    def test_an_object_keeps_what_snapshots_want(self):
+        it = records.DataObject()
+        it.change((1, [1]), ((0, b"\1"),))
+        self.assertEqual((it.view(1), it.view(None)), (None, ((0, b"\1"),)))
+        it.change((3, [3, 2]), ((0, b"\2"),))
+        self.assertEqual((it.view(2), it.view(3)), (((0, b"\1"),), ((0, b"\1"),)))
+        self.assertEqual(it.view(4), ((0, b"\2"),))
+        it.trim([3])
+        self.assertEqual((it.view(2), it.view(3)), (None, ((0, b"\1"),)))
+
+    def test_pieces_are_those_of_the_formulas(self):
+        loader = SourceFileLoader("striping", str(TOP / "scripts/striping"))
+        striping = module_from_spec(spec_from_loader("striping", loader))
+        loader.exec_module(striping)
+        given = random.Random(50)
+        for _ in range(200):
+            layout = (512 << given.randrange(4), 512, given.randrange(1, 5))
+            at, length = given.randrange(30_000), given.randrange(1, 9_000)
+            got = [(number, it) for number, parts in records.Layout(*layout).pieces(at, at + length) for it in parts]
+            wanted = {}
+            for number, offset, place, size in striping.parts(striping.Layout(*layout), at, length):
+                wanted |= {(number, offset + it, place + it): 1 for it in range(size)}
+            most = max(striping.place(striping.Layout(*layout), it)[0] for it in range(0, at + length, 512))
+            self.assertEqual(records.Layout(*layout).objects(at + length), most + 1)
+            bytes_got = {(number, o + it, p + it): 1 for number, (o, p, size) in got for it in range(size)}
+            self.assertEqual(bytes_got, wanted)
+
+    def test_bytes_in_short(self):
+        self.assertEqual(records.short(None), None)
+        self.assertEqual(records.short(()), "")
+        self.assertEqual(records.short(((3, b"\xaa" * 17),)), "3: 17 × aa")
+        self.assertEqual(records.short_bytes(bytes(range(17))), bytes(range(16)).hex() + ".. (17 bytes)")
+
+
+class Drawing(unittest.TestCase):
+    def test_a_mark_for_each_operation(self):
+        for name in EXAMPLES:
+            _, trace = example(name)
+            whole = xml.fromstring(drawing(name, picture.Picture).whole())
+            drawn = [it for it in whole.iter() if it.get("class", "").startswith("mark ")]
+            looks = {marks.look_of(it) for it in steps_of(name) if it.operation}
+            self.assertEqual(len(drawn) - len(looks), trace.count(b"\no "), name)
+
+    def test_looks(self):
+        steps = {it.operation.number: it for it in steps_of("stopped-owner") if it.operation}
+        looks = "a1 change, a5 look, a7 record, a10 change, a19 refused, a21 fence, a27 fenced, a33 notice"
+        for row in looks.split(", "):
+            number, look = row.split(" ")
+            self.assertEqual(marks.look_of(steps[number]), look, row)
+        causes = [it.cause for it in steps.values() if it.cause != "command"]
+        self.assertEqual(causes, ["store", "late", "house", "house"])
+
+    def test_the_legend_has_what_is_drawn(self):
+        for name, wanted in (("two-clients", ["a look that finds nothing"]), ("stopped-owner", ["fences an instance"])):
+            whole = drawing(name, picture.Picture).whole()
+            for said in ("a look that finds nothing", "fences an instance"):
+                self.assertEqual(f">{said}<" in whole, said in wanted, f"{name}: {said}")
+
+    def test_bands_say_who_has_the_lock(self):
+        whole = drawing("stopped-owner", picture.Picture)
+        spans = [who for who, _, _ in whole.spans("a/1/lock", lambda it: it and (it["owner"] or "free"))]
+        self.assertEqual(spans, ["free", "c1.0", "free", "c2.0", "free", "c1.1"])
+
+    def test_the_pictures_of_the_documents_are_those_of_today(self):
+        for name in EXAMPLES:
+            kept = (TOP / f"docs/pictures/{name}.svg").read_text()
+            self.assertTrue(kept == drawing(name, picture.Picture).whole(), f"draw docs/pictures/{name}.svg again")
+
+    def test_a_page_asks_for_nothing(self):
+        whole = drawing("stopped-owner", page.Page).whole()
+        for word in ("http:", "https:", "src=", "@import", "url("):
+            self.assertNotIn(word, whole.replace("http://www.w3.org/2000/svg", ""), word)
+
+    def test_names_may_not_end_the_script_of_a_page(self):
+        self.assertNotIn("</", drawing("first", page.Page).data())
+
+    def test_locks(self):
+        facts = locks.facts(reading.script_of(example("handover")[0]), steps_of("handover"))
+        self.assertEqual({line: texts for line, texts in facts.items() if texts}, LOCKS)
+
+
+class Wrapper(unittest.TestCase):
+    """scripts/lab over a program of `sh`, in a copy of its files."""
+
+    def setUp(self):
+        self.room = Path(tempfile.mkdtemp())
+        self.addCleanup(shutil.rmtree, self.room)
+        (self.room / "scripts").mkdir()
+        for name in ("lab", "lab_main.py", "lab_hints.py", "lab_marks.py"):
+            shutil.copy(TOP / "scripts" / name, self.room / "scripts" / name)
+        shutil.copytree(TOP / "scripts/lab_drawing", self.room / "scripts/lab_drawing")
+        self.script, trace = example("handover")
+        (self.room / "trace").write_bytes(trace)
+        (self.room / "script").write_bytes(self.script)
+        self.program(f"cat >/dev/null; [ \"$*\" = 'run --trace' ] && cat {self.room}/trace")
+
+    def program(self, text):
+        """Has this program of `sh` stand for the proved one."""
+        for path, said in (("program", text), ("scripts/proved", f"echo {self.room}/program")):
+            (self.room / path).write_text(f"#!/bin/sh\n{said}\n")
+            (self.room / path).chmod(0o755)
+
+    def lab(self, *words, script=b""):
+        """Runs scripts/lab."""
+        how = {"input": script, "capture_output": True, "timeout": 60, "cwd": self.room}
+        return subprocess.run([self.room / "scripts/lab", *words], **how)
+
+    def test_draw_prints_a_page(self):
+        ran = self.lab("draw", "script")
+        self.assertEqual((ran.returncode, ran.stdout[:15]), (0, b"<!DOCTYPE html>"))
+        given = self.lab("draw", script=self.script)
+        self.assertEqual(ran.stdout, given.stdout.replace(b">a script<", b">script<"))
+
+    def test_draw_makes_a_file(self):
+        for name, first in (("out.html", b"<!DOCTYPE html>"), ("out.svg", b"<svg ")):
+            ran = self.lab("draw", *(("script", "-o", name) if name == "out.svg" else ("-o", name, "script")))
+            self.assertEqual((ran.returncode, ran.stdout), (0, b""))
+            self.assertTrue((self.room / name).read_bytes().startswith(first))
+
+    def test_draw_into_no_folder(self):
+        ran = self.lab("draw", "script", "-o", "none/out.html")
+        self.assertEqual(ran.returncode, 4)
+        self.assertIn(b"none/out.html cannot be written", ran.stderr)
+
+    def test_draw_of_a_fault(self):
+        self.program("echo 'line 2: missing part'; exit 2")
+        ran = self.lab("draw", script=b"client c1 a\nc1\n")
+        self.assertEqual((ran.returncode, ran.stdout), (2, b""))
+        self.assertIn(b"lab: 2 | c1\n", ran.stderr)
+
+    def test_draw_of_another_trace(self):
+        ran = self.lab("draw", script=b"client c1 a\nc1 ls\n")
+        self.assertEqual((ran.returncode, ran.stdout), (70, b""))
+        self.assertIn(b"the trace is not understood", ran.stderr)
+
+    def test_draw_asked_wrongly(self):
+        for words in (("draw", "a", "b"), ("draw", "-o"), ("show", "--locks", "a", "b")):
+            self.assertEqual(self.lab(*words).returncode, 1, words)
+
+    def test_show_with_locks(self):
+        ran = self.lab("show", "--locks", "script")
+        self.assertEqual(ran.returncode, 0)
+        said = ran.stdout.decode()
+        self.assertIn("13  @deliver 1\n    -- c1.0 hears notice 1\n", said)
+        self.assertIn("18  c1 read disk 0 2\n    => ok 1122\n", said)
+        self.assertTrue(said.endswith("    (the rounds at the end)\n    -- c2.0 hears notice 2\n"))
+
+
+if __name__ == "__main__":
+    unittest.main()
