@@ -1,6 +1,6 @@
 mod Built
 mod Complete
+mod Generated
+mod Played
 mod Shown
 mod Taken
-mod Told
-mod WordLists

@@ -10,10 +10,9 @@ use Rattle.rbd_script.specs.declared.fault.LineFault.{LineFault}
 use Rattle.rbd_script.specs.declared.script.Script.{Script}
 use Rattle.rbd_script.specs.Reading.{limit, lines_before, no_script, too_long, reading, with_lines}
 use Rattle.rbd_script.specs.Token.{lines_of, without_last}
-use Rattle.rbd_lab.specs.Run.{Answers, AreRun, IsComplaint, IsOutput, IsText, Prints, PrintsFront, words_of}
+use Rattle.rbd_lab.specs.Run.{Answers, IsComplaint, IsOutput, IsText, Prints, PrintsFront}
 use Rattle.rbd_lab.specs.Script.{if_built, judged}
-use Rattle.rbd_lab.specs.declared.mode.Mode.{Mode}
-use Rattle.rbd_lab.specs.declared.mode.Mode.TheVariants.{Replies, Trace}
+use Rattle.rbd_words.specs.declared.asked.Mode.{Mode}
 use Rattle.rbd_lab.specs.declared.run.Status.{Status}
 use Rattle.rbd_lab.specs.declared.run.Status.TheVariants.{Done, Usage, BadLine, ReadFault, WriteFault, NoMemory}
 
@@ -55,8 +54,8 @@ few_bytes bytes script is = go (cases (length bytes))
     go (inl few) = few
     go (inr long) = absurd (refused (length (lines_before bytes)) (with_lines false 1 no_script (lines_before bytes)) script (ap if_built (sym (past bytes long)) ∙ is))
 
-output_of_taken : (words : List (List ℕ)) (bytes text : List ℕ) → IsOutput words (take (limit + 1) bytes) text → IsOutput words bytes text
-output_of_taken words bytes text is = record { mode = is.mode; asked = is.asked; script = is.script; is_script = sym (same_judged bytes) ∙ is.is_script; told = is.told }
+output_of_taken : (mode : Mode) (bytes text : List ℕ) → IsOutput mode (take (limit + 1) bytes) text → IsOutput mode bytes text
+output_of_taken mode bytes text is = record { script = is.script; is_script = sym (same_judged bytes) ∙ is.is_script; told = is.told }
 
 complaint_of_taken : (bytes text : List ℕ) → IsComplaint (take (limit + 1) bytes) text → IsComplaint bytes text
 complaint_of_taken bytes text is = record { fault = is.fault; faulty = sym (same_judged bytes) ∙ is.faulty; output = is.output }
@@ -65,11 +64,11 @@ complaint_of_taken bytes text is = record { fault = is.fault; faulty = sym (same
 abbrev pub Took : List ℕ → Option (List ℕ) → Type 0
 Took taken left = IfSome left (λ bytes. taken ≡ take (limit + 1) bytes)
 
-pub done_told : (words : List (List ℕ)) (left left' held held' : Option (List ℕ)) (taken text : List ℕ) → Took taken left → left' ≡ left_after (limit + 1) left → IsOutput words taken text → held' ≡ held_with text held
-    → IfSome left (λ bytes. Prints (IsOutput words bytes) held held' × (left' ≡ Some []))
-done_told words None left' held held' taken text took rest is gained = tt
-done_told words (Some bytes) left' held held' taken text took rest is gained =
-    let all = output_of_taken words bytes text (subst (λ b. IsOutput words b text) took is) in
+pub done_told : (mode : Mode) (left left' held held' : Option (List ℕ)) (taken text : List ℕ) → Took taken left → left' ≡ left_after (limit + 1) left → IsOutput mode taken text → held' ≡ held_with text held
+    → IfSome left (λ bytes. Prints (IsOutput mode bytes) held held' × (left' ≡ Some []))
+done_told mode None left' held held' taken text took rest is gained = tt
+done_told mode (Some bytes) left' held held' taken text took rest is gained =
+    let all = output_of_taken mode bytes text (subst (λ b. IsOutput mode b text) took is) in
     let few : length bytes ≤ limit = few_bytes bytes all.script all.is_script in
     ((text, all, gained), rest ∙ ap Some (drop_all (limit + 1) bytes (omega arith)))
 
@@ -79,25 +78,24 @@ complaint_told None left' held held' taken text took rest is gained = tt
 complaint_told (Some bytes) left' held held' taken text took rest is gained =
     ((text, complaint_of_taken bytes text (subst (λ b. IsComplaint b text) took is), gained), rest)
 
-text_of_taken : (words : List (List ℕ)) (bytes text : List ℕ) (status : Status) → AreRun words → Answers words (take (limit + 1) bytes) status text → IsText words bytes text
-text_of_taken words bytes text Done are is = inl (output_of_taken words bytes text is)
-text_of_taken words bytes text BadLine are is = inr (complaint_of_taken bytes text is)
-text_of_taken words bytes text Usage are is = absurd is
-text_of_taken words bytes text ReadFault are is = absurd is
-text_of_taken words bytes text WriteFault are is = absurd is
-text_of_taken words bytes text NoMemory are is = absurd is
+text_of_taken : (mode : Mode) (bytes text : List ℕ) (status : Status) → Answers mode (take (limit + 1) bytes) status text → IsText mode bytes text
+text_of_taken mode bytes text Done is = inl (output_of_taken mode bytes text is)
+text_of_taken mode bytes text BadLine is = inr (complaint_of_taken bytes text is)
+text_of_taken mode bytes text Usage is = absurd is
+text_of_taken mode bytes text ReadFault is = absurd is
+text_of_taken mode bytes text WriteFault is = absurd is
+text_of_taken mode bytes text NoMemory is = absurd is
 
-pub front_told : (words : List (List ℕ)) (left held held' : Option (List ℕ)) (taken text : List ℕ) (status : Status) → AreRun words → Took taken left → Answers words taken status text → GainsFront text held held'
-    → AreRun words × IfSome left (λ bytes. PrintsFront (IsText words bytes) held held')
-front_told words None held held' taken text status are took is front = (are, tt)
-front_told words (Some bytes) held held' taken text status are took is front =
-    (are, (text, text_of_taken words bytes text status are (subst (λ b. Answers words b status text) took is), front))
+pub front_told : (mode : Mode) (left held held' : Option (List ℕ)) (taken text : List ℕ) (status : Status) → Took taken left → Answers mode taken status text → GainsFront text held held'
+    → IfSome left (λ bytes. PrintsFront (IsText mode bytes) held held')
+front_told mode None held held' taken text status took is front = tt
+front_told mode (Some bytes) held held' taken text status took is front =
+    (text, text_of_taken mode bytes text status (subst (λ b. Answers mode b status text) took is), front)
 
 -- an answer is never a write fault
-pub no_write_fault : (words : List (List ℕ)) (bytes text : List ℕ) (status : Status) → Answers words bytes status text → status ≡ WriteFault → ⊥
-no_write_fault words bytes text status is same = subst (λ st. Answers words bytes st text) same is
+pub no_write_fault : (mode : Mode) (bytes text : List ℕ) (status : Status) → Answers mode bytes status text → status ≡ WriteFault → ⊥
+no_write_fault mode bytes text status is same = subst (λ st. Answers mode bytes st text) same is
 
--- the words of a mode are built
-pub mode_is_run : (words : List (List ℕ)) (mode : Mode) → words ≡ words_of mode → AreRun words
-mode_is_run words Replies is = inl is
-mode_is_run words Trace is = inr is
+-- nor is it the usage line
+pub no_usage : (mode : Mode) (bytes text : List ℕ) (status : Status) → Answers mode bytes status text → status ≡ Usage → ⊥
+no_usage mode bytes text status is same = subst (λ st. Answers mode bytes st text) same is

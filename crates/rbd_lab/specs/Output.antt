@@ -4,6 +4,8 @@ use Rattle.rbd_admin.specs.Create.{rest_of_create}
 use Rattle.rbd_admin.specs.declared.create.CreateRequest.{CreateRequest}
 use Rattle.rbd_ends.specs.OneChanger.{AreAllReplied, HasOneChanger}
 use Rattle.rbd_flat.specs.declared.entry.Entry.{Entry}
+use Rattle.rbd_generate.specs.Generated.{script_of}
+use Rattle.rbd_generate.specs.Summary.{summary_text}
 use Rattle.rbd_kinds.specs.declared.id.SiteId.TheVariants.{A, B}
 use Rattle.rbd_machine.specs.Plan.{Standing, without_labels}
 use Rattle.rbd_replies.specs.Fenced.{AtEachOperation, IsStoppedByTheFence, IsTheOwners}
@@ -17,9 +19,10 @@ use Rattle.rbd_schedule.specs.Playing.{IsPlay}
 use Rattle.rbd_script.specs.declared.script.Script.{Script}
 use Rattle.rbd_site.specs.declared.done.Done.{Done}
 use Rattle.rbd_text.specs.Text.{replies_text, trace_text}
+use Rattle.rbd_words.specs.declared.asked.Mode.{Mode}
+use Rattle.rbd_words.specs.declared.asked.Mode.TheVariants.{Replies, Trace}
+use Rattle.rbd_words.specs.declared.load.Load.{Load}
 use Rattle.rbd_world.specs.World.{WorldView, site_in}
-use Rattle.rbd_lab.specs.declared.mode.Mode.{Mode}
-use Rattle.rbd_lab.specs.declared.mode.Mode.TheVariants.{Replies, Trace}
 
 -- the requests of the program's sessions, and where each stands
 abbrev pub Requests : Type 0
@@ -36,15 +39,14 @@ told_text Trace script history a b = trace_text script history a b
 abbrev pub text_of : Mode → Script → WorldView Requests → List ℕ
 text_of mode script w = told_text mode script w.history (site_in A w.sites).log (site_in B w.sites).log
 
--- The text tells a world that the script's schedule led to, from a new one on: its history, its
--- logs and its replies. Each reply in this history is the flat-copy machine's, at its place. No
--- operation of a fenced instance changes anything; who changes an image that has a header has its
--- lock, and no lock is broken whose owner isn't fenced. The commands of a session that wait for
--- each other come one after another. At the end nothing goes on any more: each command that was
--- begun has its reply, or is lost, or is held up at a lock, or stands behind such a one; and where
--- one session alone changes images (`HasOneChanger`), each command has its reply.
-pub record IsTold (mode : Mode) (script : Script) (text : List ℕ) : Type 0 where
-  pub world : WorldView Requests
+-- The script's schedule led to the world, from a new one on: to its history, its logs and its
+-- replies. Each reply in this history is the flat-copy machine's, at its place. No operation of a
+-- fenced instance changes anything; who changes an image that has a header has its lock, and no lock
+-- is broken whose owner isn't fenced. The commands of a session that wait for each other come one
+-- after another. At the end nothing goes on any more: each command that was begun has its reply, or
+-- is lost, or is held up at a lock, or stands behind such a one; and where one session alone changes
+-- images (`HasOneChanger`), each command has its reply.
+pub record IsPlayed (script : Script) (world : WorldView Requests) : Type 0 where
   pub play : IsPlay stands script world
   pub replies : All (IsToldIn play.sound.run) world.history
   pub fences : AtEachOperation IsStoppedByTheFence play.sound.run
@@ -52,4 +54,15 @@ pub record IsTold (mode : Mode) (script : Script) (text : List ℕ) : Type 0 whe
   pub turns : (session : ℕ) → AreInTurn (given_in script.lines session) world.history
   pub ends : HasCalmed stands script world
   pub over : HasOneChanger script → AreAllReplied script world
+
+-- The text tells a world to which the script was played.
+pub record IsTold (mode : Mode) (script : Script) (text : List ℕ) : Type 0 where
+  pub world : WorldView Requests
+  pub played : IsPlayed script world
   pub tells : text ≡ text_of mode script world
+
+-- The text sums up a world to which the generated script was played.
+pub record IsSummed (load : Load) (text : List ℕ) : Type 0 where
+  pub world : WorldView Requests
+  pub played : IsPlayed (script_of load) world
+  pub tells : text ≡ summary_text (script_of load) world.history

@@ -5,9 +5,9 @@ ghost use Rattle.rbd_lab.specs.declared.run.Status.{Status};
 
 use rbd_edge::Source;
 
-/// Where the words are built, the source shows a script of built forms, and no device counted a
-/// fault in the run, it is done, or memory was refused. So no other end is left to a run that
-/// nothing outside hinders.
+/// Where the words are understood, no device counted a fault in the run and, where a script is to be
+/// read, the source shows one of built forms, it is done, or memory was refused. So no other end is
+/// left to a run that nothing outside hinders.
 pub fn runs_end_done<S: Source>()
     ensures { (words : List (List ℕ)) (status : Status) (source source' : S) (old new : Devices)
         → IsRun words status source source' old new → IsUnhindered words old new → IsDoneOrRefused status }

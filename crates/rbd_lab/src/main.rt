@@ -8,7 +8,15 @@
 //! 4 c1 ok 68656c6c6f
 //! ```
 //!
-//! The script is read from the standard input to its end and judged as a whole: one that has a
+//! With `gen` a script is drawn by a few numbers in place of being read, and one line sums up what
+//! came of it.
+//!
+//! ```text
+//! $ rbd_lab gen --seed 0 --clients 1 --commands 4
+//! commands 5 ok 5 refused 0 unfinished 0 read 64
+//! ```
+//!
+//! With `run` the script is read from the standard input to its end and judged as a whole: one that has a
 //! faulty line, or a form that isn't built yet, plays nothing. Its sessions then do their commands
 //! by single operations on single objects of two sites, in the order that the script says. The
 //! replies are printed at the end, all of them or, where the output fails, a first part. With
@@ -17,6 +25,7 @@
 //! ```text
 //! Source -> read_to -> read -> judged -> play -> replies, trace -> write_all -> Sink
 //!           bytes      script            world            text
+//!           words  -> generated -> play -> summary -> write_all -> Sink
 //! ```
 //!
 //! [`run::run_alone`] has the contract: what is printed tells a world to which the script's
@@ -46,7 +55,6 @@ use std::rt::Env;
 use std::{env, io};
 
 mod laws;
-mod mode;
 mod play;
 mod run;
 mod script;

@@ -1,18 +1,21 @@
 //! Plays a script, and tells the play.
 ghost use Rattle.std.specs.Prelude.{◌≡◌, IfOk};
+ghost use Rattle.rbd_generate.specs.Summary.{summary_text};
 ghost use Rattle.rbd_text.specs.Text.{AreShown};
 ghost use Rattle.rbd_schedule.specs.InOrder.{AreInOrder};
 ghost use Rattle.rbd_schedule.specs.Playing.{IsPlayable};
-ghost use Rattle.rbd_lab.specs.Output.{text_of, told_text, IsTold};
+ghost use Rattle.rbd_words.specs.Load.{IsLoad};
+ghost use Rattle.rbd_lab.specs.Output.{text_of, told_text, IsSummed, IsTold};
 
-use crate::mode::Mode;
 use rbd_admin::CreateRequest;
 use rbd_flat::Entry;
+use rbd_generate::{generated, summary};
 use rbd_kinds::{NoMemory, SiteId};
 use rbd_schedule::play;
 use rbd_script::Script;
 use rbd_site::Done;
 use rbd_text::{replies, trace};
+use rbd_words::{Load, Mode};
 use rbd_world::World;
 use std::alloc::Global;
 
@@ -27,6 +30,25 @@ pub fn output(alloc: Global, mode: Mode, script: &Script) -> Result<Vec<u8>, NoM
     let text = tell_world(alloc, mode, script, &world);
     world.close();
     text
+}
+
+/// The summary of the script that is generated.
+pub fn summed(alloc: Global, load: &Load) -> Result<Vec<u8>, NoMemory>
+    requires { IsLoad load.now }
+    ensures { IfOk result (λ text. IsSummed load.now text.items) }
+{
+    let script = generated(alloc, load)?;
+    let world: World<CreateRequest> = play(alloc, &script)?;
+    let text = sum_up(alloc, &script, &world);
+    world.close();
+    text
+}
+
+/// The summary of a world.
+fn sum_up(alloc: Global, script: &Script, world: &World<CreateRequest>) -> Result<Vec<u8>, NoMemory>
+    ensures { IfOk result (λ text. text.items ≡ summary_text script.now world.now.history) }
+{
+    summary(alloc, script, world.history())
 }
 
 /// The text of a world.

@@ -2,15 +2,16 @@
 ghost use Rattle.std.specs.Prelude.{◌≡◌, ◌≢◌, ◌+◌, ◌-◌, ◌^◌, ◌<◌, map, IfOk};
 ghost use Rattle.std.specs.String.{string_bytes};
 ghost use Rattle.rbd_edge.specs.Sink.{held_with, GainsFront};
-ghost use Rattle.rbd_lab.specs.Run.{devices, Answers, IsRun, code_of, words_of};
+ghost use Rattle.rbd_words.specs.Load.{IsLoad};
+ghost use Rattle.rbd_lab.specs.Run.{devices, Answers, IsLoadRun, IsRun, IsScriptRun, code_of};
 
-use crate::mode::Mode;
-use crate::play::output;
+use crate::play::{output, summed};
 use crate::script::{fault_line, judged};
 use rbd_edge::{ReadFault, Sink, Source, read_to, write_all};
 use rbd_kinds::NoMemory;
 use rbd_script::{SCRIPT_LIMIT, ScriptFault};
 use rbd_text::usage;
+use rbd_words::{Asked, Load, Mode};
 use std::alloc::Global;
 use std::sync::Wait;
 use std::thread::Threads;
@@ -67,8 +68,9 @@ pub fn run<R: Threads + Wait + Sync, S: Source, K: Sink>(
 /// Runs the program: the words without the program's name, a source that has the script, and a sink
 /// for all that is printed.
 ///
-/// The script is read to its end, or to one byte past the limit, before it is judged; a script that
-/// isn't one plays nothing. What is printed is whole before printing begins.
+/// A script is read to its end, or to one byte past the limit, before it is judged; one that isn't
+/// one plays nothing. Where the words don't ask for a script, the source is left as it is. What is
+/// printed is whole before printing begins.
 pub fn run_alone<S: Source, K: Sink>(
     alloc: Global,
     words: &[String],
@@ -79,9 +81,19 @@ pub fn run_alone<S: Source, K: Sink>(
     requires sink_countable { K.faults sink.old < 2 ^ 64 - 1 }
     ensures { IsRun (map (λ w. string_bytes w) words.now) result source.old source.new (devices (S.left source.old) (K.held sink.old) (S.faults source.old) (K.faults sink.old)) (devices (S.left source.new) (K.held sink.new) (S.faults source.new) (K.faults sink.new)) }
 {
-    let Some(mode) = Mode::asked(words) else {
-        return print(sink, usage().as_bytes(), Status::Usage);
-    };
+    match Asked::of(words) {
+        None => print(sink, usage().as_bytes(), Status::Usage),
+        Some(Asked::Run(mode)) => run_script(alloc, mode, source, sink),
+        Some(Asked::Generate(load)) => run_load(alloc, &load, sink),
+    }
+}
+
+/// Plays the script that the source has.
+fn run_script<S: Source, K: Sink>(alloc: Global, mode: Mode, source: &mut S, sink: &mut K) -> Status
+    requires source_countable { S.faults source.old < 2 ^ 64 - 1 }
+    requires sink_countable { K.faults sink.old < 2 ^ 64 - 1 }
+    ensures { IsScriptRun mode result (devices (S.left source.old) (K.held sink.old) (S.faults source.old) (K.faults sink.old)) (devices (S.left source.new) (K.held sink.new) (S.faults source.new) (K.faults sink.new)) }
+{
     let bytes = match read_to(alloc, source, SCRIPT_LIMIT + 1) {
         Ok(bytes) => bytes,
         Err(ReadFault::Failed) => return Status::ReadFault,
@@ -89,6 +101,18 @@ pub fn run_alone<S: Source, K: Sink>(
     };
     match answer(alloc, mode, bytes.as_slice()) {
         Ok((status, text)) => print(sink, text.as_slice(), status),
+        Err(NoMemory) => Status::NoMemory,
+    }
+}
+
+/// Plays the script that is generated.
+fn run_load<K: Sink>(alloc: Global, load: &Load, sink: &mut K) -> Status
+    requires load { IsLoad load.now }
+    requires sink_countable { K.faults sink.old < 2 ^ 64 - 1 }
+    ensures { IsLoadRun load.now result (K.held sink.old) (K.held sink.new) (K.faults sink.old) (K.faults sink.new) }
+{
+    match summed(alloc, load) {
+        Ok(text) => print(sink, text.as_slice(), Status::Done),
         Err(NoMemory) => Status::NoMemory,
     }
 }
@@ -107,7 +131,7 @@ fn print<K: Sink>(sink: &mut K, text: &[u8], status: Status) -> Status
 
 /// What is to be printed for the bytes of a source, and the status that goes with it.
 fn answer(alloc: Global, mode: Mode, bytes: &[u8]) -> Result<(Status, Vec<u8>), NoMemory>
-    ensures { IfOk result (λ x. Answers (words_of mode) bytes.now x.0 x.1.items) }
+    ensures { IfOk result (λ x. Answers mode bytes.now x.0 x.1.items) }
 {
     match judged(alloc, bytes) {
         Ok(script) => Ok((Status::Done, output(alloc, mode, &script)?)),

@@ -3,7 +3,7 @@ use Rattle.std.proofs.lemmas.Result.{IfOk-weaker}
 use Rattle.rbd_replies.proofs.HeadersShown.{world_in_form}
 use Rattle.rbd_lab.specs.Output.{IsTold, stands, text_of}
 use Rattle.rbd_lab.proofs.Shown.{history_shown}
-use Rattle.rbd_lab.proofs.Told.{told}
+use Rattle.rbd_lab.proofs.Played.{played}
 use Rattle.rbd_lab.proofs.play.output.Goals as goal
 
 pub tell_world-text-requires : goal.tell_world-text-requires
@@ -14,5 +14,9 @@ returns c =
     IfOk-weaker c.tell_world-text.result
     (λ text. text.items ≡ text_of c.args.mode c.args.script.now c.in_ok-world.world)
     (λ text. IsTold c.args.mode c.args.script.now text.items)
-    (λ text. told c.args.mode c.args.script.now c.in_ok-world.world c.requires.playable c.requires.in_order c.in_ok-world.ensures.play c.in_ok-world.ensures.few text.items)
+    (λ text is. record {
+      world = c.in_ok-world.world;
+      played = played c.args.script.now c.in_ok-world.world c.requires.playable c.requires.in_order c.in_ok-world.ensures.play c.in_ok-world.ensures.few;
+      tells = is;
+    })
     c.tell_world-text.ensures

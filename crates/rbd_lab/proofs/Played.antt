@@ -1,5 +1,5 @@
--- The text of a play's world tells the play.
-use Rattle.std.proofs.Common.{◌≡◌, ℕ, ◌<◌, ◌^◌, List, length}
+-- What holds of the world of a play.
+use Rattle.std.proofs.Common.{◌<◌, ◌^◌, length}
 use Rattle.rbd_ends.proofs.Over.{changes_are_over}
 use Rattle.rbd_replies.proofs.AtPlaces.{fences_hold, locks_hold}
 use Rattle.rbd_replies.proofs.Worlds.{told_in_world}
@@ -9,13 +9,10 @@ use Rattle.rbd_schedule.proofs.Calmed.{plays_rest}
 use Rattle.rbd_schedule.proofs.Turns.{play_takes_turns}
 use Rattle.rbd_script.specs.declared.script.Script.{Script}
 use Rattle.rbd_world.specs.World.{WorldView}
-use Rattle.rbd_lab.specs.Output.{IsTold, Requests, stands, text_of}
-use Rattle.rbd_lab.specs.declared.mode.Mode.{Mode}
+use Rattle.rbd_lab.specs.Output.{IsPlayed, Requests, stands}
 
-pub told : (mode : Mode) (script : Script) (w : WorldView Requests) → IsPlayable script → AreInOrder script.lines → IsPlay stands script w → length w.calls < 2 ^ 59
-    → (text : List ℕ) → text ≡ text_of mode script w → IsTold mode script text
-told mode script w playable in_order play few text is = record {
-  world = w;
+pub played : (script : Script) (w : WorldView Requests) → IsPlayable script → AreInOrder script.lines → IsPlay stands script w → length w.calls < 2 ^ 59 → IsPlayed script w
+played script w playable in_order play few = record {
   play = play;
   replies = told_in_world stands w play.sound;
   fences = fences_hold play.sound.homes play.sound.run play.sound.right;
@@ -23,5 +20,4 @@ told mode script w playable in_order play few text is = record {
   turns = play_takes_turns stands script w play in_order;
   ends = plays_rest stands script w play few;
   over = λ one. (changes_are_over stands script w playable one play few).1;
-  tells = is;
 }

@@ -1,0 +1,10 @@
+use Rattle.std.proofs.Common.{◌≡◌, ◌≤◌, take}
+use Rattle.std.specs.Prelude.{count_by}
+use Rattle.rbd_generate.specs.Summary.{refuses}
+use Rattle.rbd_generate.proofs.tally.refused_in.Given as goal
+
+abbrev pub invariant-loop-entry : goal.invariant-loop-entry
+invariant-loop-entry l = record {
+  counted : l.count ≡ count_by refuses (take l.entry-index l.fn.history);
+  few : l.count ≤ l.entry-index;
+}

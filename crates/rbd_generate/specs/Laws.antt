@@ -1,0 +1,40 @@
+-- What holds of each script that is generated.
+use Rattle.std.specs.Prelude.{◌≡◌, ℕ, ◌+◌, ◌≤◌, Bool, true, false}
+use Rattle.rbd_commands.specs.declared.command.Command.{Command}
+use Rattle.rbd_commands.specs.declared.command.Command.TheVariants as command
+use Rattle.rbd_script.specs.declared.script.Line.{Line}
+use Rattle.rbd_script.specs.declared.script.Said.{Said}
+use Rattle.rbd_script.specs.declared.script.Said.TheVariants as said
+use Rattle.rbd_generate.specs.Generated.{image_size}
+
+-- ---- how many
+
+abbrev pub makes : Command → Bool
+makes (command.Create image size shape) = true
+makes c = false
+
+abbrev pub says_create : Said → Bool
+says_create (said.Command session beside c) = makes c
+says_create s = false
+
+-- a line in which an image is made
+abbrev pub makes_image : Line → Bool
+makes_image line = says_create line.said
+
+-- ---- where
+
+-- The bytes lie inside an image, and there are some.
+abbrev pub IsInside : (at len : ℕ) → Type 0
+IsInside at len = (1 ≤ len) × (at + len ≤ image_size)
+
+-- The command makes an image of that size, or is about bytes inside one. There are no others.
+abbrev pub StaysInside : Command → Type 0
+StaysInside (command.Create image size shape) = size ≡ image_size
+StaysInside (command.Fill image at len byte) = IsInside at len
+StaysInside (command.Read image snap at len) = IsInside at len
+StaysInside (command.Discard image at len) = IsInside at len
+StaysInside c = ⊥
+
+abbrev pub SaysInside : Said → Type 0
+SaysInside (said.Command session beside c) = StaysInside c
+SaysInside s = Unit {0}
