@@ -2,15 +2,29 @@
 
 `rt try` builds a program without proof, runs it and keeps nothing. In a copy of the kit, made of
 links, in which one tool of the toolchain is a script of ours, what it builds can be kept: the
-script takes it on its way, and then does what the tool does.
+script takes it on its way.
 """
 import functools
 import importlib.machinery
 import importlib.util
 import shutil
+import subprocess
 import sys
 from pathlib import Path
 
+TARGET = "x86_64-unknown-linux-gnu"
+# How a module is compiled, so that it runs fast.
+FAST = (f"--target={TARGET}", "--no-default-config", "-march=x86-64")
+FAST += ("-ffunction-sections", "-fdata-sections", "-fPIE", "-O2")
+# The clang of the kit's copy: it keeps the module of which `rt try` makes its program with the
+# search for bad addresses, and ends `rt try` there.
+CLANG = """\
+#!/bin/sh
+case "$*" in
+*-fsanitize=address*) cp module.bc "MADE"; exit 1 ;;
+esac
+exec "{tool}" "$@"
+"""
 # How much of the memory that the kit guesses a check takes: the most that was seen, of any crate.
 TAKEN = 0.75
 
@@ -66,3 +80,31 @@ def copy_of_kit(room, tool, script):
     ours.write_text(script.replace("{tool}", str(old / "toolchain/bin" / tool)))
     ours.chmod(0o755)
     return new / "bin/rt"
+
+
+class NotBuilt(Exception):
+    """Why there is no program."""
+
+
+def run(words, why, **more):
+    """Runs a command; raises with what it says where it fails."""
+    ran = subprocess.run(words, stdin=subprocess.DEVNULL, capture_output=True, text=True, **more)
+    if ran.returncode:
+        raise NotBuilt(f"{why}\n{ran.stderr.rstrip()}")
+
+
+def fast_program(room, crate, program):
+    """Builds the program of a crate without proof, below a folder of the same disk: the module of
+    `rt try`, which has a test at each index and sum, compiled with -O2 and without the search for
+    bad addresses."""
+    module, code, linked = (Path(room, it) for it in ("module.bc", "module.o", "linked"))
+    rt = copy_of_kit(room, "clang", CLANG.replace("MADE", str(module)))
+    ran = subprocess.run([rt, "try"], cwd=crate, stdin=subprocess.DEVNULL, capture_output=True, text=True)
+    if not module.exists():
+        raise NotBuilt(f"rt try did not build it\n{ran.stderr.rstrip()}")
+    chain = kit() / "toolchain"
+    run([chain / "bin/clang", *FAST, "-c", "-x", "ir", module, "-o", code], "its module is not compiled")
+    words = [kit() / "bin/rattle-link", "--target", TARGET, "--toolchain", chain, "-o", linked, code]
+    run([*words, kit() / "c/libos_c.a", kit() / "c/liblibc_c.a"], "it is not linked")
+    # Another call may build the same: none sees half of a program.
+    linked.replace(program)

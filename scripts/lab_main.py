@@ -1,9 +1,9 @@
 """What `scripts/lab` does. Its words, and what it promises, are in the text that it prints for
 `--help`."""
 import contextlib
+import errno
 import os
 import re
-import select
 import signal
 import subprocess
 import sys
@@ -12,15 +12,19 @@ from pathlib import Path
 from typing import NamedTuple
 
 sys.dont_write_bytecode = True
-from lab_hints import drawn, explained
+from lab_hints import drawn, faulty_lines, guess
 from lab_marks import LIMIT
 
 TOP = Path(__file__).resolve().parent.parent
 HELP = """\
 Plays a script on rbd_lab, on a fresh machine too: what is missing is built.
 
-  scripts/lab run < SCRIPT           prints the replies
-  scripts/lab run --trace < SCRIPT   prints the history and the logs, and then the replies
+  scripts/lab run [FILE..]           prints the replies, of several scripts one after another; of
+                                     standard input where there is no FILE, or it is -
+    --trace                          prints the history and the logs before them
+    --strict                         ends with status 6 where a command was refused or has no reply
+  scripts/lab gen --seed N --clients C --commands K
+                                     plays a script that these numbers draw, and sums it up
   scripts/lab show [FILE]            prints each line of a script, or of standard input, with its
                                      reply under it; where replies came in another order than their
                                      lines stand, `(reply 3)` is the third that came
@@ -30,27 +34,36 @@ Plays a script on rbd_lab, on a fresh machine too: what is missing is built.
                                      a browser opens: a row that is chosen shows the state there;
                                      where OUT ends with .svg, as a picture; without -o on standard
                                      output
-  scripts/lab -h | --help            prints this
-  scripts/lab --version              prints which sources these are
+  scripts/lab help | -h | --help     prints this
+  scripts/lab version | -V           prints which sources these are
 
 All other words go to the program as they are. Standard output is the program's alone, and so is
-the exit status. Standard error says which build ran: the proved one (scripts/proved), or else one
-that was built without proof (scripts/unproved; a minute or two, once) and runs with checks: it
-takes milliseconds for a command, where the proved one takes microseconds.
-Where a line of the script doesn't fit, standard error also shows the line, with a mark under the
-word that is meant, and with what may help.
+the exit status, but for 6 and 70. Standard error has what is meant for a person. It says which
+build ran: the proved one (scripts/proved), or else one that was built without proof
+(scripts/unproved; a minute or two, once). It shows the lines of a script that don't fit, with marks
+under the words that are meant, and what may help there and with replies; on a terminal, of a run
+that takes long, how long it is.
 
-Exit status: that of the program
-  0   the script was played            3   the script couldn't be read
-  1   the words aren't understood      4   the output couldn't be written
-  2   a line of the script doesn't fit 5   there was no memory
-or 70 where there is no program, or it gave no answer."""
+Exit status: that of the program, of several scripts that of the first one that isn't 0
+  0   the script was played            4   the output couldn't be written
+  1   the words aren't understood      5   there was no memory
+  2   a line of the script doesn't fit 6   with --strict: it was played, and not all was done
+  3   the script couldn't be read      70  there is no program, or it gave no answer"""
 # Where the script comes from: scripts/lab puts its standard input there.
 SCRIPT = 3
 # How `show` is asked for it.
 STANDARD_INPUT = ("-", "/dev/stdin", "/dev/fd/0")
-NOT_UNDERSTOOD, BAD_LINE, UNREADABLE, UNWRITABLE, NO_ANSWER = 1, 2, 3, 4, 70
+NOT_UNDERSTOOD, BAD_LINE, UNREADABLE, UNWRITABLE, NOT_ALL_DONE, NO_ANSWER = 1, 2, 3, 4, 6, 70
 FAULT = re.compile(rb"line ([0-9]+): ([a-z ]+)\n")
+# A command that was refused or has no reply.
+BAD_REPLY = re.compile(rb"^[0-9]+ [a-z][a-z0-9]* (error|lost|unfinished|unsent)\b", re.M)
+# How many lines that don't fit are shown.
+SHOWN = 20
+# How much of a line is kept for hints: a session's name has 32 bytes at most.
+KEPT_OF_LINE = 120
+# The words that are the wrapper's, and what asks for help alone.
+OURS = (["run"], ["show"], ["draw"], ["-h"], ["--help"])
+RUN_OPTIONS = ("--trace", "--strict")
 # What a user or a closed pipe does to a program is no fault of it.
 FROM_OUTSIDE = (signal.SIGPIPE, signal.SIGINT, signal.SIGTERM, signal.SIGHUP, signal.SIGQUIT)
 
@@ -95,35 +108,95 @@ def build():
     ran = subprocess.run([TOP / "scripts/unproved"], stdin=subprocess.DEVNULL, stdout=subprocess.PIPE, text=True)
     if ran.returncode:
         fail("there is no program to run")
-    say(f"this is NOT the proved build, and runs with checks ({why})")
+    say(f"this is NOT the proved build ({why})")
     return Build(ran.stdout.rstrip("\n"), False)
 
 
-def given_script():
-    """Returns the script, to one byte past the longest. It raises where that can't be read."""
-    if os.isatty(SCRIPT):
-        say("type the script, and end it with control-D")
+def script_in(descriptor):
+    """Returns a script, to one byte past the longest."""
     got = b""
-    while len(got) <= LIMIT and (more := os.read(SCRIPT, LIMIT + 1 - len(got))):
+    while len(got) <= LIMIT and (more := os.read(descriptor, LIMIT + 1 - len(got))):
         got += more
     return got
 
 
-def started(build, words, script, stdout):
-    """Runs the program on a script, and returns how that ended."""
+def script_at(path):
+    """Returns the script of a file, or of standard input; it raises where that can't be read."""
+    if path in STANDARD_INPUT:
+        if os.isatty(SCRIPT):
+            say("type the script, and end it with control-D")
+        return script_in(SCRIPT)
+    with open(path, "rb") as file:
+        return script_in(file.fileno())
+
+
+def script_or_end(path):
+    """Returns the script of a file, or of standard input, or ends where it can't be read."""
+    try:
+        return script_at(path)
+    except OSError as error:
+        fail(unreadable(path, error), UNREADABLE)
+
+
+def unreadable(path, error):
+    return f"{'the script' if path in STANDARD_INPUT else path} cannot be read: {error.strerror}"
+
+
+class Unwritable(Exception):
+    """Standard output can't be written."""
+
+
+class PassedOn:
+    """Passes on what the program prints to standard output, as it is, and keeps how each line
+    begins, but for those of a history and of logs: a bad reply is found by that."""
+
+    def __init__(self):
+        self.begins, self.line = [], b""
+
+    def take(self, more):
+        """Takes what was printed next. It raises where that can't be written."""
+        left = memoryview(more)
+        try:
+            while left:
+                left = left[os.write(1, left) :]
+        except OSError as error:
+            raise Unwritable(error) from error
+        *lines, self.line = (self.line + more).split(b"\n")
+        self.begins += [it[:KEPT_OF_LINE] for it in lines if not it.startswith((b"h ", b"o "))]
+
+    def output(self):
+        """Returns the lines as they begin."""
+        return b"".join(it + b"\n" for it in self.begins)
+
+
+def started(build, words, script, taken):
+    """Runs the program on a script, gives each part of what it prints to `taken`, and returns its
+    status."""
     with tempfile.TemporaryFile() as given:
         given.write(script)
         given.seek(0)
-        with subprocess.Popen([build.program, *words], stdin=given, stdout=stdout) as ran:
+        with subprocess.Popen([build.program, *words], stdin=given, stdout=subprocess.PIPE) as ran:
             try:
                 for number in (signal.SIGTERM, signal.SIGHUP):
                     # What stops this stops the program, and then this ends as that did.
                     signal.signal(number, lambda number, _: ran.send_signal(number))
-                output, _ = ran.communicate()
+                if os.isatty(2):
+                    from lab_progress import until_it_prints
+
+                    until_it_prints(ran)
+                while more := os.read(ran.stdout.fileno(), 1 << 16):
+                    taken(more)
             except BaseException:
                 ran.kill()
                 raise
-        return subprocess.CompletedProcess(ran.args, ran.returncode, output)
+        return ran.returncode
+
+
+def played(build, words, script):
+    """Runs the program on a script, and returns its status and what it printed."""
+    parts = []
+    status = started(build, words, script, parts.append)
+    return status, b"".join(parts)
 
 
 def end(build, status):
@@ -138,39 +211,74 @@ def end(build, status):
     os.kill(os.getpid(), -status)
 
 
-def explain(build, words, script):
-    """Shows the line of a script that doesn't fit; the program is asked once more which one it
-    is."""
-    said = FAULT.fullmatch(started(build, words, script, subprocess.PIPE).stdout)
-    if said:
-        number = int(said[1])
-        say(*drawn(number, explained(script, number, said[2].decode())))
+def explain(script, output):
+    """Shows the lines of a script that don't fit, where the program printed which one is the
+    first."""
+    said = FAULT.fullmatch(output)
+    found = faulty_lines(script, int(said[1]), said[2].decode()) if said else ()
+    for place, (number, shown) in enumerate(found):
+        if place == SHOWN:
+            say("and there are more lines that don't fit")
+            return
+        say(*drawn(number, shown))
 
 
-def is_pipe_closed():
-    """Whether nobody reads standard output any more, as behind `| head`."""
-    watched = select.poll()
-    watched.register(1, 0)
-    return any(what & select.POLLERR for _, what in watched.poll(0))
+def advise(script, output):
+    """Says what may help with replies, and returns whether there are bad ones: refusals, or commands
+    without a reply."""
+    if not BAD_REPLY.search(output):
+        return False
+    # (whoever's script went well needs none of this)
+    from lab_replies import hints
+
+    say(*(f"line {number}: {hint}" for number, hint in hints(script, output)))
+    return True
 
 
-def run(words):
-    """Plays the script on standard input."""
+def passed_on(build, words, script):
+    """Runs the program on a script, passes on what it prints, and returns its status, and the lines
+    that it printed as they begin."""
+    printed = PassedOn()
     try:
-        script = given_script()
-    except OSError as error:
-        say(f"the script cannot be read: {error.strerror}")
-        # The program meets the same fault itself.
-        ours = build()
-        os.dup2(SCRIPT, 0)
-        os.execv(ours.program, [ours.program, *words])
-    ours = build()
-    status = started(ours, words, script, None).returncode
+        status = started(build, words, script, printed.take)
+    except Unwritable as error:
+        # (where nobody reads it any more, as behind `| head`, nobody has to know)
+        if error.args[0].errno != errno.EPIPE:
+            say(f"the output cannot be written: {error.args[0].strerror}")
+        sys.exit(UNWRITABLE)
+    return status, printed.output()
+
+
+def run_one(build, words, script, strict):
+    """Plays a script, says what may help, and returns the status."""
+    status, output = passed_on(build, words, script)
     if status == BAD_LINE:
-        explain(ours, words, script)
-    if status == UNWRITABLE and not is_pipe_closed():
-        say("the output cannot be written")
-    end(ours, status)
+        explain(script, output)
+    if status == 0 and advise(script, output) and strict:
+        ends = BAD_REPLY.findall(output)
+        refused = ends.count(b"error")
+        say(f"{refused} refused, {len(ends) - refused} without a reply")
+        return NOT_ALL_DONE
+    return status
+
+
+def run(words, strict, files):
+    """Plays scripts, one after another, and ends as the first one did that didn't end well."""
+    ours, ended = build(), 0
+    for place, path in enumerate(files, 1):
+        if len(files) > 1:
+            say(f"{path} ({place} of {len(files)})")
+        try:
+            script = script_at(path)
+        except OSError as error:
+            say(unreadable(path, error), *filter(None, [guess(path, RUN_OPTIONS)]))
+            ended = ended or UNREADABLE
+            continue
+        status = run_one(ours, words, script, strict)
+        if status < 0:
+            end(ours, status)
+        ended = ended or status
+    end(ours, ended)
 
 
 def replies_in(output):
@@ -188,6 +296,7 @@ def shown(script, status, output, facts):
     lines = script.removesuffix(b"\n").split(b"\n") if script else []
     wide = len(str(len(lines)))
     said = FAULT.fullmatch(output) if status == BAD_LINE else None
+    faults = dict(faulty_lines(script, int(said[1]), said[2].decode())) if said else {}
     replies = replies_in(output) if status == 0 else {}
     in_order = list(replies) == sorted(replies)
     for number, line in enumerate(lines, 1):
@@ -195,24 +304,15 @@ def shown(script, status, output, facts):
         if number in replies:
             place, reply = replies[number]
             yield b"%*s  => %s%s" % (wide, b"", reply, b"" if in_order else b"   (reply %d)" % place)
+        if number in faults:
+            yield from (it.encode() for it in drawn(number, faults[number])[1:])
         if said and number == int(said[1]):
-            cause = said[2].decode()
-            mark = drawn(number, explained(script, number, cause))[1:]
-            yield from (it.encode() for it in [*mark, f"{' ' * wide} => {cause}: nothing is played"])
+            yield b"%*s => %s: nothing is played" % (wide, b"", said[2])
         yield from (b"%*s  -- %s" % (wide, b"", it.encode()) for it in facts.get(number, ()))
     # (0 stands for the rounds that close a script)
     if facts.get(0):
         yield b"%*s  (the rounds at the end)" % (wide, b"")
         yield from (b"%*s  -- %s" % (wide, b"", it.encode()) for it in facts[0])
-
-
-def script_at(path):
-    """Returns the script of a file, or of standard input."""
-    try:
-        return given_script() if path in STANDARD_INPUT else Path(path).read_bytes()
-    except OSError as error:
-        what = "the script" if path in STANDARD_INPUT else path
-        fail(f"{what} cannot be read: {error.strerror}", UNREADABLE)
 
 
 def replies_of(output):
@@ -234,17 +334,18 @@ def folded(script, output):
 
 def show(path, with_locks):
     """Prints a script, each line with its reply under it, and with locks what it changed of them."""
-    script = script_at(path)
-    ours = build()
-    ran = started(ours, ["run", "--trace"] if with_locks else ["run"], script, subprocess.PIPE)
+    script, ours = script_or_end(path), build()
+    status, output = played(ours, ["run", "--trace"] if with_locks else ["run"], script)
     facts = {}
-    if with_locks and ran.returncode == 0:
+    if with_locks and status == 0:
         from lab_drawing.locks import facts as facts_of
 
-        facts = facts_of(*folded(script, ran.stdout))
-    if ran.returncode in (0, BAD_LINE):
-        put(shown(script, ran.returncode, replies_of(ran.stdout), facts))
-    end(ours, ran.returncode)
+        facts = facts_of(*folded(script, output))
+    if status in (0, BAD_LINE):
+        put(shown(script, status, replies_of(output), facts))
+    if status == 0:
+        advise(script, output)
+    end(ours, status)
 
 
 def draw(path, out):
@@ -252,16 +353,15 @@ def draw(path, out):
     from lab_drawing.page import Page
     from lab_drawing.picture import Picture
 
-    script = script_at(path)
-    ours = build()
-    ran = started(ours, ["run", "--trace"], script, subprocess.PIPE)
-    if ran.returncode == BAD_LINE:
-        explain(ours, ["run", "--trace"], script)
-    if ran.returncode:
-        end(ours, ran.returncode)
+    script, ours = script_or_end(path), build()
+    status, output = played(ours, ["run", "--trace"], script)
+    if status == BAD_LINE:
+        explain(script, output)
+    if status:
+        end(ours, status)
     title = "a script" if path in STANDARD_INPUT else Path(path).name
     of = Picture if out and out.endswith(".svg") else Page
-    drawn_as = of(*folded(script, ran.stdout), title).whole().encode()
+    drawn_as = of(*folded(script, output), title).whole().encode()
     if not out:
         put([drawn_as.removesuffix(b"\n")])
         return
@@ -292,11 +392,32 @@ def drawing_asked(words):
     return (words or ["-"])[0], out
 
 
+def run_asked(words):
+    """Returns what `run` is asked for by its words: the program's words, whether each command has to
+    be done, and the scripts; or None where one isn't understood."""
+    options = [it for it in words if it.startswith("-") and it != "-"]
+    files = [it for it in words if it not in options]
+    if len({*options}) < len(options) or not {*options} <= {*RUN_OPTIONS}:
+        return None
+    return ["run", *(["--trace"] if "--trace" in options else [])], "--strict" in options, files or ["-"]
+
+
+def other(words):
+    """Has the program answer words that aren't the wrapper's."""
+    ours = build()
+    status, _ = passed_on(ours, words, b"")
+    if status == NOT_UNDERSTOOD:
+        from lab_words import meant
+
+        say(*meant(words, RUN_OPTIONS))
+    end(ours, status)
+
+
 def main():
     words = sys.argv[1:]
-    if words in (["-h"], ["--help"]):
+    if words == ["help"] or words[:1] in OURS and {"-h", "--help"} & {*words}:
         put([HELP.encode()])
-    elif words == ["--version"]:
+    elif words in (["-V"], ["--version"], ["version"]):
         put([version().encode()])
     elif words[:1] == ["show"]:
         with_locks = words[1:2] == ["--locks"]
@@ -306,15 +427,10 @@ def main():
         show(*files or "-", with_locks)
     elif words[:1] == ["draw"]:
         draw(*drawing_asked(words[1:]))
-    elif words in (["run"], ["run", "--trace"]):
-        run(words)
+    elif words[:1] == ["run"] and (asked := run_asked(words[1:])):
+        run(*asked)
     else:
-        if any(os.path.isfile(it) for it in words):
-            say("the script comes from standard input: scripts/lab run < SCRIPT")
-        if words[:1] in (["threads"], ["gen"]):
-            say(f"`{words[0]}` isn't built yet")
-        ours = build()
-        end(ours, started(ours, words, b"", None).returncode)
+        other(words)
 
 
 if __name__ == "__main__":

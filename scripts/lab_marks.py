@@ -59,6 +59,7 @@ KINDS |= {f"map-{it}" for it in ("resize", "get", "put", "set", "remove")}
 KINDS |= {f"journal-{it}" for it in ("create", "tag", "append", "read", "spans", "register", "commit", "remove")}
 # What the grammar has and the program doesn't play.
 UNBUILT = ("clone", "children", "flatten", "mirror", "protect", "unprotect", "journal")
+UNBUILT_WORD = re.compile("|".join(UNBUILT).encode())
 # How a part is written in the grammar.
 WRITTEN = {"image": "IMAGE", "snap": "IMAGE@SNAP", "target": "IMAGE[@SNAP]", "hex": "HEX", "byte": "BYTE"}
 WRITTEN |= {"site": "SITE", "kind": "WORD", "session": "NAME", "new session": "NAME"}
@@ -80,16 +81,22 @@ class Fault(NamedTuple):
     form: str = ""
 
 
+TOKEN = re.compile(rb"[^ ]+")
+NUMBER = re.compile(rb"0|[1-9][0-9]{0,18}")
+NAME = re.compile(rb"[A-Za-z0-9_][A-Za-z0-9._-]{0,63}")
+HEX = re.compile(rb"([0-9a-f]{2})+")
+
+
 def tokens_of(line):
-    return [Token(it.start(), it.group()) for it in re.finditer(rb"[^ ]+", line)]
+    return [Token(it.start(), it.group()) for it in TOKEN.finditer(line)]
 
 
 def is_number(text, least, most):
-    return bool(re.fullmatch(rb"0|[1-9][0-9]*", text)) and least <= int(text) <= most
+    return bool(NUMBER.fullmatch(text)) and least <= int(text) <= most
 
 
 def is_name(text):
-    return bool(re.fullmatch(rb"[A-Za-z0-9_][A-Za-z0-9._-]{0,63}", text))
+    return bool(NAME.fullmatch(text))
 
 
 def is_snap(text):
@@ -101,26 +108,30 @@ def is_session_name(text):
     return bool(re.fullmatch(rb"[a-z][a-z0-9]{0,31}", text)) and text != b"client"
 
 
+# Whether a token can stand in a part's place.
+FITS = {
+    "image": lambda part, text, sessions: is_name(text),
+    "snap": lambda part, text, sessions: is_snap(text),
+    "target": lambda part, text, sessions: is_snap(text) if b"@" in text else is_name(text),
+    "number": lambda part, text, sessions: is_number(text, part[1], part[2]),
+    "times": lambda part, text, sessions: is_number(text, part[1], part[2]),
+    "hex": lambda part, text, sessions: len(text) <= 131_072 and HEX.fullmatch(text),
+    "byte": lambda part, text, sessions: len(text) == 2 and HEX.fullmatch(text),
+    "site": lambda part, text, sessions: text in (b"a", b"b"),
+    "kind": lambda part, text, sessions: text.decode("latin-1") in KINDS,
+    "session": lambda part, text, sessions: text in sessions,
+    "new session": lambda part, text, sessions: is_session_name(text) and text not in sessions and len(sessions) < 32,
+    "flag": lambda part, text, sessions: text.decode("latin-1") == part[1],
+}
+# What is wrong where it can't; elsewhere it is an unknown word.
+CAUSES = {"image": "bad name", "snap": "bad name", "target": "bad name", "new session": "bad name"}
+CAUSES |= {"number": "bad number", "times": "bad number", "hex": "bad number", "byte": "bad number"}
+
+
 def cause_of(part, text, sessions):
     """Returns why a token can't stand in a part's place, or None where it can."""
     kind = part[0]
-    fits = {
-        "image": lambda: is_name(text),
-        "snap": lambda: is_snap(text),
-        "target": lambda: is_snap(text) if b"@" in text else is_name(text),
-        "number": lambda: is_number(text, *part[1:3]),
-        "times": lambda: is_number(text, *part[1:3]),
-        "hex": lambda: len(text) <= 131_072 and bool(re.fullmatch(rb"([0-9a-f]{2})+", text)),
-        "byte": lambda: bool(re.fullmatch(rb"[0-9a-f]{2}", text)),
-        "site": lambda: text in (b"a", b"b"),
-        "kind": lambda: text.decode("latin-1") in KINDS,
-        "session": lambda: text in sessions,
-        "new session": lambda: is_session_name(text) and text not in sessions and len(sessions) < 32,
-        "flag": lambda: text.decode("latin-1") == part[1],
-    }
-    causes = {"image": "bad name", "snap": "bad name", "target": "bad name", "new session": "bad name"}
-    causes |= {"number": "bad number", "times": "bad number", "hex": "bad number", "byte": "bad number"}
-    return None if fits[kind]() else causes.get(kind, "unknown word")
+    return None if FITS[kind](part, text, sessions) else CAUSES.get(kind, "unknown word")
 
 
 def form_of(word, parts):
@@ -138,9 +149,10 @@ def form_of(word, parts):
     return " ".join(texts)
 
 
-def fault_in(parts, tokens, sessions):
-    """Returns the first fault of some parts in their order, or None."""
-    left = list(tokens)
+def faults_in(parts, tokens, sessions):
+    """Returns the first fault of some parts in their order, if there is one, and where that is a
+    number the other numbers behind it that don't fit."""
+    left, found = list(tokens), []
     for part in parts:
         if part[0] in ("times", "option", "flag") and not left:
             continue
@@ -150,58 +162,65 @@ def fault_in(parts, tokens, sessions):
             left.pop(0)
             part = ("number", 0, part[2], "N")
         if not left:
-            return Fault("missing part", None, part)
-        if cause := cause_of(part, left[0].text, sessions):
-            return Fault(cause, left[0], part)
+            return found or [Fault("missing part", None, part)]
+        cause = cause_of(part, left[0].text, sessions)
+        if cause and (not found or cause == "bad number"):
+            found.append(Fault(cause, left[0], part))
+        if cause and (cause != "bad number" or left[0].text.startswith(b"--")):
+            return found
         left.pop(0)
-    return Fault("extra part", left[0], ("end",)) if left else None
+    return [Fault("extra part", left[0], ("end",))] if left and not found else found
 
 
-def fault_by_word(table, tokens, sessions, part):
-    """Returns the first fault of a form that its first token names."""
+def faults_by_word(table, tokens, sessions, part, before=""):
+    """Returns the faults of a form that its first token names, as `faults_in`."""
     if not tokens:
-        return Fault("missing part", None, (part,))
+        return [Fault("missing part", None, (part,))]
     word = tokens[0].text.decode("latin-1")
     if word not in table:
-        return Fault("unknown word", tokens[0], (part,))
-    fault = fault_in(table[word], tokens[1:], sessions)
-    return fault and fault._replace(form=form_of(word, table[word]))
+        return [Fault("unknown word", tokens[0], (part,))]
+    faults = faults_in(table[word], tokens[1:], sessions)
+    form = form_of(word, table[word]) if faults else ""
+    return [it._replace(form=form and before + form) for it in faults]
 
 
-def fault_of_command(tokens, sessions):
+def faults_of_command(tokens, sessions):
     first = tokens[0].text if tokens else b""
     if first == b"snap":
-        fault = fault_by_word(BEHIND_SNAP, tokens[1:], sessions, "word behind snap")
-    elif first == b"mirror":
-        fault = fault_by_word(BEHIND_MIRROR, tokens[1:], sessions, "word behind mirror")
+        return faults_by_word(BEHIND_SNAP, tokens[1:], sessions, "word behind snap", "NAME snap ")
+    if first == b"mirror":
         # (none of it is built)
-        return fault and fault._replace(form="")
-    else:
-        fault = fault_by_word(COMMANDS, tokens, sessions, "command")
-    if not fault or not fault.form:
-        return fault
-    return fault._replace(form=f"NAME {'snap ' if first == b'snap' else ''}{fault.form}")
+        found = faults_by_word(BEHIND_MIRROR, tokens[1:], sessions, "word behind mirror")
+        return [it._replace(form="") for it in found]
+    return faults_by_word(COMMANDS, tokens, sessions, "command", "NAME ")
 
 
-def fault_of_line(line, sessions):
-    """Returns the first fault of a line, or None. The sessions are those that were declared
+def faults_of_line(line, sessions):
+    """Returns the faults of a line, as `faults_in`. The sessions are those that were declared
     before it."""
     tokens = [] if line.startswith(b"#") else tokens_of(line)
     if not tokens:
-        return None
+        return []
     if tokens[0].text == b"client":
-        return fault_by_word({"client": [("new session",), ("site",)]}, tokens, sessions, "client")
+        return faults_by_word({"client": [("new session",), ("site",)]}, tokens, sessions, "client")
     if tokens[0].text.startswith(b"@"):
-        return fault_by_word(SCHEDULE, tokens, sessions, "line of a schedule")
+        return faults_by_word(SCHEDULE, tokens, sessions, "line of a schedule")
     if tokens[0].text == b"&":
         tokens = tokens[1:]
-    return fault_in([("session",)], tokens[:1], sessions) or fault_of_command(tokens[1:], sessions)
+    missed, found = faults_in([("session",)], tokens[:1], sessions), faults_of_command(tokens[1:], sessions)
+    # (numbers are read behind a session that isn't declared, too)
+    return missed + [it for it in found if not missed or it.cause == "bad number"]
+
+
+def session_declared_in(line):
+    """Returns the name of the session that a line declares, or None."""
+    words = [it.text for it in tokens_of(line)] if b"client" in line else []
+    return words[1] if words[:1] == [b"client"] and len(words) > 1 else None
 
 
 def declared_in(lines):
     """Returns the names of the sessions that some lines declare."""
-    found = ([it.text for it in tokens_of(line)] for line in lines if b"client" in line)
-    return [words[1] for words in found if words[:1] == [b"client"] and len(words) > 1]
+    return [it for it in map(session_declared_in, lines) if it is not None]
 
 
 def words_of_command(line):
@@ -211,10 +230,12 @@ def words_of_command(line):
 
 
 def unbuilt_token(line):
-    """Returns the token by which a line of the grammar is one that isn't built."""
-    tokens = words_of_command(line)
-    if tokens[0].text.startswith(b"@"):
-        return tokens[0]
-    if tokens[1].text == b"create" and tokens[-1].text == b"journal":
-        return tokens[-1]
-    return tokens[2] if tokens[1].text in (b"snap", b"mirror") else tokens[1]
+    """Returns the token by which a line of the grammar is one that isn't built, or None."""
+    # (most lines have no such word anywhere)
+    is_looked_at = UNBUILT_WORD.search(line) and not line.startswith(b"#")
+    tokens = words_of_command(line) if is_looked_at else []
+    if len(tokens) < 2 or tokens[0].text == b"client" or tokens[0].text.startswith(b"@"):
+        return None
+    is_journaled = tokens[1].text == b"create" and tokens[-1].text == b"journal"
+    named = tokens[2] if tokens[1].text == b"snap" else tokens[-1 if is_journaled else 1]
+    return named if named.text.decode("latin-1") in UNBUILT else None

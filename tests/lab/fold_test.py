@@ -7,8 +7,8 @@ Each row and example that is played to its end is: its whole trace has to be wha
 to, and what was worked out has to be what the replies say: the bytes of each `read`, the names of
 `ls`, the size, snapshots and owner of `info`, the snapshots of `snap ls`, the objects of `du`. Who
 is answered `fenced` has to be in the blocklist, and nobody else. The traces of tests/lab/traces have
-to be what the program prints. They are played on the proved program (scripts/proved), or else on
-that of scripts/unproved, where a few rows take minutes: those of SLOW are left out there.
+to be what the program prints. They are played on FILE, or on the program of scripts/unproved. The
+last line is 'N passed, M failed': scripts, and what doesn't agree.
 """
 import argparse
 import subprocess
@@ -20,10 +20,6 @@ sys.path.insert(0, str(Path(__file__).resolve().parent))
 from test_drawing import TOP, example
 from lab_drawing import fold, reading
 from test_lab import module_of
-
-SLOW = {"resize-limits", "until-it-never-comes", "until-of-a-request-that-waits", "most-snapshots"}
-SLOW |= {"largest-object-count", "object-count-limits"}
-
 
 class Compared:
     """The state behind each step, and what it doesn't agree with."""
@@ -95,14 +91,11 @@ class Compared:
 
 
 def program_asked(given):
-    """Returns the program to play on, and whether it is one with checks."""
+    """Returns the program to play on."""
     if given:
-        return given, False
-    for name in ("proved", "unproved"):
-        ran = subprocess.run([TOP / "scripts" / name], stdout=subprocess.PIPE, text=True)
-        if ran.returncode == 0:
-            return ran.stdout.rstrip("\n"), name == "unproved"
-    sys.exit("fold_test: there is no program")
+        return given
+    ran = subprocess.run([TOP / "scripts/unproved"], stdout=subprocess.PIPE, text=True)
+    return ran.stdout.rstrip("\n") or sys.exit("fold_test: there is no program")
 
 
 def faults_of(program, script):
@@ -130,18 +123,18 @@ def main():
     parser.add_argument("--program")
     parser.add_argument("names", nargs="*")
     given = parser.parse_args()
-    program, is_slow = program_asked(given.program)
+    program = program_asked(given.program)
     rows = module_of(TOP / "scripts/rows")
     files = rows.files_in(TOP / "tests/rows") + list((TOP / "examples").glob("*.script"))
     found = [it for it in rows.rows_of(files)[0] if it.words[:1] == [b"run"] and it.status == 0]
     played, wrong = 0, list(kept_traces(program))
     for row in found:
-        if (given.names and row.name not in given.names) or (is_slow and row.name in SLOW):
+        if given.names and row.name not in given.names:
             continue
         faults = faults_of(program, row.script)
         played += faults is not None
         wrong += [f"{row.name}: {it}" for it in faults or ()]
-    print(*wrong, f"{played} scripts, {len(wrong)} faults", sep="\n")
+    print(*wrong, f"{played} passed, {len(wrong)} failed", sep="\n")
     return 1 if wrong or not played else 0
 
 

@@ -16,6 +16,7 @@ import unittest
 from importlib.machinery import SourceFileLoader
 from importlib.util import module_from_spec, spec_from_loader
 from pathlib import Path
+from unittest import mock
 
 sys.dont_write_bytecode = True
 TOP = Path(__file__).resolve().parent.parent.parent
@@ -23,18 +24,20 @@ SCRIPTS = TOP / "scripts"
 sys.path.insert(0, str(SCRIPTS))
 import lab_hints
 import lab_marks
+import lab_progress
+import lab_replies
 
-FILES = ("lab", "lab_main.py", "lab_hints.py", "lab_marks.py")
+FILES = ("lab", *(it.name for it in SCRIPTS.glob("lab_*.py")))
 # What a script's last line is, the word that is marked in it, and words of the hint.
 HINTS = """\
 c1 create d 8K | 8K | bytes: 8192
 c1 create d 4MiB | 4MiB | bytes: 4194304
 c1 create d 8192B | 8192B | bytes: 8192
-c1 read d 0 1M | 1M | 1048576, and 65536 at most
+c1 read d 0 1M | 1M | 1048576, and at most 65,536
 c1 create d 0x1000 | 0x1000 | decimal: 4096
 c1 create d 04096 | 04096 | leading zeros: 4096
 c1 create d -1 | -1 | no sign
-c1 read d 0 65537 | 65537 | from 0 to 65536
+c1 read d 0 65537 | 65537 | LEN is at most 65,536
 c1 create d 8192 --object-size 4096 | --object-size | object N, unit N, count N
 c1 create --size 8192 d | --size | no words with dashes
 c1 create d --size 8192 | --size | no words with dashes
@@ -44,8 +47,26 @@ c1 clone d@s e | clone | isn't built
 c1 snap protect d@s | protect | isn't built
 c1 flatten d | flatten | isn't built
 c1 snap foo d@s | foo | create, rm, rollback or ls
-@until c1 1 write | write | of an operation
-@settl 4 | @settl | @settle, @deliver, @lose, @expire, @stop, @restart, @late or @trim
+@until c1 1 write | write | did you mean `data-write`?
+@until c1 1 wriet | wriet | did you mean `data-write`?
+@until c1 1 xyz | xyz | of an operation
+@until c1 1 gett | gett | of an operation
+@settl 4 | @settl | did you mean `@settle`?
+@wait 4 | @wait | @settle, @deliver, @lose, @expire, @stop, @restart, @late or @trim
+c1 craete d 8192 | craete | did you mean `create`?
+c1 reed d 0 1 | reed | did you mean `read`?
+c1 snapp ls d | snapp | did you mean `snap`?
+c1 snap creat d@s | creat | did you mean `create`?
+c1 create d 8192 objct 4096 | objct | did you mean `object`?
+c1 create d 8192 object 4096 units 512 | units | did you mean `unit`?
+c1 create d 9223372036854775808 | 9223372036854775808 | SIZE is below 2^63
+c1 create d 9999999999G | 9999999999G | and below 2^63
+c1 create d 8192 count 4294967296 | 4294967296 | below 2^32
+c1 fill d 0 1048577 aa | 1048577 | LEN is at most 1,048,576
+c1 read d 0 70000 | 70000 | LEN is at most 65,536
+@poll c1 65 | 65 | SLOT is at most 64
+@poll c1 1 0 | 0 | TIMES is at least 1
+@poll c1 one | one | SLOT, a decimal number from 0 to 64
 c2 ls | c2 | declare it: `client c2 a`
 create d 8192 | create | begins with its session's name
 rbd ls | rbd | in place of rbd
@@ -54,6 +75,7 @@ c1 LS | LS | lower-case
 c1 write d 0 AA | AA | lower-case
 c1 write d 0 aab | aab | an odd number
 c1 write d 0 0xaa | 0xaa | without 0x
+c1 write d 0 hello | hello | the text `hello` is 68656c6c6f
 c1 info rbd/d | rbd/d | no pools
 c1 snap create d | d | IMAGE@SNAP
 c1 snap list d | list | `ls`
@@ -62,10 +84,10 @@ c1 snap take d@s | take | create, rm, rollback or ls
 c1 mv d e | mv | `rename`
 c1 snap create d@ | d@ | behind `@`
 c1 read d@ 0 1 | d@ | behind `@`
-clint c2 a | clint | is `client` meant
+clint c2 a | clint | did you mean `client`?
 @until c1 1 xyz zzz | xyz | docs/RULES.md lists them
 c1 export d | export | read, resize
-@stopp c1 | @stopp | @stop, @restart
+@stopp c1 | @stopp | did you mean `@stop`?
 c1 ls # all | # | a line of its own
 client c1 b | c1 | declared before
 client b c | c | a or b
@@ -90,8 +112,8 @@ def first_fault(script):
     """Returns the number of the first line with a fault, and the fault."""
     lines = script.split(b"\n")
     for number, line in enumerate(lines, 1):
-        if fault := lab_marks.fault_of_line(line, lab_marks.declared_in(lines[: number - 1])):
-            return number, fault
+        if faults := lab_marks.faults_of_line(line, lab_marks.declared_in(lines[: number - 1])):
+            return number, faults[0]
     return None
 
 
@@ -137,6 +159,48 @@ class Marks(unittest.TestCase):
             shown = lab_hints.explained(b"client c1 a\n" + line, number, fault.cause)
             self.assertEqual(shown.form, form, line)
 
+    def test_a_number_of_any_length_is_marked(self):
+        for number in ("9" * 5000, "9" * 5000 + "K", "0x" + "f" * 5000):
+            script = f"client c1 a\n@settle {number}\n".encode()
+            self.assertIn("below 2^63", lab_hints.explained(script, 2, "bad number").hint)
+
+    def test_each_number_of_a_line_is_named(self):
+        script = b"client c1 a\nc1 create d 8K object 4K unit x"
+        texts = lab_hints.drawn(2, lab_hints.explained(script, 2, "bad number"))
+        wanted = """\
+2 | c1 create d 8K object 4K unit x
+  |             ^^        ^^      ^
+  | 8K: a size is a plain number of bytes: 8192
+  | 4K: a size is a plain number of bytes: 4096
+  | x: wanted here: N, a decimal number below 2^63"""
+        self.assertEqual(texts, wanted.splitlines())
+
+    def test_numbers_behind_a_session_that_is_not_declared_are_named(self):
+        shown = lab_hints.explained(b"client c1 a\n& c2 read d 5x 70000", 2, "unknown word")
+        self.assertEqual([it.text for it in (shown.token, *(token for token, _ in shown.more))], [b"c2", b"5x", b"70000"])
+        shown = lab_hints.explained(b"client c1 a\ncreate d 8K", 2, "unknown word")
+        self.assertEqual((shown.token.text, shown.more), (b"create", ()))
+
+    def test_each_line_that_does_not_fit_is_shown(self):
+        script = b"client c1 a\n# x\nc1 craete d 1\nc1 clone d@s e\nclient c2 x\nc2 ls\nc2 read d 0 70000"
+        self.assertEqual([it for it, _ in lab_hints.faulty_lines(script, 3, "unknown word")], [3, 4, 5, 7])
+
+    def test_a_session_that_is_not_declared_is_missed_once(self):
+        found = lab_hints.faulty_lines(b"c1 ls\nc1 lss\n@poll c1 1\n@stop c2\nc2 ls", 1, "unknown word")
+        self.assertEqual([it for it, _ in found], [1, 2, 4])
+
+    def test_the_line_that_the_program_named_comes_first(self):
+        found = lab_hints.faulty_lines(b"client c1 a\nc1 flatten d\nc1 ls x", 3, "extra part")
+        self.assertEqual([it for it, _ in found], [3, 2])
+
+    def test_no_other_line_is_shown_where_the_program_finds_what_this_does_not(self):
+        found = lab_hints.faulty_lines(b"client c1 a\nc1 ls\nc1 lss", 2, "bad name")
+        self.assertEqual([it for it, _ in found], [2])
+
+    def test_a_session_may_have_the_name_of_a_form_that_is_not_built(self):
+        script = b"client clone a\nclone ls\n& clone ls\n#\nclone"
+        self.assertEqual([it for it, _ in lab_hints.faulty_lines(script, 5, "missing part")], [5])
+
     def test_what_the_program_does_not_say_is_not_marked(self):
         self.assertIsNone(lab_hints.explained(b"client c1 a\nc1 ls\n", 2, "bad number").token)
 
@@ -145,6 +209,91 @@ class Marks(unittest.TestCase):
         texts = lab_hints.drawn(2, lab_hints.explained(f"client c1 a\n{line}".encode(), 2, "extra part"))
         self.assertEqual(texts[0][texts[1].index("^")], "x")
         self.assertLess(max(map(len, texts)), 120)
+
+
+# Scripts, each behind the clients c1 and c2 at site a and c3 at site b, so that the first line here is
+# line 4; below each what the program answers by docs/RULES.md, and how a hint begins, if one is given.
+ADVICE = """\
+c1 create d 8192;c2 read d 0 1
+    5 c2 error 2 NoImage;4 c1 ok
+    5: line 4 makes `d`, and had no reply yet: an `@settle 1000` before line 5 lets it be made
+c1 create d 8192;c2 snap rm d@s
+    5 c2 error 2 NoImage;4 c1 ok
+    5: line 4 makes `d`
+c1 create e 8192;@settle 9;c2 rename e d;c1 info d
+    4 c1 ok;7 c1 error 2 NoImage;6 c2 ok
+    7: line 6 makes `d`
+c1 create d 8192;@stop c1;c2 info d
+    6 c2 error 2 NoImage;4 c1 lost
+    6: line 4 makes `d`
+c1 create d 8192;@settle 9;c2 read e 0 1
+    4 c1 ok;6 c2 error 2 NoImage
+c1 create d 8192;@settle 9;c1 rm d;@settle 9;c1 info d
+    4 c1 ok;6 c1 ok;8 c1 error 2 NoImage
+c1 create d 8192;@settle 9;c3 read d 0 1
+    4 c1 ok;6 c3 error 2 NoImage
+    6: line 4 makes `d` at site a, and c3 is at site b
+c1 create d 8192 object 1;c1 read d 0 1
+    4 c1 error 22 BadShape;5 c1 error 2 NoImage
+    4: `object` is a power of two
+c1 create d 8192;c1 read d 0 0
+    4 c1 ok;5 c1 error 22 BadRange
+c1 create d 8192;c1 quiesce d;c1 write d 0 11
+    4 c1 ok;5 c1 ok;6 c1 unfinished
+    6: the quiesce of line 5 holds it up, until a `resume`
+c1 create d 8192;c1 quiesce d;c1 write d 0 11;c1 resume d
+    4 c1 ok;5 c1 ok;6 c1 unfinished;7 c1 unsent
+    7: this `resume` waits for line 6, which the quiesce of line 5 holds up: behind an `@settle 1000`, as `& c1 resume
+c1 create d 8192;c1 quiesce d;c1 snap create d@s;c1 resume d
+    4 c1 ok;5 c1 ok;6 c1 unfinished;7 c1 unsent
+    7: this `resume` waits for line 6
+c1 create d 8192;c1 quiesce d;c1 write d 0 11;@settle 99;& c1 resume d
+    4 c1 ok;5 c1 ok;8 c1 ok;6 c1 ok
+c1 create d 8192;c1 quiesce d;@settle 99;c1 resume d;@settle 9;@stop c1;c1 resume d
+    4 c1 ok;5 c1 ok;7 c1 ok;10 c1 unsent
+c1 create d 8192;c1 quiesce d;@settle 99;c2 write d 0 11
+    4 c1 ok;5 c1 ok;7 c2 unfinished waiting c1.0
+    7: line 5 quiesced it, and a `resume` of c1
+c1 create d 8192;c1 write d 0 11;@settle 99;@stop c1;c2 write d 0 11
+    4 c1 ok;5 c1 ok;8 c2 unfinished waiting c1.0
+    8: c1.0 was stopped with the lock
+c1 create d 8192;c1 write d 0 11;@settle 99;@stop c1;@expire c1 a 1;c2 write d 0 11
+    4 c1 ok;5 c1 ok;9 c2 ok
+"""
+# The numbers of a `create` that is refused with BadShape, and what is said.
+SHAPES = """\
+8192 object 5000 | `object` is a power of two from 4096 to 33554432
+8192 object 67108864 | `object` is a power of two from 4096 to 33554432
+8192 object 4096 unit 8192 | `unit` is a power of two from 512 to the object's size, here 4096
+8192 unit 256 | `unit` is a power of two from 512 to the object's size, here 4194304
+8192 count 17 | `count` is from 1 to 16
+8192 count 0 | `count` is from 1 to 16
+4294967297 object 4096 | of 4096 bytes, that is a size of 4294967296
+4294966785 object 4096 unit 512 count 3 | of 4096 bytes, that is a size of 4294963712
+4294963712 object 4096 unit 512 count 3 | a site holds at most 4,096 names
+"""
+
+
+class Replies(unittest.TestCase):
+    def test_advice(self):
+        for row in re.findall(r"^(\S.*)\n    (.*)\n(?:    (.*)\n)?", ADVICE, re.M):
+            lines, replies, hint = row
+            script = "\n".join(["client c1 a", "client c2 a", "client c3 b", *lines.split(";")]).encode()
+            output = "".join(f"{it}\n" for it in replies.split(";")).encode()
+            found = [f"{number}: {text}" for number, text in lab_replies.hints(script, output)]
+            self.assertTrue(any(it.startswith(hint) for it in found) if hint else not found, (row, found))
+
+    def test_shapes(self):
+        for row in SHAPES.splitlines():
+            words, hint = row.split(" | ")
+            script = f"client c1 a\nc1 create d {words}\n".encode()
+            (found,) = lab_replies.hints(script, b"2 c1 error 22 BadShape\n")
+            self.assertEqual(found[0], 2)
+            self.assertTrue(found[1].endswith(hint), (row, found))
+
+    def test_a_history_and_logs_are_no_replies(self):
+        output = b"h 1 start 2 c1.0\no a1 c1.0 dir-find rbd_directory none\n2 c1 ok\n"
+        self.assertEqual(lab_replies.hints(b"client c1 a\nc1 info d\n", output), [])
 
 
 class Wrapper(unittest.TestCase):
@@ -189,6 +338,84 @@ class Wrapper(unittest.TestCase):
         self.assertEqual((ran.stdout, ran.returncode), (b"line 2: bad number\n", 2))
         self.assertIn(b"lab:   |             ^^\n", ran.stderr)
 
+    def test_files_are_played_one_after_another(self):
+        self.program("cat; [ \"$*\" = 'run --trace' ] || echo $*")
+        for name in ("one", "two"):
+            (self.room / name).write_text(f"{name}\n")
+        files = [str(self.room / it) for it in ("one", "two")]
+        ran = self.lab("run", *files, "-", script=b"three\n")
+        self.assertEqual((ran.stdout, ran.returncode), (b"one\nrun\ntwo\nrun\nthree\nrun\n", 0))
+        self.assertIn(f"lab: {files[1]} (2 of 3)\n".encode(), ran.stderr)
+        ran = self.lab("run", files[0], "--trace")
+        self.assertEqual((ran.stdout, ran.stderr), (b"one\n", b"lab: this is the proved build\n"))
+
+    def test_the_status_is_that_of_the_first_file_that_does_not_end_well(self):
+        self.program("exit $(cat)")
+        for name in ("0", "2", "5"):
+            (self.room / name).write_text(name)
+        for names, status in (("00", 0), ("052", 5), ("0x2", 3), ("2x", 2)):
+            self.assertEqual(self.lab("run", *(str(self.room / it) for it in names)).returncode, status, names)
+
+    def test_a_file_that_can_not_be_read_is_named(self):
+        self.program("cat")
+        ran = self.lab("run", str(self.room))
+        self.assertEqual((ran.stdout, ran.returncode), (b"", 3))
+        self.assertIn(f"lab: {self.room} cannot be read: Is a directory\n".encode(), ran.stderr)
+        said = b"lab: trace cannot be read: No such file or directory\nlab: did you mean `--trace`?\n"
+        self.assertIn(said, self.lab("run", "trace").stderr)
+
+    def test_strict(self):
+        rows = (("2 c1 ok", 0), ("2 c1 ok;3 c1 error 22 BadRange", 6), ("2 c1 lost", 6), ("2 c1 unsent", 6))
+        rows += (("2 c1 unfinished waiting c2.0", 6), ("h 1 lost 2", 0), ("o a1 error error", 0))
+        for printed, status in rows:
+            self.program(f"echo '{printed}' | tr ';' '\\n'")
+            self.assertEqual(self.lab("run", "--strict").returncode, status, printed)
+            self.assertEqual(self.lab("run").returncode, 0, printed)
+        self.program("printf '2 c1 error 2 NoImage\\n3 c1 unsent\\n4 c1 lost\\n'")
+        self.assertIn(b"lab: 1 refused, 2 without a reply\n", self.lab("run", "--strict").stderr)
+
+    def test_advice_stands_on_standard_error(self):
+        self.program("printf '3 c1 error 2 NoImage\\n2 c1 ok\\n'")
+        for words in (("run",), ("show",)):
+            ran = self.lab(*words, script=b"client c1 a\nc1 create d 1\n& c1 info d\n")
+            self.assertEqual(ran.returncode, 0)
+            self.assertIn(b"\nlab: line 3: line 2 makes `d`", ran.stderr)
+            self.assertNotIn(b"makes", ran.stdout)
+
+    def test_words_are_guessed(self):
+        self.program("echo usage; exit 1")
+        (self.room / "script").write_text("")
+        rows = ((["rum"], b"did you mean `run`?"), (["hlep"], b"did you mean `help`?"))
+        rows += ((["run", "--trase"], b"did you mean `--trace`?"),)
+        rows += ((["run", "--strcit", "x"], b"did you mean `--strict`?"),)
+        rows += (([str(self.room / "script")], b"did you mean `scripts/lab run "), ([], b"lab: scripts/lab --help"))
+        rows += ((["--strict", "run"], b"`--strict` stands behind `run`"), (["run", "--trace", "--trace"], b"twice"))
+        for words, said in rows:
+            ran = self.lab(*words)
+            self.assertEqual((ran.stdout, ran.returncode), (b"usage\n", 1), words)
+            self.assertIn(said, ran.stderr, words)
+
+    def test_twenty_lines_that_do_not_fit_are_shown(self):
+        self.program("echo 'line 1: unknown word'; exit 2")
+        for lines, more in ((20, False), (21, True)):
+            said = self.lab("run", script=b"@setl 4\n" * lines).stderr
+            self.assertEqual((said.count(b"| @setl 4\n"), b"there are more" in said), (20, more))
+
+    def test_a_program_that_does_not_start_is_status_70(self):
+        self.program("")
+        (self.room / "program").write_bytes(b"\0")
+        ran = self.lab("run")
+        self.assertEqual((ran.stdout, ran.returncode), (b"", 70))
+
+    def test_a_long_run_says_how_long_it_is(self):
+        told = []
+        with mock.patch.multiple(lab_progress, LONG=0, tell=told.append):
+            with subprocess.Popen(["sh", "-c", "sleep 1.5; echo x"], stdout=subprocess.PIPE) as ran:
+                lab_progress.until_it_prints(ran)
+                self.assertEqual(ran.stdout.read(), b"x\n")
+        self.assertRegex(told[0], r"^lab: it plays: 1 s, [0-9]+ MiB in memory")
+        self.assertEqual(told[-1], "")
+
     def test_no_answer_of_an_unproved_program_is_status_70(self):
         self.program("kill -ABRT $$", proved=False)
         self.assertEqual(self.lab("run").returncode, 70)
@@ -207,7 +434,7 @@ class Wrapper(unittest.TestCase):
             self.assertEqual(ran.wait(20), -signal.SIGTERM)
         self.assertRaises(ProcessLookupError, os.kill, int(pid.read_text()), 0)
 
-    def test_a_script_that_can_not_be_read_is_the_programs_to_judge(self):
+    def test_a_script_that_can_not_be_read_is_status_3(self):
         self.program("cat >/dev/null 2>&1 || exit 3")
         with open(os.devnull, "wb") as none:
             ran = subprocess.run([self.room / "scripts/lab", "run"], stdin=none, stderr=subprocess.PIPE)
@@ -215,11 +442,12 @@ class Wrapper(unittest.TestCase):
         self.assertIn(b"lab: the script cannot be read: Bad file descriptor\n", ran.stderr)
 
     def test_it_says_that_an_output_can_not_be_written(self):
-        self.program("exit 4")
-        said = b"lab: the output cannot be written\n"
+        self.program("echo x")
+        said = b"lab: the output cannot be written: No space left on device\n"
         for to, is_said in ((">/dev/full", True), ("| true", False)):
-            whole = f"{{ sleep 0.3; {self.room}/scripts/lab run </dev/null; }} {to}"
+            whole = f"{{ sleep 0.3; {self.room}/scripts/lab run </dev/null; echo $? >{self.room}/status; }} {to}"
             self.assertEqual(said in subprocess.run(whole, shell=True, stderr=subprocess.PIPE).stderr, is_said, to)
+            self.assertEqual((self.room / "status").read_text(), "4\n", to)
 
     def test_other_words_go_to_the_program(self):
         self.program("cat; echo \"usage, $*\"; exit 1")
@@ -247,6 +475,21 @@ class Wrapper(unittest.TestCase):
         self.assertIn(b"  |    ^\n", ran.stdout)
         self.assertIn(b"missing part: nothing is played\n", ran.stdout)
 
+    def test_show_of_several_faults(self):
+        self.program("echo 'line 2: missing part'; exit 2")
+        wanted = """\
+1  client c1 a
+2  c1
+  |    ^
+  | wanted behind the last word: a command: create, write, fill, discard, read, resize, rename, ls, tell, rm, info, \
+du, quiesce, resume, close or snap ..
+  => missing part: nothing is played
+3  @settel 4
+  | ^^^^^^^
+  | did you mean `@settle`?
+"""
+        self.assertEqual(self.lab("show", script=b"client c1 a\nc1\n@settel 4\n").stdout.decode(), wanted)
+
     def test_show_of_an_empty_file(self):
         self.program("exit 0")
         (self.room / "script").write_bytes(b"")
@@ -270,12 +513,16 @@ class Wrapper(unittest.TestCase):
 
     def test_words_to_come_are_not_built(self):
         self.program("exit 1")
-        self.assertIn(b"`gen` isn't built yet", self.lab("gen", "--seed", "1").stderr)
+        self.assertIn(b"`threads` isn't built yet", self.lab("threads", "--turns", "1").stderr)
+
+    def test_words_of_gen_have_their_limits(self):
+        self.program("exit 1")
+        self.assertIn(b"`--clients` from 1 to 16", self.lab("gen", "--seed", "1", "--clients", "17").stderr)
 
     def test_help_and_version_need_no_program(self):
-        for word in ("-h", "--help", "--version"):
-            ran = self.lab(word)
-            self.assertEqual((ran.returncode, ran.stderr), (0, b""), word)
+        for words in ("-h", "--help", "help", "run --help", "--version", "version", "-V"):
+            ran = self.lab(*words.split())
+            self.assertEqual((ran.returncode, ran.stderr), (0, b""), words)
             self.assertIn(b"rbd_lab", ran.stdout)
 
     def test_version_needs_no_git(self):
