@@ -94,6 +94,17 @@ client b c | c | a or b
 """
 
 
+def ends(pid, seconds=20):
+    """Whether a process, which may be nobody's child any more, ends and is reaped within this time."""
+    for _ in range(seconds * 50):
+        try:
+            os.kill(pid, 0)
+        except ProcessLookupError:
+            return True
+        time.sleep(0.02)
+    return False
+
+
 def module_of(path):
     """Loads a script that has no `.py` in its name."""
     loader = SourceFileLoader(path.name, str(path))
@@ -432,7 +443,7 @@ class Wrapper(unittest.TestCase):
                 time.sleep(0.02)
             ran.terminate()
             self.assertEqual(ran.wait(20), -signal.SIGTERM)
-        self.assertRaises(ProcessLookupError, os.kill, int(pid.read_text()), 0)
+        self.assertTrue(ends(int(pid.read_text())))
 
     def test_a_script_that_can_not_be_read_is_status_3(self):
         self.program("cat >/dev/null 2>&1 || exit 3")
