@@ -18,7 +18,7 @@ use Rattle.rbd_kinds.specs.declared.operation_kind.OpKind.{OpKind}
 use Rattle.rbd_line.specs.Line.{Member, any_past, member_of}
 use Rattle.rbd_kinds.specs.declared.image_at.ImageAt.{ImageAt}
 use Rattle.rbd_locks.specs.declared.lock_state.LockState.{LockState}
-use Rattle.rbd_locks.specs.Locks.{LocksView, state_at}
+use Rattle.rbd_locks.specs.Locks.{LocksView, IsSoundLocks, state_at}
 use Rattle.rbd_machine.specs.Plan.{Standing}
 use Rattle.rbd_session.specs.declared.running.Occupant.{Occupant}
 use Rattle.rbd_session.specs.declared.running.Occupant.TheVariants as occupant
@@ -153,9 +153,10 @@ module _ {R : Type 0} (stands : R → Standing) where
         at_look = look_alike slot old new alike ∙ w.at_look;
       }
 
-  pub sound_alike : (old new : ClientView R) → IsSoundClient stands old → IsSoundSession stands new.session → IsClientAlike stands old new → IsSoundClient stands new
-  sound_alike old new sound session alike = record {
+  pub sound_alike : (old new : ClientView R) → IsSoundClient stands old → IsSoundSession stands new.session → IsSoundLocks new.locks → IsClientAlike stands old new → IsSoundClient stands new
+  sound_alike old new sound session locks alike = record {
     session = session;
+    locks = locks;
     slots = ap length alike.slots ∙ sound.slots;
     free = λ slot none. ap (state_in slot) alike.slots ∙ sound.free slot (free_alike slot old.session new.session alike.session none);
     ways = λ slot. subst (λ slots. IsWellOnWay stands slot (state_in slot slots).way new.session new.locks) (sym alike.slots) (way_there slot (state_in slot old.slots).way (sound.ways slot));

@@ -13,7 +13,7 @@ use Rattle.rbd_kinds.specs.declared.layout.Extent.{Extent}
 use Rattle.rbd_kinds.specs.declared.notice.Notice.{Notice}
 use Rattle.rbd_line.specs.Line.{member_of}
 use Rattle.rbd_locks.specs.declared.lock_state.LockState.{LockState}
-use Rattle.rbd_locks.specs.Locks.{LocksView, heard, state_at}
+use Rattle.rbd_locks.specs.Locks.{LocksView, IsSoundLocks, heard, state_at}
 use Rattle.rbd_kinds.specs.Images.{is_at}
 use Rattle.rbd_locks.specs.States.{told}
 use Rattle.rbd_locks.proofs.Lasting.{told_owned}
@@ -30,10 +30,11 @@ all_blank (suc n) zero = refl
 all_blank (suc n) (suc slot) = all_blank n slot
 
 module _ {R : Type 0} (stands : R → Standing) where
-  pub new_sound : (c : ClientView R) → IsSoundSession stands c.session → ((site : SiteId) (image : ℕ) → lines_of c.session.lines site image ≡ [])
+  pub new_sound : (c : ClientView R) → IsSoundSession stands c.session → IsSoundLocks c.locks → ((site : SiteId) (image : ℕ) → lines_of c.session.lines site image ≡ [])
       → c.slots ≡ replicate 65 blank → c.release ≡ None → IsSoundClient stands c
-  new_sound c session lines slots release = record {
+  new_sound c session counted lines slots release = record {
     session = session;
+    locks = counted;
     slots = ap length slots ∙ length-replicate 65 blank;
     free = λ slot none. ap (state_in slot) slots ∙ all_blank 65 slot;
     ways = λ slot. subst (λ (s : SlotState). IsWellOnWay stands slot s.way c.session c.locks) (sym (ap (state_in slot) slots ∙ all_blank 65 slot)) tt;
@@ -47,6 +48,7 @@ module _ {R : Type 0} (stands : R → Standing) where
       → IsSoundClient stands new
   slot_set_sound slot x old new sound session held lines locks release slots here there unbegun free = record {
     session = session;
+    locks = subst IsSoundLocks (sym locks) sound.locks;
     slots = slots;
     free = free_at;
     ways = way_at;
@@ -76,10 +78,11 @@ module _ {R : Type 0} (stands : R → Standing) where
               (sound.ways k))
 
   -- what is counted of locks changes, and no lock is lost by it
-  pub relocked_sound : (old new : ClientView R) → IsSoundClient stands old → new.session ≡ old.session → new.slots ≡ old.slots → new.release ≡ old.release
+  pub relocked_sound : (old new : ClientView R) → IsSoundClient stands old → IsSoundLocks new.locks → new.session ≡ old.session → new.slots ≡ old.slots → new.release ≡ old.release
       → ((site : SiteId) (image : ℕ) → IsOwned site image old.locks → IsOwned site image new.locks) → IsSoundClient stands new
-  relocked_sound old new sound same slots release kept = record {
+  relocked_sound old new sound counted same slots release kept = record {
     session = subst (IsSoundSession stands) (sym same) sound.session;
+    locks = counted;
     slots = ap length slots ∙ sound.slots;
     free = λ slot none. ap (state_in slot) slots ∙ sound.free slot (ap (λ (s : SessionView R). held_in slot s.slots) (sym same) ∙ none);
     ways = λ slot. subst (λ xs. IsWellOnWay stands slot (state_in slot xs).way new.session new.locks) (sym slots)

@@ -14,7 +14,7 @@ use Rattle.rbd_kinds.specs.declared.id.SiteId.{SiteId}
 use Rattle.rbd_kinds.specs.declared.machine.Fed.{Fed}
 use Rattle.rbd_kinds.specs.declared.operation.Op.{Op}
 use Rattle.rbd_kinds.specs.declared.image_at.ImageAt.{ImageAt}
-use Rattle.rbd_locks.specs.Locks.{LocksView}
+use Rattle.rbd_locks.specs.Locks.{LocksView, IsSoundLocks}
 use Rattle.rbd_machine.specs.Plan.{Standing}
 use Rattle.rbd_session.specs.Lines.{lines_of}
 use Rattle.rbd_session.specs.OnTrack.{LeavesOthers}
@@ -52,14 +52,15 @@ module _ {R : Type 0} (stands : R → Standing) where
 
   -- What one slot did: its operation was answered.
   pub sound_behind : (slot : ℕ) (site : SiteId) (o : Op) (f : Fed) (q : Quiescing) (look : Option ImageAt) (old new : ClientView R)
-      → IsSoundClient stands old → IsSoundSession stands new.session → LeavesSlots slot old new → length new.slots ≡ 65 → IsTelling new.release
+      → IsSoundClient stands old → IsSoundSession stands new.session → IsSoundLocks new.locks → LeavesSlots slot old new → length new.slots ≡ 65 → IsTelling new.release
       → CountsAll (comings_of q look site o f) old.locks new.locks → IsAtRest site o old
       → (held_in slot new.session.slots ≡ None → state_in slot new.slots ≡ blank)
       → IsWellOnWay stands slot (state_in slot new.slots).way new.session new.locks
       → ((k : ℕ) → k ≢ slot → (p : ImageAt) → own_look_at stands k old.session ≡ Some p → own_look_at stands k new.session ≡ Some p)
       → IsSoundClient stands new
-  sound_behind slot site o f q look old new sound session leaves slots telling counts rest free way_there looks = record {
+  sound_behind slot site o f q look old new sound session locks leaves slots telling counts rest free way_there looks = record {
     session = session;
+    locks = locks;
     slots = slots;
     free = free_at;
     ways = way_at;

@@ -27,7 +27,7 @@ use Rattle.rbd_kinds.specs.declared.image_at.ImageAt.{ImageAt}
 use Rattle.rbd_kinds.proofs.Images.{at_itself}
 use Rattle.rbd_locks.specs.declared.lock_state.LockState.{LockState}
 use Rattle.rbd_locks.specs.Comings.{after_all}
-use Rattle.rbd_locks.specs.Locks.{LocksView, state_at}
+use Rattle.rbd_locks.specs.Locks.{LocksView, IsSoundLocks, state_at}
 use Rattle.rbd_locks.specs.States.{answered}
 use Rattle.rbd_machine.specs.Plan.{Standing}
 use Rattle.rbd_owner.specs.Acquire.{begun, op_at, op_of}
@@ -181,7 +181,7 @@ module _ {R : Type 0} (stands : R → Standing) where
   -- ---- what is left of a client behind an answer on a way
 
   pub way_sound : (slot : ℕ) (a : Acquire) (f : Fed) (result : Option Reply) (old new : ClientView R)
-      → IsSoundClient stands old → IsSoundSession stands new.session → actor_at stands slot old ≡ actor.Way a
+      → IsSoundClient stands old → IsSoundSession stands new.session → IsSoundLocks new.locks → actor_at stands slot old ≡ actor.Way a
       → WayComesTo a f result (state_in slot new.slots).way
       → (is_some result ≡ false → new.session ≡ old.session) → (is_some result ≡ true → IsSome (running_at slot old.session) → held_in slot new.session.slots ≡ None)
       → LeavesSlots stands slot old new → length new.slots ≡ 65 → new.release ≡ old.release
@@ -189,8 +189,8 @@ module _ {R : Type 0} (stands : R → Standing) where
       → state_in slot new.slots ≡ state_on_way (is_some result) (state_in slot new.slots).way (state_in slot old.slots)
       → (is_some result ≡ true → (r : Running R) → running_at slot old.session ≡ Some r → lines_of new.session.lines ≡ (ended_by slot (track_of r old.session.lines)).lines)
       → IsSoundClient stands new
-  way_sound slot a f result old new sound session acts comes stays gone leaves slots release counts state left =
-      sound_behind stands slot a.site (op_of a) f quiescing.Leaves None old new sound session leaves slots (subst IsTelling (sym release) sound.telling) counts (way_rests a.site a old)
+  way_sound slot a f result old new sound session locks acts comes stays gone leaves slots release counts state left =
+      sound_behind stands slot a.site (op_of a) f quiescing.Leaves None old new sound session locks leaves slots (subst IsTelling (sym release) sound.telling) counts (way_rests a.site a old)
       (free result stays state) (on_way result (state_in slot new.slots).way comes stays) (looks result stays left)
     where
       waiting : WaitsForLook stands slot a.site a.image old.session
@@ -275,10 +275,10 @@ module _ {R : Type 0} (stands : R → Standing) where
       go telling.Dropping a = tt
       go telling.Telling a = tt
 
-  pub release_sound : (r : Release) (f : Fed) (old new : ClientView R) → IsSoundClient stands old → IsSoundSession stands new.session → actor_at stands 0 old ≡ actor.Release r → new.session ≡ old.session → new.slots ≡ old.slots
+  pub release_sound : (r : Release) (f : Fed) (old new : ClientView R) → IsSoundClient stands old → IsSoundSession stands new.session → IsSoundLocks new.locks → actor_at stands 0 old ≡ actor.Release r → new.session ≡ old.session → new.slots ≡ old.slots
       → new.release ≡ released_by r f → CountsAll (comings_of quiescing.Leaves None r.site (release_op r) f) old.locks new.locks → IsSoundClient stands new
-  release_sound r f old new sound session acts same slots release counts =
-      sound_behind stands 0 r.site (release_op r) f quiescing.Leaves None old new sound session
+  release_sound r f old new sound session locks acts same slots release counts =
+      sound_behind stands 0 r.site (release_op r) f quiescing.Leaves None old new sound session locks
       (record {
         held = λ k differ. ap (λ (s : SessionView R). held_in k s.slots) same;
         states = λ k differ. ap (state_in k) slots;

@@ -26,7 +26,7 @@ use Rattle.rbd_kinds.specs.OperationKind.{kind_of}
 use Rattle.rbd_line.specs.Line.{Member, member_of}
 use Rattle.rbd_kinds.specs.declared.image_at.ImageAt.{ImageAt}
 use Rattle.rbd_locks.specs.declared.lock_state.LockState.{LockState}
-use Rattle.rbd_locks.specs.Locks.{LocksView, state_at}
+use Rattle.rbd_locks.specs.Locks.{LocksView, IsSoundLocks, state_at}
 use Rattle.rbd_machine.specs.Plan.{Plan, Ask, Await, Note, Return, Goto, Standing}
 use Rattle.rbd_owner.specs.Acquire.{begun}
 use Rattle.rbd_owner.specs.declared.release.Release.{Release}
@@ -187,14 +187,14 @@ module _ {R : Type 0} (stands : R → Standing) where
         go None at = unlooked at (state_in slot c.slots).way refl
 
     pub request_sound : (slot : ℕ) (site : SiteId) (o : Op) (f : Fed) (result : Option Reply) (old new : ClientView R)
-        → IsSoundClient stands old → IsSoundSession stands new.session → actor_at stands slot old ≡ actor.Request → IsReadied stands is_ready slot f old.session
+        → IsSoundClient stands old → IsSoundSession stands new.session → IsSoundLocks new.locks → actor_at stands slot old ≡ actor.Request → IsReadied stands is_ready slot f old.session
         → op_at stands slot old.session ≡ Some (site, o)
         → IsFed stands slot f result old.session new.session → LeavesSlots stands slot old new → length new.slots ≡ 65 → new.release ≡ old.release
         → CountsAll (comings_of (state_in slot old.slots).quiescing (own_look_at stands slot old.session) site o f) old.locks new.locks → IsAtRest site o old
         → state_in slot new.slots ≡ state_behind (is_some result) (is_some (own_look_at stands slot old.session)) (state_in slot old.slots)
         → IsSoundClient stands new
-    request_sound slot site o f result old new sound session acts ready wanted is_fed leaves slots release counts rest state =
-        sound_behind stands slot site o f (state_in slot old.slots).quiescing (own_look_at stands slot old.session) old new sound session leaves slots
+    request_sound slot site o f result old new sound session locks acts ready wanted is_fed leaves slots release counts rest state =
+        sound_behind stands slot site o f (state_in slot old.slots).quiescing (own_look_at stands slot old.session) old new sound session locks leaves slots
         (subst IsTelling (sym release) sound.telling) counts rest
         (λ none. state ∙ ap (λ b. state_behind b (is_some (own_look_at stands slot old.session)) (state_in slot old.slots)) (fed_free slot f result old.session new.session is_fed none))
         (subst (λ (s : SlotState). IsWellOnWay stands slot s.way new.session new.locks) (sym state) (way_over slot f old sound acts ready new.session new.locks (is_some result)))

@@ -6,7 +6,7 @@ use Rattle.rbd_client.specs.Client.{ClientView, blank, state_in}
 use Rattle.rbd_course.specs.declared.stage.Stage.TheVariants as stage
 use Rattle.rbd_kinds.specs.declared.id.SiteId.{SiteId}
 use Rattle.rbd_line.specs.Line.{Member, member_of}
-use Rattle.rbd_locks.specs.Locks.{LocksView, state_at}
+use Rattle.rbd_locks.specs.Locks.{LocksView, IsSoundLocks, state_at}
 use Rattle.rbd_machine.specs.Plan.{Standing}
 use Rattle.rbd_owner.specs.declared.release.Release.{Release}
 use Rattle.rbd_owner.specs.declared.release.Stage.TheVariants as releasing
@@ -42,9 +42,11 @@ IsTelling None = Unit {0}
 IsTelling (Some r) = r.stage ≡ releasing.Telling
 
 -- Each request that is on its way to a lock waits for its look under the lock, and one that has
--- taken the lock itself has it.
+-- taken the lock itself has it. What is counted of locks is in form: the images whose locks were
+-- asked for stand in order.
 pub record IsSoundClient {R : Type 0} (stands : R → Standing) (c : ClientView R) : Type 0 where
   pub session : IsSoundSession stands c.session
+  pub locks : IsSoundLocks c.locks
   pub slots : length c.slots ≡ 65
   pub free : (slot : ℕ) → held_in slot c.session.slots ≡ None → state_in slot c.slots ≡ blank
   pub ways : (slot : ℕ) → IsWellOnWay stands slot (state_in slot c.slots).way c.session c.locks

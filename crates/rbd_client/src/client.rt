@@ -29,7 +29,6 @@ use std::alloc::Global;
 use std::marker::Model;
 
 /// One client: its requests, each in a slot, and the locks of the images that they change.
-#[derive(Drop)]
 pub struct Client<R: Request> {
     session: Session<R>,
     locks: Locks,
@@ -37,6 +36,24 @@ pub struct Client<R: Request> {
     /// The release that it is in the middle of: its lock is dropped, and nobody is told yet.
     release: Option<Release>,
     heard: Vec<Notice>,
+}
+
+// (written out, so that it is a call where a client is let go, and not each of its parts)
+impl<R: Request> Drop for Client<R> {
+    fn drop(self) {
+        let Client {
+            session,
+            locks,
+            slots,
+            release,
+            heard,
+        } = self;
+        drop(session);
+        drop(locks);
+        drop(slots);
+        drop(release);
+        drop(heard);
+    }
 }
 
 impl<R: Request> Model for Client<R> {
@@ -51,12 +68,14 @@ impl<R: Request> Model for Client<R> {
 }
 
 impl<R: Request> Client<R> {
-    /// A life of a client at its home site, without requests. Nothing is known of any lock.
+    /// A life of a client at its home site, without requests. Nothing is known of any lock, and none
+    /// is let go.
     pub fn new(alloc: Global, instance: Instance, home: SiteId) -> Result<Self, NoMemory>
         ensures who { IfOk result (λ c. (c.session.instance ≡ instance) × (c.session.home ≡ home)) }
         ensures slots { IfOk result (λ c. (slot : ℕ) → held_in slot c.session.slots ≡ None) }
         ensures lines { IfOk result (λ c. (site : Site) (image : ℕ) → lines_of c.session.lines site image ≡ []) }
         ensures locks { IfOk result (λ c. (site : Site) (image : ℕ) → state_at site image c.locks ≡ unknown) }
+        ensures release { IfOk result (λ c. c.release ≡ None) }
         ensures heard { IfOk result (λ c. c.heard ≡ []) }
         ensures sound { IfOk result (IsSoundClient R.stands) }
     {

@@ -1,6 +1,7 @@
 //! What an answer comes to for the locks.
 ghost use Rattle.std.specs.Prelude.{◌<◌};
 ghost use Rattle.rbd_client.specs.Feeding.{comings_of, quiesces, resumes, CountsAll};
+ghost use Rattle.rbd_locks.specs.Locks.{IsSoundLocks};
 
 use rbd_commands::Quiescing;
 use rbd_kinds::{Answer, DirectoryOp, Fed, ImageAt, ImageId, Op, SiteId};
@@ -17,7 +18,8 @@ pub fn count(
     fed: &Fed,
 )
     requires { 0 < locks.old.room }
-    ensures { CountsAll (comings_of quiescing look site op.now fed.now) locks.old locks.new }
+    ensures counts { CountsAll (comings_of quiescing look site op.now fed.now) locks.old locks.new }
+    ensures sound { IsSoundLocks locks.old → IsSoundLocks locks.new }
 {
     let Fed::Answer(answer) = fed else {
         return;
@@ -32,7 +34,8 @@ pub fn count(
 
 fn begin_quiesce(locks: &mut Locks, look: Option<ImageAt>)
     requires { 0 < locks.old.room }
-    ensures { CountsAll (quiesces look) locks.old locks.new }
+    ensures counts { CountsAll (quiesces look) locks.old locks.new }
+    ensures sound { IsSoundLocks locks.old → IsSoundLocks locks.new }
 {
     if let Some(at) = look {
         locks.quiesce(&at);
@@ -40,7 +43,8 @@ fn begin_quiesce(locks: &mut Locks, look: Option<ImageAt>)
 }
 
 fn end_quiesce(locks: &mut Locks, site: SiteId, op: &Op, image: ImageId)
-    ensures { CountsAll (resumes site op.now image) locks.old locks.new }
+    ensures counts { CountsAll (resumes site op.now image) locks.old locks.new }
+    ensures sound { IsSoundLocks locks.old → IsSoundLocks locks.new }
 {
     if let Op::Directory(DirectoryOp::Find { name: _ }) = op {
         locks.resume(&ImageAt { site, image });

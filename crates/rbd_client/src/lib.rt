@@ -37,8 +37,9 @@
 //!   itself isn't held back by a later wish of another client.
 //! - **The release** (slot 0) begins where another client asked for the lock, the image isn't
 //!   quiesced, and no request of the image is past its look under the lock or has taken the lock
-//!   itself. Of several images it takes the first by site, then by id. One that has begun goes on
-//!   to its end.
+//!   itself. Of several images that were asked for it takes the first whose lock may be let go, by
+//!   site and then by id: when each was asked for doesn't matter. One that has begun goes on to its
+//!   end.
 //! - A `close` makes no look under the lock, so neither the lock, a quiesce nor a wish holds it
 //!   back; it is alone in its line, and drops the lock behind all requests before it. What a
 //!   session counts of its answers is `rbd_locks`'s.
@@ -58,7 +59,8 @@
 //! # Contracts
 //!
 //! Contracts see a client as a record (`ClientView`): its session, its locks, what it keeps of each
-//! slot, the release that it is in the middle of, and what it heard.
+//! slot, the release that it is in the middle of, and what it heard. A new one knows of no lock and
+//! is in the middle of no release. The images that were asked for stand in order (`IsSoundLocks`).
 //!
 //! | file | what it says |
 //! |---|---|

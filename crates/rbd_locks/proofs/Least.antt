@@ -24,14 +24,14 @@ not_below : (r : Ordering) → r ≡ Less → is_lt (ordering_reverse r) ≡ fal
 not_below r is = ap (λ o. is_lt (ordering_reverse o)) is
 
 -- what comes later isn't below
-not_below_first : (first other : ImageAt) → image_cmp first other ≡ Less → is_lt (image_cmp other first) ≡ false
+pub not_below_first : (first other : ImageAt) → image_cmp first other ≡ Less → is_lt (image_cmp other first) ≡ false
 not_below_first first other is = ap is_lt (total.antisymm other first) ∙ not_below (image_cmp first other) is
 
-not_below_itself : (p : ImageAt) → is_lt (image_cmp p p) ≡ false
+pub not_below_itself : (p : ImageAt) → is_lt (image_cmp p p) ≡ false
 not_below_itself p = ap is_lt (tied_itself total p)
 
 -- one of some places that begin with this one is this one, or one of the others
-split : {P : Type 0} (first other : ImageAt) (places : List ImageAt) → IsTrue (is_among other.site other.image (first ∷ places))
+pub split : {P : Type 0} (first other : ImageAt) (places : List ImageAt) → IsTrue (is_among other.site other.image (first ∷ places))
     → (IsTrue (is_at other.site other.image first.site first.image) → P) → (IsTrue (is_among other.site other.image places) → P) → P
 split {P} first other places is here there = go (is_at other.site other.image first.site first.image) refl is
   where
@@ -40,7 +40,7 @@ split {P} first other places is here there = go (is_at other.site other.image fi
     go false apart is = there is
 
 -- all the others come later
-later : (first other : ImageAt) (places : List ImageAt) → AllByRecursion (λ p. image_cmp first p ≡ Less) places → IsTrue (is_among other.site other.image places)
+pub later : (first other : ImageAt) (places : List ImageAt) → AllByRecursion (λ p. image_cmp first p ≡ Less) places → IsTrue (is_among other.site other.image places)
     → image_cmp first other ≡ Less
 later first other [] all is = absurd (true≢false (sym is))
 later first other (p ∷ places) all is =

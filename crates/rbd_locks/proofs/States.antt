@@ -11,7 +11,7 @@ use Rattle.rbd_kinds.specs.declared.id.SiteId.{SiteId}
 use Rattle.rbd_kinds.specs.declared.operation.Op.TheVariants as op
 use Rattle.rbd_locks.specs.declared.lock_state.LockState.{LockState}
 use Rattle.rbd_locks.specs.declared.noted.Noted.{Noted}
-use Rattle.rbd_locks.specs.Locks.{begins, changed_at, is_blank, noted_of, noted_or, state_at, with_asked, AreNoted, IsRoomFor, IsSoundLocks, LocksView, StaysBlank}
+use Rattle.rbd_locks.specs.Locks.{begins, changed_at, is_blank, noted_of, noted_or, state_at, with_asked, AreInOrder, AreNoted, IsRoomFor, IsSoundLocks, LocksView, StaysBlank}
 use Rattle.rbd_kinds.specs.Images.{is_at, key_of}
 use Rattle.rbd_locks.specs.Places.{is_among}
 use Rattle.rbd_locks.specs.States.{answered}
@@ -77,8 +77,8 @@ set_at s i x old new noted asked t j =
 -- an image that is asked for only where its lock is owned keeps all sound
 pub stays_sound : (s : SiteId) (i : ℕ) (x : LockState) (old new : LocksView)
     → ((t : SiteId) (j : ℕ) → state_at t j new ≡ changed_at s i (λ before. x) t j (state_at t j old))
-    → (IsTrue x.asked → IsTrue x.owned) → IsSoundLocks old → AreNoted new.entries → IsSoundLocks new
-stays_sound s i x old new states asked sound few = record { owned = owned; few = few }
+    → (IsTrue x.asked → IsTrue x.owned) → IsSoundLocks old → AreInOrder new.asked → AreNoted new.entries → IsSoundLocks new
+stays_sound s i x old new states asked sound order few = record { owned = owned; order = order; few = few }
   where
     go : (t : SiteId) (j : ℕ) (b : Bool) → IsTrue (cond b x (state_at t j old)).asked → IsTrue (cond b x (state_at t j old)).owned
     go t j true is = asked is

@@ -50,15 +50,16 @@ state_at site image l = with_asked (is_among site image l.asked) (noted_or (look
 abbrev pub AreNoted : List (ℕ × Noted) → Type 0
 AreNoted entries = (key : ℕ) → IfSome (lookup (nat_eq key) entries) (λ n. IsFalse (is_blank n))
 
--- Only a lock that the session counts as its own is asked for. No image is held of which nothing is
--- noted.
-pub record IsSoundLocks (l : LocksView) : Type 0 where
-  pub owned : (site : SiteId) (image : ℕ) → IsTrue (is_among site image l.asked) → IsTrue (state_at site image l).owned
-  pub few : AreNoted l.entries
-
--- the images that were asked for stand in order: by site, then by id
+-- images stand in order: by site, then by id
 abbrev pub AreInOrder : List ImageAt → Type 0
 AreInOrder places = IsStrictlySortedBy image_cmp places
+
+-- Only a lock that the session counts as its own is asked for, and the images whose locks were asked
+-- for stand in order. No image is held of which nothing is noted.
+pub record IsSoundLocks (l : LocksView) : Type 0 where
+  pub owned : (site : SiteId) (image : ℕ) → IsTrue (is_among site image l.asked) → IsTrue (state_at site image l).owned
+  pub order : AreInOrder l.asked
+  pub few : AreNoted l.entries
 
 -- ---- what changes it
 

@@ -1,12 +1,22 @@
 //! The images that were asked for, in order.
-ghost use Rattle.std.specs.Prelude.{◌≡◌, ℕ, true, if◌then◌else◌, IsTrue, OnOk, OnErr, None, Some};
+ghost use Rattle.std.specs.Prelude.{◌≡◌, ℕ, [], true, if◌then◌else◌, IsTrue, OnOk, OnErr, None, Some};
 ghost use Rattle.rbd_kinds.specs.declared.id.SiteId.{SiteId};
 ghost use Rattle.rbd_kinds.specs.Images.{is_at};
+ghost use Rattle.rbd_locks.specs.Locks.{AreInOrder};
 ghost use Rattle.rbd_locks.specs.Places.{is_among, next_behind};
 
 use rbd_kinds::{ImageAt, NoMemory};
+use std::alloc::Global;
 use std::collections::BTreeSet;
 use std::ops::Bound;
+
+/// Nobody has asked for any image.
+pub fn none(alloc: Global) -> BTreeSet<ImageAt>
+    ensures keys { result.keys ≡ [] }
+    ensures order { AreInOrder result.keys }
+{
+    BTreeSet::new(alloc)
+}
 
 /// Whether an image was asked for.
 pub fn is_asked(asked: &BTreeSet<ImageAt>, at: &ImageAt) -> bool
@@ -19,6 +29,7 @@ pub fn is_asked(asked: &BTreeSet<ImageAt>, at: &ImageAt) -> bool
 pub fn ask(asked: &mut BTreeSet<ImageAt>, at: &ImageAt) -> Result<(), NoMemory>
     ensures ok { OnOk result ((site : SiteId) (image : ℕ) → is_among site image asked.new.keys ≡ if is_at at.now.site at.now.image site image then true else is_among site image asked.old.keys) }
     ensures err { OnErr result (asked.new.keys ≡ asked.old.keys) }
+    ensures order { AreInOrder asked.new.keys }
 {
     asked.insert(*at)?;
     Ok(())
@@ -27,7 +38,8 @@ pub fn ask(asked: &mut BTreeSet<ImageAt>, at: &ImageAt) -> Result<(), NoMemory>
 /// An image that was asked for stays so, or isn't asked for from now on. It takes no memory.
 pub fn keep(asked: &mut BTreeSet<ImageAt>, at: &ImageAt, stays: bool)
     requires { IsTrue stays → IsTrue (is_among at.now.site at.now.image asked.old.keys) }
-    ensures { (site : SiteId) (image : ℕ) → is_among site image asked.new.keys ≡ if is_at at.now.site at.now.image site image then stays else is_among site image asked.old.keys }
+    ensures among { (site : SiteId) (image : ℕ) → is_among site image asked.new.keys ≡ if is_at at.now.site at.now.image site image then stays else is_among site image asked.old.keys }
+    ensures order { AreInOrder asked.old.keys → AreInOrder asked.new.keys }
 {
     if !stays {
         asked.remove(at);

@@ -73,3 +73,10 @@ pub fn the_next_is_the_least()
         → next_behind behind places ≡ None
         → IsTrue (is_among other.site other.image places) → IsFalse (is_behind behind other) }
 {}
+
+/// Two lists of images in order that have the same images are one. So what a session counts of all
+/// images says which were asked for, and in which order: when each was asked for doesn't matter.
+pub fn asked_lists_are_one()
+    ensures { (asked other : List ImageAt) → AreInOrder asked → AreInOrder other
+        → ((site : SiteId) (image : ℕ) → is_among site image asked ≡ is_among site image other) → asked ≡ other }
+{}

@@ -46,7 +46,9 @@
 //!
 //! Contracts see [`Locks`] as a `LocksView`, and read it by `state_at`: what is counted of an image
 //! at a site. Each call is one equation on the states of all images. The images that were asked for
-//! are a list (`asked`), by site and then by id.
+//! are a list (`asked`), by site and then by id: in which order they were asked for doesn't matter.
+//! That it is in order, and that each of its images is owned, is told by each call's clause `sound`
+//! (`IsSoundLocks`).
 //!
 //! | Call | States afterwards |
 //! |---|---|
@@ -65,8 +67,9 @@
 //! [`laws`] says, of whatever comes: that a lock counts as owned exactly from a `lock-take` that is
 //! done to the next answer of a `lock-drop` or `header-remove` that is done, by the operations of
 //! the session on that image alone (`owns_after`); that only a lock that counts as owned is asked
-//! for; how long an asking stays; and that other images stay as they were. And that `next_asked`
-//! tells the least.
+//! for; how long an asking stays; and that other images stay as they were. That `next_asked` tells
+//! the least. And that two lists in order with the same images are one, so that the states of all
+//! images say which were asked for, and in which order.
 //!
 //! # Cost
 //!

@@ -7,7 +7,7 @@ ghost use Rattle.rbd_locks.specs.Locks.{begins, changed_at, counted, heard, stat
 ghost use Rattle.rbd_locks.specs.Places.{next_behind};
 ghost use Rattle.rbd_locks.specs.States.{answered, blank, quieted, resumed, told};
 
-use crate::asked::{ask, first, first_behind, is_asked, keep};
+use crate::asked::{ask, first, first_behind, is_asked, keep, none};
 use crate::lock_state::{LockState, is_counted};
 use crate::noted::{Noted, make_room, note, noted_at};
 use rbd_kinds::{Answer, HeaderOp, ImageAt, NoMemory, Notice, NoticeKind, Op, SiteId};
@@ -41,10 +41,11 @@ impl Locks {
     pub fn new(alloc: Global) -> Self
         ensures states { (site : Site) (image : ℕ) → state_at site image result ≡ blank }
         ensures asked { result.asked ≡ [] }
+        ensures sound { IsSoundLocks result }
     {
         Locks {
             noted: HashMap::new(alloc),
-            asked: BTreeSet::new(alloc),
+            asked: none(alloc),
         }
     }
 
@@ -68,6 +69,7 @@ impl Locks {
         ensures states { (site : Site) (image : ℕ) → state_at site image self.new ≡ state_at site image self.old }
         ensures asked { self.new.asked ≡ self.old.asked }
         ensures room { OnOk result (0 < self.new.room) }
+        ensures sound { IsSoundLocks self.new }
     {
         make_room(&mut self.noted)
     }
@@ -77,7 +79,10 @@ impl Locks {
         requires { IsTrue (begins op.now answer.now) → 0 < self.old.room }
         ensures states { (there : Site) (image : ℕ) → state_at there image self.new ≡ counted site op.now answer.now there image (state_at there image self.old) }
         ensures room { IsFalse (begins op.now answer.now) → self.old.room ≤ self.new.room }
+        ensures sound { IsSoundLocks self.new }
     {
+        // The table is named for what holds of it, also where nothing is counted.
+        let _noted = &self.noted;
         let Op::Header { image, op } = op else {
             return;
         };
@@ -95,7 +100,10 @@ impl Locks {
         ensures ok { OnOk result ((site : Site) (image : ℕ) → state_at site image self.new ≡ heard notice.now site image (state_at site image self.old)) }
         ensures err { OnErr result (self.new ≡ self.old) }
         ensures room { self.new.room ≡ self.old.room }
+        ensures sound { IsSoundLocks self.new }
     {
+        // The table is named for what holds of it, also where nothing is heard of a lock.
+        let _noted = &self.noted;
         match &notice.kind {
             NoticeKind::RequestLock => self.ask(&ImageAt {
                 site: notice.site,
@@ -108,7 +116,8 @@ impl Locks {
     /// The look under the lock of a `quiesce` found the image's header. It takes no memory.
     pub fn quiesce(&mut self, at: &ImageAt)
         requires { 0 < self.old.room }
-        ensures { (site : Site) (image : ℕ) → state_at site image self.new ≡ changed_at at.now.site at.now.image quieted site image (state_at site image self.old) }
+        ensures states { (site : Site) (image : ℕ) → state_at site image self.new ≡ changed_at at.now.site at.now.image quieted site image (state_at site image self.old) }
+        ensures sound { IsSoundLocks self.new }
     {
         let state = self.state(at).quieted();
         self.set(at, &state);
@@ -118,6 +127,7 @@ impl Locks {
     pub fn resume(&mut self, at: &ImageAt)
         ensures states { (site : Site) (image : ℕ) → state_at site image self.new ≡ changed_at at.now.site at.now.image resumed site image (state_at site image self.old) }
         ensures room { self.old.room ≤ self.new.room }
+        ensures sound { IsSoundLocks self.new }
     {
         let state = self.state(at).resumed();
         self.set(at, &state);
@@ -150,6 +160,7 @@ impl Locks {
         requires { (image : ℕ) → IsTrue (begins (of_op.Header image op.now) answer.now) → 0 < self.old.room }
         ensures states { (site : Site) (image : ℕ) → state_at site image self.new ≡ changed_at at.now.site at.now.image (answered op.now answer.now) site image (state_at site image self.old) }
         ensures room { (image : ℕ) → IsFalse (begins (of_op.Header image op.now) answer.now) → self.old.room ≤ self.new.room }
+        ensures sound { IsSoundLocks self.new }
     {
         let state = self.state(at).answered(op, answer);
         self.set(at, &state);
@@ -161,6 +172,7 @@ impl Locks {
         requires room { IsRoomFor (state_at at.now.site at.now.image self.old) state.now self.old.room }
         ensures states { (site : Site) (image : ℕ) → state_at site image self.new ≡ changed_at at.now.site at.now.image (λ before. state.now) site image (state_at site image self.old) }
         ensures room { StaysBlank (state_at at.now.site at.now.image self.old) state.now → self.old.room ≤ self.new.room }
+        ensures sound { IsSoundLocks self.new }
     {
         let noted = Noted {
             owned: state.owned,
@@ -176,6 +188,7 @@ impl Locks {
         ensures ok { OnOk result ((site : Site) (image : ℕ) → state_at site image self.new ≡ changed_at at.now.site at.now.image (told notice_kind.RequestLock) site image (state_at site image self.old)) }
         ensures err { OnErr result (self.new ≡ self.old) }
         ensures room { self.new.room ≡ self.old.room }
+        ensures sound { IsSoundLocks self.new }
     {
         if !self.state(at).owned {
             return Ok(());

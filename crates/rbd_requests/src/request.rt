@@ -19,7 +19,6 @@ use std::alloc::Global;
 /// let mut request: SessionRequest<Follower> = SessionRequest::Write(request);
 /// request.wants()       // what the write wants: an operation at site A, of the kind dir-find
 /// ```
-#[derive(Drop)]
 pub enum SessionRequest<E> {
     /// `read`
     Read(Boxed<ReadRequest>),
@@ -43,6 +42,25 @@ pub enum SessionRequest<E> {
     Close(Boxed<CloseRequest>),
     /// A machine that a layer above brings.
     Extra(Boxed<E>),
+}
+
+// (written out, so that it is a call where a request is let go, and not a choice of eleven)
+impl<E: Drop> Drop for SessionRequest<E> {
+    fn drop(self) {
+        match self {
+            SessionRequest::Read(request) => drop(request),
+            SessionRequest::Write(request) => drop(request),
+            SessionRequest::Discard(request) => drop(request),
+            SessionRequest::Create(request) => drop(request),
+            SessionRequest::Snap(request) => drop(request),
+            SessionRequest::List(request) => drop(request),
+            SessionRequest::Resize(request) => drop(request),
+            SessionRequest::Rollback(request) => drop(request),
+            SessionRequest::Remove(request) => drop(request),
+            SessionRequest::Close(request) => drop(request),
+            SessionRequest::Extra(request) => drop(request),
+        }
+    }
 }
 
 impl<E: Machine + Drop> Machine for SessionRequest<E> {

@@ -19,11 +19,19 @@ use std::marker::Model;
 
 /// A site (a cluster): its records and the log of the operations that made them. Contracts see it
 /// as its id and its log; the records are what the log leaves.
-#[derive(Drop)]
 pub struct Site {
     id: SiteId,
     store: Store,
     log: Vec<Done>,
+}
+
+// (written out, so that it is a call where a site is let go, and not each of its records)
+impl Drop for Site {
+    fn drop(self) {
+        let Site { id: _, store, log } = self;
+        drop(store);
+        drop(log);
+    }
 }
 
 impl Model for Site {

@@ -19,8 +19,8 @@ invariant_of-self g c =
     let same : (c.args.release.site, release_op c.args.release) ≡ (c.args.site, c.args.op.now) = ap (λ o. unwrap_or o (c.args.site, c.args.op.now)) wants in
     release_sound g.R.Machine.stands c.args.release c.args.fed.now (before g c)
     (record { session = c.self.inside.session; locks = c.count.new.locks; slots = c.self.inside.slots.items; release = c.let_go-self-inside.result; heard = c.self.inside.heard.items })
-    c.self.invariant c.self.invariant.session acts refl refl c.let_go-self-inside.ensures
-    (subst (λ x. CountsAll (comings_of quiescing.Leaves None x.0 x.1 c.args.fed.now) c.self.inside.locks c.count.new.locks) (sym same) c.count.ensures)
+    c.self.invariant c.self.invariant.session (c.count.ensures.sound c.self.invariant.locks) acts refl refl c.let_go-self-inside.ensures
+    (subst (λ x. CountsAll (comings_of quiescing.Leaves None x.0 x.1 c.args.fed.now) c.self.inside.locks c.count.new.locks) (sym same) c.count.ensures.counts)
 
 pub returns-clause-sound : goal.returns-clause-sound
 returns-clause-sound g c = invariant_of-self g c

@@ -19,7 +19,7 @@ invariant_of-self g c =
     let acts : actor_at g.R.Machine.stands c.args.slot (before g c) ≡ actor.Request = subst (λ v. actor_at g.R.Machine.stands c.args.slot v ≡ actor.Request) (sym c.self.view_is) c.requires.actor in
     request_sound g.R.Machine.stands g.R.Machine.is_ready c.args.slot c.args.site c.args.op.now c.args.fed.now c.feed-reply.result (before g c)
     (record { session = c.feed-reply.new.self; locks = c.count.new.locks; slots = c.set_state.new.slots.items; release = c.self.inside.release; heard = c.self.inside.heard.items })
-    c.self.invariant c.feed-reply.ensures.sound acts
+    c.self.invariant c.feed-reply.ensures.sound (c.count.ensures.sound c.self.invariant.locks) acts
     (subst (IsReadyBy g.R.Machine.stands g.R.Machine.is_ready c.args.slot c.self.inside.session c.args.fed.now) acts
     (subst (IsReadiedFor g.R.Machine.stands g.R.Machine.is_ready c.args.slot c.args.fed.now) (sym c.self.view_is) c.requires.ready).ready)
     (subst (λ (v : ClientView _). op_at g.R.Machine.stands c.args.slot v.session ≡ Some (c.args.site, c.args.op.now)) (sym c.self.view_is) c.requires.op)
@@ -27,7 +27,7 @@ invariant_of-self g c =
     (record { held = c.feed-reply.ensures.slots; states = c.set_state.ensures.others; lines = c.feed-reply.ensures.others })
     c.set_state.ensures.length refl
     (subst (λ (s : SlotState). CountsAll (comings_of s.quiescing (own_look_at g.R.Machine.stands c.args.slot c.self.inside.session) c.args.site c.args.op.now c.args.fed.now) c.self.inside.locks c.count.new.locks) state
-    (subst (λ l. CountsAll (comings_of c.state_of-state.result.quiescing l c.args.site c.args.op.now c.args.fed.now) c.self.inside.locks c.count.new.locks) look c.count.ensures))
+    (subst (λ l. CountsAll (comings_of c.state_of-state.result.quiescing l c.args.site c.args.op.now c.args.fed.now) c.self.inside.locks c.count.new.locks) look c.count.ensures.counts))
     (subst (IsAtRest c.args.site c.args.op.now) (sym c.self.view_is) c.requires.rest)
     (c.set_state.ensures.here ∙ c.behind-state.ensures
     ∙ ap (λ b. state_behind b c.is_some-2.result c.state_of-state.result) c.is_some.ensures

@@ -24,12 +24,12 @@ invariant_of-self g c =
     let both = way_after c.args.way c.args.fed.now c.go_on-way.result.1 c.go_on-way.result.0 (state_in c.args.slot c.self.inside.slots.items) (state_in c.args.slot c.set_state.new.slots.items) here c.go_on-way.ensures in
     way_sound g.R.Machine.stands c.args.slot c.args.way c.args.fed.now c.go_on-way.result.1 (before g c)
     (record { session = c.settle.new.session; locks = c.count.new.locks; slots = c.set_state.new.slots.items; release = c.self.inside.release; heard = c.self.inside.heard.items })
-    c.self.invariant c.settle.ensures.sound acts both.0
+    c.self.invariant c.settle.ensures.sound (c.count.ensures.sound c.self.invariant.locks) acts both.0
     (λ none. c.settle.ensures.stays (c.is_some.ensures ∙ none))
     (λ some runs. (c.settle.ensures.left (c.is_some.ensures ∙ some)).free runs)
     (record { held = c.settle.ensures.others; states = c.set_state.ensures.others; lines = c.settle.ensures.lines })
     c.set_state.ensures.length refl
-    (subst (λ x. CountsAll (comings_of quiescing.Leaves None x.0 x.1 c.args.fed.now) c.self.inside.locks c.count.new.locks) (sym same) c.count.ensures)
+    (subst (λ x. CountsAll (comings_of quiescing.Leaves None x.0 x.1 c.args.fed.now) c.self.inside.locks c.count.new.locks) (sym same) c.count.ensures.counts)
     both.1
     (λ some r runs. (c.settle.ensures.left (c.is_some.ensures ∙ some)).left r runs)
 

@@ -21,7 +21,7 @@ acts : (g : _) (c : goal.After-ready g) → actor_at g.R.Machine.stands c.args.s
 acts g c = ap (actor_at g.R.Machine.stands c.args.slot) c.self.view_is ∙ sym c.requires.actor ∙ c.in-Request.is
 
 pub invariant_of-self-in-Request : goal.invariant_of-self-in-Request
-invariant_of-self-in-Request g c = sound_alike g.R.Machine.stands (before g c) (after g c) c.self.invariant c.ready.ensures.sound (alike g c)
+invariant_of-self-in-Request g c = sound_alike g.R.Machine.stands (before g c) (after g c) c.self.invariant c.ready.ensures.sound c.reserve.ensures.sound (alike g c)
 
 pub returns-in-Request-clause-ready : goal.returns-in-Request-clause-ready
 returns-in-Request-clause-ready g c =
@@ -50,5 +50,9 @@ returns g c = record {
       (subst (λ (v : ClientView _). CanGet g.R.Machine.stands c.args.slot v.session c.args.fed.now (actor_at g.R.Machine.stands c.args.slot c.args.self.now)) (sym c.self.view_is) c.requires.can));
   stays =
       stays_where_same (actor_at g.R.Machine.stands c.args.slot c.args.self.now) c.args.self.now.session c.self.inside.session (ap (λ (v : ClientView _). v.session) c.self.view_is);
-  sound = sound_alike g.R.Machine.stands (was g c) (then g c) c.self.invariant c.self.invariant.session (alike_then g c);
+  sound = sound_alike g.R.Machine.stands (was g c) (then g c) c.self.invariant c.self.invariant.session c.reserve.ensures.sound (alike_then g c);
 }
+
+pub returns-in_err-reserve-clause-stays : goal.returns-in_err-reserve-clause-stays
+returns-in_err-reserve-clause-stays g c =
+    stays_where_same (actor_at g.R.Machine.stands c.args.slot c.args.self.now) c.args.self.now.session c.self.inside.session (ap (λ (v : ClientView _). v.session) c.self.view_is)
