@@ -1,3 +1,4 @@
 mod CountLemmas
 mod NameLemmas
+mod FourTurns
 mod SizeLemmas

@@ -1,11 +1,13 @@
 -- What holds of each script that is generated.
-use Rattle.std.specs.Prelude.{◌≡◌, ℕ, ◌+◌, ◌≤◌, Bool, true, false}
+use Rattle.std.specs.Prelude.{◌≡◌, ℕ, ◌+◌, ◌≤◌, Bool, true, false, List, map}
+use Rattle.std.specs.List.{range_with_len}
 use Rattle.rbd_commands.specs.declared.command.Command.{Command}
 use Rattle.rbd_commands.specs.declared.command.Command.TheVariants as command
 use Rattle.rbd_script.specs.declared.script.Line.{Line}
 use Rattle.rbd_script.specs.declared.script.Said.{Said}
 use Rattle.rbd_script.specs.declared.script.Said.TheVariants as said
-use Rattle.rbd_generate.specs.Generated.{image_size}
+use Rattle.rbd_words.specs.declared.load.Load.{Load}
+use Rattle.rbd_generate.specs.Generated.{command_of, image_size}
 
 -- ---- how many
 
@@ -38,3 +40,21 @@ StaysInside c = ⊥
 abbrev pub SaysInside : Said → Type 0
 SaysInside (said.Command session beside c) = StaysInside c
 SaysInside s = Unit {0}
+
+-- ---- which
+
+abbrev pub reads : Command → Bool
+reads (command.Read image snap at len) = true
+reads c = false
+
+abbrev pub discards : Command → Bool
+discards (command.Discard image at len) = true
+discards c = false
+
+abbrev pub fills : Command → Bool
+fills (command.Fill image at len byte) = true
+fills c = false
+
+-- the commands of a client in four turns, one after another
+abbrev pub four_turns : Load → (client turn : ℕ) → List Command
+four_turns load client turn = map (command_of load client) (range_with_len turn 4)

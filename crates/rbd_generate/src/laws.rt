@@ -1,10 +1,10 @@
 //! What holds of each script that is generated: each law is the contract of a function that does
 //! nothing.
-ghost use Rattle.std.specs.Prelude.{◌≡◌, ◌+◌, ◌*◌, length, All, count_by};
+ghost use Rattle.std.specs.Prelude.{◌≡◌, ℕ, ◌+◌, ◌*◌, length, All, count_by};
 ghost use Rattle.rbd_script.specs.declared.script.Line.{Line};
 ghost use Rattle.rbd_words.specs.declared.load.Load.{Load};
 ghost use Rattle.rbd_generate.specs.Generated.{lines_of, script_of};
-ghost use Rattle.rbd_generate.specs.Laws.{SaysInside, makes_image};
+ghost use Rattle.rbd_generate.specs.Laws.{SaysInside, discards, fills, four_turns, makes_image, reads};
 ghost use Rattle.rbd_generate.specs.Summary.{commands_in};
 
 /// There are as many clients as are asked for, each image is made once, and behind that each client
@@ -19,4 +19,12 @@ pub fn scripts_have_their_size()
 /// refused for where it is.
 pub fn commands_stay_inside()
     ensures { (load : Load) → All (λ (line : Line). SaysInside line.said) (lines_of load) }
+{}
+
+/// Of each four commands that a client has one after another one reads, one discards and two fill,
+/// whatever the seed is.
+pub fn of_four_commands_two_fill()
+    ensures reads { (load : Load) (client turn : ℕ) → count_by reads (four_turns load client turn) ≡ 1 }
+    ensures discards { (load : Load) (client turn : ℕ) → count_by discards (four_turns load client turn) ≡ 1 }
+    ensures fills { (load : Load) (client turn : ℕ) → count_by fills (four_turns load client turn) ≡ 2 }
 {}

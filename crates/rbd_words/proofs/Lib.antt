@@ -1,3 +1,4 @@
 mod NumberLemmas
+mod OnlySo
 mod OptionLemmas
 mod SpellingLemmas

@@ -20,3 +20,9 @@ pub record SpellsLoad (load : Load) (words : List (List ℕ)) : Type 0 where
   pub is_clients : IsOption (codes "--clients") load.clients clients
   pub is_commands : IsOption (codes "--commands") load.commands commands
   pub order : AreInAnyOrder seed clients commands words
+
+-- They are `gen`, and behind it these options.
+pub record AsksForLoad (load : Load) (words : List (List ℕ)) : Type 0 where
+  pub options : List (List ℕ)
+  pub are : words ≡ codes "gen" ∷ options
+  pub spells : SpellsLoad load options
