@@ -36,7 +36,7 @@ use Rattle.rbd_session.specs.declared.running.Occupant.{Occupant}
 use Rattle.rbd_session.specs.declared.running.Occupant.TheVariants as occupant
 use Rattle.rbd_session.specs.declared.running.Running.{Running}
 use Rattle.rbd_ends.specs.OneChanger.{holds_back, takes_the_lock}
-use Rattle.rbd_ends.proofs.Asking.{DoesOnly, IsNoLook, close_looks_at_none, requests_take_no_lock}
+use Rattle.rbd_world.proofs.Asking.{DoesOnly, IsNoLook, close_looks_at_none, requests_take_no_lock}
 use Rattle.rbd_ends.proofs.Counts.{IsNoQuiesce, fed_owned, gives_up_at}
 use Rattle.rbd_ends.proofs.Tame.{ComesToNoLook, IsTame, IsTameSlot, LooksUnlessItChanges, MayBeOnWay, no_own_look, unbegun_may}
 use Rattle.rbd_ends.proofs.Ways.{begun_early, is_early}

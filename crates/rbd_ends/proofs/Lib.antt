@@ -1,4 +1,3 @@
-pub mod Asking
 pub mod Owners
 pub mod Counts
 pub mod Ways
@@ -9,3 +8,4 @@ pub mod Unhindered
 pub mod Stepping
 pub mod Idling
 pub mod Over
+pub mod AddUp

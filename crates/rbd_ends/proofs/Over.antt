@@ -1,5 +1,5 @@
 -- Where one session alone changes images, all is over at the end.
-use Rattle.std.proofs.Common.{◌≡◌, ◌⊎◌, inl, inr, ℕ, zero, suc, ◌+◌, ◌<◌, ◌≤◌, ◌^◌, ◌==◌, ◌||◌, cond, Bool, true, false, List, [], ◌∷◌, ◌++◌, All, append-nil, length, is_some, slice_get, Option, Some, None, refl, sym, ap, ◌∙◌, subst, arith}
+use Rattle.std.proofs.Common.{◌≡◌, ◌⊎◌, inl, inr, ℕ, zero, suc, ◌+◌, ◌<◌, ◌≤◌, ◌^◌, ◌==◌, cond, Bool, true, false, List, [], ◌∷◌, ◌++◌, All, append-nil, length, is_some, slice_get, Option, Some, None, refl, sym, ap, ◌∙◌, subst, arith}
 use Rattle.std.proofs.lemmas.Bool.{eq-eqb, false≢true, true≢false}
 use Rattle.std.proofs.lemmas.List.Elements.{All-cons, All-filter, All-head, All-nil, All-tail, All-weaker}
 use Rattle.std.proofs.lemmas.Option.{none-some, same_Some}
@@ -172,13 +172,13 @@ module _ {R : Type 0} (stands : R → Standing) (script : Script) (w : WorldView
 
   -- ---- nobody is held up
 
-  locked_out : (c : ClientView R) (slot : ℕ) (r : Running R) (p : ImageAt) → IsFree (state_at p.site p.image c.locks) → (who : Actor) → is_acquiring who ≡ false → IsLockedOut p c who → ⊥
-  locked_out c slot r p free actor.Nobody none out = false≢true (sym (ap (λ b. b || (state_at p.site p.image c.locks).asked) free.quiesced ∙ free.asked) ∙ out)
-  locked_out c slot r p free actor.Request none out = false≢true out
+  locked_out : (c : ClientView R) (slot : ℕ) (r : Running R) (p : ImageAt) → IsFree (state_at p.site p.image c.locks) → (who : Actor) → is_acquiring who ≡ false → IsLockedOut lost p w c who → ⊥
+  locked_out c slot r p free actor.Nobody none out = false≢true (sym free.quiesced ∙ out)
+  locked_out c slot r p free actor.Request none out = out
   locked_out c slot r p free (actor.Way a) none out = true≢false none
-  locked_out c slot r p free (actor.Release x) none out = false≢true out
+  locked_out c slot r p free (actor.Release x) none out = out
 
-  nobody_is_held_up : play.plays.closing.idle ≡ most_idle → SomebodyIsHeldUp stands w → ⊥
+  nobody_is_held_up : play.plays.closing.idle ≡ most_idle → SomebodyIsHeldUp stands lost w → ⊥
   nobody_is_held_up eight up =
       by (last_round stands given lost count play.plays.closing.count (record { world = play.plays.between; idle = 0 }) (record { world = w; idle = play.plays.closing.idle }) play.plays.closing.on refl eight)
     where
@@ -228,6 +228,6 @@ module _ {R : Type 0} (stands : R → Standing) (script : Script) (w : WorldView
   pub changes_are_over : length w.calls < 2 ^ 59 → AreOver script w × AreAllReplied script w
   changes_are_over few = by (plays_rest stands script w play few).all
     where
-      by : AreOver script w ⊎ SomebodyIsHeldUp stands w → AreOver script w × AreAllReplied script w
+      by : AreOver script w ⊎ SomebodyIsHeldUp stands lost w → AreOver script w × AreAllReplied script w
       by (inl over) = (over, all_replied over)
       by (inr up) = absurd (nobody_is_held_up (ends_idle stands script w play few) up)

@@ -20,7 +20,7 @@ unfenced_is_no_reply : (line : ℕ) (c : Cause) (s : SiteId) (number : ℕ) (e :
 unfenced_is_no_reply line c s number None = refl
 unfenced_is_no_reply line c s number (Some e) = refl
 
-no_reply : (line : ℕ) (c : Cause) (s : SiteId) (number : ℕ) (fence : Option Instance) (e : Option Effect) → is_reply_of line (entry_by c s number fence e) ≡ false
+pub no_reply : (line : ℕ) (c : Cause) (s : SiteId) (number : ℕ) (fence : Option Instance) (e : Option Effect) → is_reply_of line (entry_by c s number fence e) ≡ false
 no_reply line c s number None e = unfenced_is_no_reply line c s number e
 no_reply line c s number (Some who) e = refl
 

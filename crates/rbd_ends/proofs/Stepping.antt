@@ -60,7 +60,7 @@ use Rattle.rbd_world.specs.World.{LivesView, WorldView, client_in, late_of, live
 use Rattle.rbd_schedule.specs.Starts.{is_ended}
 use Rattle.rbd_ends.specs.OneChanger.{holds_back, is_replied, takes_the_lock}
 use Rattle.rbd_ends.proofs.Acting.{newcomer_is_tame, owned_fed, owned_on_way, owned_released, ways_are_early}
-use Rattle.rbd_ends.proofs.Asking.{AsksOnly, TakesNoLock}
+use Rattle.rbd_world.proofs.Asking.{AsksOnly, TakesNoLock}
 use Rattle.rbd_ends.proofs.Counts.{IsFree, IsNoQuiesce, heard_free, heard_owned, taken_owned}
 use Rattle.rbd_ends.proofs.Owners.{AsksNobody, IsNoFence, IsNoRequest, Keeps, asks_for_lock, answers, gives_up, held_by_another, no_fence, no_request, numbered_asks, owner_at, served_keeps, served_taken}
 use Rattle.rbd_ends.proofs.Tame.{IsTame, IsTameSlot, tame_begun, tame_fed, tame_on_way, tame_released, tame_served}

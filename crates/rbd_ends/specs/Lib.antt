@@ -1,1 +1,2 @@
 pub mod OneChanger
+pub mod AddUp

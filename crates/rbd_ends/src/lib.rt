@@ -1,5 +1,8 @@
-//! In which scripts each command has its reply: a definition of these scripts, a law on their
-//! plays, and no code that a program calls.
+//! How many commands of a script have their reply, and in which scripts each has: definitions, laws
+//! on plays, and no code that a program calls.
+//!
+//! In any play a command has one reply, or none, and each reply is one of a command: so the
+//! commands are as many as the replies and the commands without one, together.
 //!
 //! At the end of a play a request may be held up at a lock (`rbd_schedule`): the lock's owner is
 //! gone while its watch isn't, say, or the image is quiesced. This crate names scripts in which
@@ -25,12 +28,17 @@
 //!
 //! | file | what it says |
 //! |---|---|
+//! | `specs/AddUp.antt` | that the commands are as many as the replies and the commands without one (`AddUp`) |
 //! | `specs/OneChanger.antt` | in which scripts one session alone changes images (`HasOneChanger`), and that each command has its reply (`AreAllReplied`) |
 //!
-//! [`laws`] says of each play of such a script that all is over at its end, and each command has
-//! its reply.
+//! [`laws`] says of each play that these numbers add up, and of each play of such a script that all
+//! is over at its end, and each command has its reply.
 //!
 //! # How it is shown
+//!
+//! The schedule begins commands of the script alone, and a line ends once: so behind each happening
+//! of a run that gives a reply there is one reply more, and one command less without one
+//! (`proofs/AddUp.antt`).
 //!
 //! Each event leaves a world *unhindered* (`proofs/Unhindered.antt`): a lock is that session's or
 //! nobody's, and counts as its own at its client; no site refuses anybody, no notice asks for a

@@ -3,4 +3,6 @@ mod Complete
 mod Generated
 mod Played
 mod Shown
+mod Summed
 mod Taken
+pub mod OneText

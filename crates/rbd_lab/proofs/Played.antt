@@ -1,7 +1,8 @@
 -- What holds of the world of a play.
 use Rattle.std.proofs.Common.{◌<◌, ◌^◌, length}
 use Rattle.rbd_ends.proofs.Over.{changes_are_over}
-use Rattle.rbd_replies.proofs.AtPlaces.{fences_hold, locks_hold}
+use Rattle.rbd_replies.proofs.AtPlaces.{fences_hold, late_once, locks_hold}
+use Rattle.rbd_replies.proofs.OwnedLogs.{world_logs}
 use Rattle.rbd_replies.proofs.Worlds.{told_in_world}
 use Rattle.rbd_schedule.specs.InOrder.{AreInOrder}
 use Rattle.rbd_schedule.specs.Playing.{IsPlay, IsPlayable}
@@ -17,6 +18,8 @@ played script w playable in_order play few = record {
   replies = told_in_world stands w play.sound;
   fences = fences_hold play.sound.homes play.sound.run play.sound.right;
   locks = locks_hold play.sound.homes play.sound.run play.sound.right;
+  owned = world_logs stands w play.sound;
+  late = late_once play.sound.homes play.sound.run play.sound.right;
   turns = play_takes_turns stands script w play in_order;
   ends = plays_rest stands script w play few;
   over = λ one. (changes_are_over stands script w playable one play few).1;

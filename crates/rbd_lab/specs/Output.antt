@@ -1,15 +1,18 @@
 -- What is printed of a script.
-use Rattle.std.specs.Prelude.{◌≡◌, ℕ, List, All}
+use Rattle.std.specs.Prelude.{◌≡◌, ℕ, ◌+◌, List, count_by}
 use Rattle.rbd_admin.specs.Create.{rest_of_create}
 use Rattle.rbd_admin.specs.declared.create.CreateRequest.{CreateRequest}
 use Rattle.rbd_ends.specs.OneChanger.{AreAllReplied, HasOneChanger}
 use Rattle.rbd_flat.specs.declared.entry.Entry.{Entry}
 use Rattle.rbd_generate.specs.Generated.{script_of}
-use Rattle.rbd_generate.specs.Summary.{summary_text}
+use Rattle.rbd_generate.specs.Summary.{commands_in, grants, is_unfinished, refuses, summary_text}
+use Rattle.rbd_kinds.specs.declared.id.SiteId.{SiteId}
 use Rattle.rbd_kinds.specs.declared.id.SiteId.TheVariants.{A, B}
 use Rattle.rbd_machine.specs.Plan.{Standing, without_labels}
 use Rattle.rbd_replies.specs.Fenced.{AtEachOperation, IsStoppedByTheFence, IsTheOwners}
-use Rattle.rbd_replies.specs.Worlds.{IsToldIn}
+use Rattle.rbd_replies.specs.Logs.{IsOwnedLog}
+use Rattle.rbd_replies.specs.Sent.{ComesOnce}
+use Rattle.rbd_replies.specs.Worlds.{AreRepliesOf}
 use Rattle.rbd_requests.specs.Session.{stands_of}
 use Rattle.rbd_requests.specs.declared.request.SessionRequest.{SessionRequest}
 use Rattle.rbd_schedule.specs.Ends.{HasCalmed}
@@ -40,17 +43,21 @@ abbrev pub text_of : Mode → Script → WorldView Requests → List ℕ
 text_of mode script w = told_text mode script w.history (site_in A w.sites).log (site_in B w.sites).log
 
 -- The script's schedule led to the world, from a new one on: to its history, its logs and its
--- replies. Each reply in this history is the flat-copy machine's, at its place. No operation of a
--- fenced instance changes anything; who changes an image that has a header has its lock, and no lock
--- is broken whose owner isn't fenced. The commands of a session that wait for each other come one
--- after another. At the end nothing goes on any more: each command that was begun has its reply, or
--- is lost, or is held up at a lock, or stands behind such a one; and where one session alone changes
--- images (`HasOneChanger`), each command has its reply.
+-- replies. Each reply in this history is the flat-copy machine's, at its own place there. No
+-- operation of a fenced instance changes anything; who changes an image that has a header has its
+-- lock, and no lock is broken whose owner isn't fenced. So it is with each line of both logs: who
+-- lost a lock let go of it, or was fenced. What a session had sent when it was stopped comes once.
+-- The commands of a session that wait for each other come one after another. At the end nothing
+-- goes on any more: each command that was begun has its reply, or is lost, or is held up at a lock,
+-- or stands behind such a one; and where one session alone changes images (`HasOneChanger`), each
+-- command has its reply.
 pub record IsPlayed (script : Script) (world : WorldView Requests) : Type 0 where
   pub play : IsPlay stands script world
-  pub replies : All (IsToldIn play.sound.run) world.history
+  pub replies : AreRepliesOf play.sound.run world.history
   pub fences : AtEachOperation IsStoppedByTheFence play.sound.run
   pub locks : AtEachOperation IsTheOwners play.sound.run
+  pub owned : (s : SiteId) → IsOwnedLog (site_in s world.sites).log
+  pub late : AtEachOperation ComesOnce play.sound.run
   pub turns : (session : ℕ) → AreInTurn (given_in script.lines session) world.history
   pub ends : HasCalmed stands script world
   pub over : HasOneChanger script → AreAllReplied script world
@@ -61,8 +68,14 @@ pub record IsTold (mode : Mode) (script : Script) (text : List ℕ) : Type 0 whe
   pub played : IsPlayed script world
   pub tells : text ≡ text_of mode script world
 
--- The text sums up a world to which the generated script was played.
+-- The commands are those that are ok, refused and unfinished, together.
+abbrev pub AddsUp : Script → (history : List Entry) → Type 0
+AddsUp script history =
+    commands_in script.lines ≡ count_by grants history + count_by refuses history + count_by (is_unfinished history) script.lines
+
+-- The text sums up a world to which the generated script was played, and its counts add up.
 pub record IsSummed (load : Load) (text : List ℕ) : Type 0 where
   pub world : WorldView Requests
   pub played : IsPlayed (script_of load) world
+  pub adds_up : AddsUp (script_of load) world.history
   pub tells : text ≡ summary_text (script_of load) world.history

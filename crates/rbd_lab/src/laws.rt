@@ -1,7 +1,11 @@
 //! What follows for each run: each law is the contract of a function that does nothing.
-ghost use Rattle.std.specs.Prelude.{ℕ, List};
+ghost use Rattle.std.specs.Prelude.{◌≡◌, ℕ, List};
+ghost use Rattle.rbd_lab.specs.Output.{IsSummed, IsTold};
 ghost use Rattle.rbd_lab.specs.Run.{Devices, IsDoneOrRefused, IsRun, IsUnhindered};
 ghost use Rattle.rbd_lab.specs.declared.run.Status.{Status};
+ghost use Rattle.rbd_script.specs.declared.script.Script.{Script};
+ghost use Rattle.rbd_words.specs.declared.asked.Mode.{Mode};
+ghost use Rattle.rbd_words.specs.declared.load.Load.{Load};
 
 use rbd_edge::Source;
 
@@ -11,4 +15,11 @@ use rbd_edge::Source;
 pub fn runs_end_done<S: Source>()
     ensures { (words : List (List ℕ)) (status : Status) (source source' : S) (old new : Devices)
         → IsRun words status source source' old new → IsUnhindered words old new → IsDoneOrRefused status }
+{}
+
+/// A script has one text, replies or trace, and a load one summary: so what is printed with status 0
+/// is told by the words and the source alone.
+pub fn scripts_have_one_text()
+    ensures told { (mode : Mode) (script : Script) (one other : List ℕ) → IsTold mode script one → IsTold mode script other → one ≡ other }
+    ensures summed { (load : Load) (one other : List ℕ) → IsSummed load one → IsSummed load other → one ≡ other }
 {}

@@ -5,8 +5,10 @@ use Rattle.rbd_kinds.specs.declared.reply.Reply.{Reply}
 use Rattle.rbd_world.specs.Run.{Happening, Nothing, Waited, Began, Did, Refused, Trimmed, Expired, Heard, Stopped, Restarted, Operation}
 use Rattle.rbd_world.specs.Sound.{IsRight}
 use Rattle.rbd_replies.specs.Fenced.{AtEachOperation, IsStoppedByTheFence, IsTheOwners}
+use Rattle.rbd_replies.specs.Sent.{ComesOnce}
 use Rattle.rbd_replies.proofs.Fencing.{fenced_here}
 use Rattle.rbd_replies.proofs.Owners.{owner_changes, owner_was_fenced}
+use Rattle.rbd_replies.proofs.SentOnce.{comes_once}
 
 module _ (homes : ℕ → SiteId) where
   at_each : (Holds : Operation → Option Reply → List Happening → Type 0) → ((o : Operation) (reply : Option Reply) (run : List Happening) → IsRight homes (Did o reply ∷ run) → Holds o reply run)
@@ -31,3 +33,6 @@ module _ (homes : ℕ → SiteId) where
     change = λ image. owner_changes homes run o reply image right;
     broken = λ image owner. owner_was_fenced homes run o reply image right owner;
   })
+
+  pub late_once : (run : List Happening) → IsRight homes run → AtEachOperation ComesOnce run
+  late_once = at_each ComesOnce (λ o reply run right. comes_once homes run o reply right)

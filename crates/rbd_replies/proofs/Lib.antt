@@ -20,6 +20,8 @@ pub mod Measured
 pub mod NoEffects
 pub mod NoLooks
 pub mod OnWay
+pub mod OnWaysOnly
+pub mod OwnedLogs
 pub mod Owners
 pub mod OwnHeader
 pub mod OwnKnown
@@ -39,9 +41,12 @@ pub mod RefusalsNothing
 pub mod Removing
 pub mod RepliesOf
 pub mod Restoring
+pub mod SentOnce
 pub mod ShownNothing
 pub mod Silent
 pub mod SilentPlans
+pub mod Taught
+pub mod WatchesEnd
 pub mod Worlds
 pub mod WritePieces
 pub mod WriteWhole

@@ -18,23 +18,42 @@ use Rattle.rbd_kinds.specs.declared.map_op.MapOp.TheVariants as states
 use Rattle.rbd_kinds.specs.declared.operation.Op.{Op}
 use Rattle.rbd_kinds.specs.declared.operation.Op.TheVariants as op
 use Rattle.rbd_kinds.specs.declared.reply.Reply.{Reply}
-use Rattle.rbd_machine.specs.Knowledge.{Knowledge}
+use Rattle.rbd_machine.specs.Knowledge.{Knowledge, is_drawn, is_gone}
+use Rattle.rbd_machine.specs.Path.{Answered}
 use Rattle.rbd_machine.specs.Permits.{IsLeftOver, MayMakeMap, OwnsBy, Permits, PermitsOnHeader, PermitsOnMap, PermitsOnObject}
 use Rattle.rbd_rely.proofs.Headers.{owned_there}
 use Rattle.rbd_rely.specs.Truth.{IsTrueAt}
 use Rattle.rbd_site.specs.Records.{Records}
 use Rattle.rbd_site.specs.Step.{answer_served, answer_to, is_fenced}
 use Rattle.rbd_stands.specs.Owned.{IsOwner, changes_data, changes_header, changes_image, changes_map, was_done}
-use Rattle.rbd_world.specs.Run.{Happening, Did, Operation, records_after}
-use Rattle.rbd_world.specs.Sound.{IsDone, IsRight}
+use Rattle.rbd_world.specs.Run.{Doer, Itself, OnWay, House, AfterStop, Happening, Did, Operation, records_after, steps_of, way_of}
+use Rattle.rbd_world.specs.Sound.{IsDone, IsRight, Recalls, RecallsBy}
 use Rattle.rbd_world.proofs.Runs.{done_of}
-use Rattle.rbd_replies.specs.Fenced.{MakesMap, OwnsOrNone, RemovesRest, removes_part}
+use Rattle.rbd_world.proofs.WaysOfLines.{asked_on_way, lets_go}
+use Rattle.rbd_replies.specs.Fenced.{DidBefore, DrewId, OwnsOrNone, RemovedHeader, SomeStep, removes_part}
+use Rattle.rbd_replies.proofs.OnWaysOnly.{release_leaves_images, way_leaves_images}
+use Rattle.rbd_replies.proofs.Taught.{drew_it, removed_it}
 
 -- ---- the header is there
 
 record IsHere (there : Option HeaderView) : Type 0 where
   view : HeaderView
   is : there ≡ Some view
+
+-- ---- or the image has none
+
+-- it may make the map of an image whose id it knows as drawn
+record MakesIt (k : Knowledge) (s : SiteId) (image : ℕ) (o : Op) : Type 0 where
+  count : ℕ
+  is : o ≡ op.Map image (states.Resize count)
+  drawn : is_drawn k.drawn s image ≡ true
+
+-- and remove what is left of one whose header it knows to be gone
+record ClearsIt (k : Knowledge) (s : SiteId) (image : ℕ) (o : Op) : Type 0 where
+  is : removes_part image o ≡ true
+  gone : is_gone k.gone s image ≡ true
+
+-- ---- by what is permitted
 
 turned : (i image : ℕ) → (i == image) ≡ true → (image == i) ≡ true
 turned i image same = grind (arith, nat_tests)
@@ -64,13 +83,11 @@ module _ (s : SiteId) (r : Records) (me : Instance) (k : Knowledge) (truth : IsT
       let parts = and_parts (i == image) changes both in
       subst (λ n. IsHere (r.headers n)) (sym (eqb-true i image parts.0)) (here parts.1)
 
-  -- there, or the image's map is made, or what is left of it goes
   abbrev IsHereOrNot : (image : ℕ) → Op → Type 0
-  IsHereOrNot image o = IsHere (r.headers image) ⊎ (MakesMap image o r ⊎ RemovesRest image o r)
+  IsHereOrNot image o = IsHere (r.headers image) ⊎ (MakesIt k s image o ⊎ ClearsIt k s image o)
 
-  -- the image whose header it removed has none
-  rest_goes : (i image : ℕ) (o : Op) → (i == image) ≡ true → removes_part i o ≡ true → IsLeftOver k s image → RemovesRest i o r
-  rest_goes i image o same is left = record { is = is; headless = subst (λ n. r.headers n ≡ None) (sym (eqb-true i image same)) (truth.gone image left.gone).header }
+  rest_goes : (i image : ℕ) (o : Op) → (i == image) ≡ true → removes_part i o ≡ true → IsLeftOver k s image → ClearsIt k s i o
+  rest_goes i image o same is left = record { is = is; gone = subst (λ n. is_gone k.gone s n ≡ true) (sym (eqb-true i image same)) left.gone }
 
   object_here : (i image number : ℕ) (o : DataOp) → PermitsOnObject k s image number o → ((i == image) && changes_data o) ≡ true → IsHereOrNot i (op.Data image number o)
   object_here i image number (object.Read snap parts) permits changes = absurd (true≢false (sym (and_parts (i == image) false changes).1))
@@ -84,9 +101,9 @@ module _ (s : SiteId) (r : Records) (me : Instance) (k : Knowledge) (truth : IsT
   object_here i image number (object.Remove context) (inr owns) changes = inl (at_image i image true changes (λ changed. owned_here image _ owns))
   object_here i image number _ permits changes = elim permits [ ]
 
-  map_made : (i image count : ℕ) → (i == image) ≡ true → MayMakeMap k s image count → MakesMap i (op.Map image (states.Resize count)) r
+  map_made : (i image count : ℕ) → (i == image) ≡ true → MayMakeMap k s image count → MakesIt k s i (op.Map image (states.Resize count))
   map_made i image count same makes =
-      subst (λ n. MakesMap n (op.Map image (states.Resize count)) r) (sym (eqb-true i image same)) (record { count = count; is = refl; headless = (truth.drawn image makes.drawn).header })
+      subst (λ n. MakesIt k s n (op.Map image (states.Resize count))) (sym (eqb-true i image same)) (record { count = count; is = refl; drawn = makes.drawn })
 
   map_here : (i image : ℕ) (o : MapOp) → PermitsOnMap k s image o → ((i == image) && changes_map o) ≡ true → IsHereOrNot i (op.Map image o)
   map_here i image (states.Resize count) (inl makes) changes = inr (inl (map_made i image count (and_parts (i == image) true changes).0 makes))
@@ -125,16 +142,48 @@ module _ (homes : ℕ → SiteId) (run : List Happening) (o : Operation) (reply 
   it : IsDone o run
   it = done_of homes o reply run right.1
 
-  pub owner_changes : changes_image image o.op ≡ true → was_done o.answer ≡ true → OwnsOrNone image o.instance o.op (records_after o.site run)
+  abbrev there : Records
+  there = records_after o.site run
+
+  -- what it knows its command did, where it is a change
+  module _ (changes : changes_image image o.op ≡ true) (P : Answered → Type 0) where
+    by_its_command : (doer : Doer) → o.by ≡ doer → RecallsBy doer o.site o.op it.knows run → ((line : ℕ) → Recalls line o.site o.op it.knows run → SomeStep P (steps_of line run)) → DidBefore P doer run
+    by_its_command (Itself line) is recalls taught = taught line recalls
+    by_its_command (OnWay line) is recalls taught =
+        absurd (true≢false (sym changes ∙ way_leaves_images o.site o.op (way_of line run) (asked_on_way homes line o reply run right is) image))
+    by_its_command House is recalls taught = absurd (true≢false (sym changes ∙ release_leaves_images o.op (lets_go homes 0 o reply run right is) image))
+    by_its_command (AfterStop slot) is recalls taught = tt
+
+  drew : (line : ℕ) → is_drawn it.knows.drawn o.site image ≡ true → Recalls line o.site o.op it.knows run → SomeStep (DrewId o.site image) (steps_of line run)
+  drew line drawn recalls =
+      drew_it recalls.start.labels recalls.feds recalls.start.plan _ (steps_of line run) o.site image recalls.walk
+      (sym (ap (λ (k : Knowledge). is_drawn k.drawn o.site image) recalls.known) ∙ drawn)
+
+  removed : (line : ℕ) → is_gone it.knows.gone o.site image ≡ true → Recalls line o.site o.op it.knows run → SomeStep (RemovedHeader o.site image) (steps_of line run)
+  removed line gone recalls =
+      removed_it recalls.start.labels recalls.feds recalls.start.plan _ (steps_of line run) o.site image recalls.walk
+      (sym (ap (λ (k : Knowledge). is_gone k.gone o.site image) recalls.known) ∙ gone)
+
+  pub owner_changes : changes_image image o.op ≡ true → was_done o.answer ≡ true → OwnsOrNone image o run
   owner_changes changes was =
-      let free = free_by_change (records_after o.site run) o.instance o.op (sym (ap was_done it.answer) ∙ was) in
-      by (image_here o.site (records_after o.site run) o.instance it.knows it.truth free image o.op it.permits changes)
+      let free = free_by_change there o.instance o.op (sym (ap was_done it.answer) ∙ was) in
+      by (image_here o.site there o.instance it.knows it.truth free image o.op it.permits changes)
     where
-      by : IsHere ((records_after o.site run).headers image) ⊎ (MakesMap image o.op (records_after o.site run) ⊎ RemovesRest image o.op (records_after o.site run))
-          → OwnsOrNone image o.instance o.op (records_after o.site run)
+      by : IsHere (there.headers image) ⊎ (MakesIt it.knows o.site image o.op ⊎ ClearsIt it.knows o.site image o.op) → OwnsOrNone image o run
       by (inl here) =
           inl (record { header = here.view; there = here.is; owner = subst (λ there. IsOwner there o.instance) here.is (it.owned.change image changes was) })
-      by (inr other) = inr other
+      by (inr (inl makes)) = inr (inl (record {
+        count = makes.count;
+        is = makes.is;
+        headless = (it.truth.drawn image makes.drawn).header;
+        new = it.new image makes.drawn;
+        drew = by_its_command changes (DrewId o.site image) o.by refl it.recalls (λ line. drew line makes.drawn);
+      }))
+      by (inr (inr clears)) = inr (inr (record {
+        is = clears.is;
+        headless = (it.truth.gone image clears.gone).header;
+        removed = by_its_command changes (RemovedHeader o.site image) o.by refl it.recalls (λ line. removed line clears.gone);
+      }))
 
   pub owner_was_fenced : (owner : Instance) → o.op ≡ op.Header image (header.LockBreak owner) → o.answer ≡ answer.Done → is_fenced (records_after o.site run) owner ≡ true
   owner_was_fenced owner breaks was = it.owned.broken image owner breaks was

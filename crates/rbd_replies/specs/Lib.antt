@@ -3,11 +3,14 @@ pub mod Changed
 pub mod Fenced
 pub mod Home
 pub mod Listed
+pub mod Logs
 pub mod Places
 pub mod Reads
 pub mod Removed
 pub mod Replies
 pub mod RolledBack
+pub mod Sent
 pub mod Shown
+pub mod Watched
 pub mod Worlds
 pub mod Zeroed

@@ -1,29 +1,36 @@
 //! What replies say of the flat-copy machine, and what fenced clients can't do: each law is the
 //! contract of a function that does nothing.
-ghost use Rattle.std.specs.Prelude.{◌≡◌, ◌⊎◌, ℕ, false, true, [], ◌∷◌, ◌++◌, List, All, Option, Some, map};
+ghost use Rattle.std.specs.Prelude.{◌≡◌, ◌⊎◌, ℕ, false, true, [], ◌∷◌, ◌++◌, IsTrue, List, Option, Some, map};
 ghost use Rattle.rbd_kinds.specs.declared.answer.Answer.TheVariants as answer;
 ghost use Rattle.rbd_kinds.specs.declared.header_op.HeaderOp.TheVariants as header;
 ghost use Rattle.rbd_kinds.specs.declared.id.Instance.{Instance as Who};
 ghost use Rattle.rbd_kinds.specs.declared.id.SiteId.{SiteId as Site};
+ghost use Rattle.rbd_kinds.specs.declared.notice.NoticeKind.{NoticeKind};
 ghost use Rattle.rbd_kinds.specs.declared.operation.Op.{Op};
 ghost use Rattle.rbd_kinds.specs.declared.operation.Op.TheVariants as op;
 ghost use Rattle.rbd_kinds.specs.declared.reply.Reply.{Reply};
 ghost use Rattle.rbd_requests.specs.Touched.{HasAtMost, bound_of, touched_by};
+ghost use Rattle.rbd_site.specs.declared.done.Done.{Done};
+ghost use Rattle.rbd_site.specs.Log.{after_all};
+ghost use Rattle.rbd_site.specs.Records.{no_records};
 ghost use Rattle.rbd_site.specs.Step.{is_fenced};
-ghost use Rattle.rbd_stands.specs.Owned.{changes_image, was_done};
-ghost use Rattle.rbd_world.specs.Run.{Asked, Happening, Operation, Did, Refused, Stopped, Waited, asked_by, fence_of, is_among, is_on_way, records_after, replies_to, step_of, steps_of};
+ghost use Rattle.rbd_stands.specs.Owned.{HasLock, IsLetGo, SomeLine, changes_image, was_done};
+ghost use Rattle.rbd_world.specs.Run.{AfterStop, Asked, Happening, Operation, Did, Refused, Stopped, Waited, asked_by, fence_of, is_among, is_on_way, log_of, records_after, replies_to, step_of, steps_of};
 ghost use Rattle.rbd_world.specs.Sound.{IsRight, IsSoundWorld, has_ended, line_at};
 ghost use Rattle.rbd_world.specs.Step.{happening};
-ghost use Rattle.rbd_world.specs.World.{WorldView};
+ghost use Rattle.rbd_world.specs.World.{WorldView, site_in};
 ghost use Rattle.rbd_world.specs.declared.event.Call.{Call};
 ghost use Rattle.rbd_world.specs.declared.event.Event.TheVariants as event;
 ghost use Rattle.rbd_replies.specs.Bounds.{IsStepFor, KeepsBound, StaysBelow};
 ghost use Rattle.rbd_replies.specs.Fenced.{AtEachOperation, ChangesNothing, IsStoppedByTheFence, IsTheOwners, OwnsOrNone};
 ghost use Rattle.rbd_replies.specs.Home.{AreDoneAt};
+ghost use Rattle.rbd_replies.specs.Logs.{IsOwnedLog};
 ghost use Rattle.rbd_replies.specs.Places.{Placed, effects_of, places_of};
 ghost use Rattle.rbd_replies.specs.Replies.{IsReplyOf, changes_no_image, only_shows};
+ghost use Rattle.rbd_replies.specs.Sent.{ComesOnce, WasSent};
 ghost use Rattle.rbd_replies.specs.Shown.{AreHeadersInForm};
-ghost use Rattle.rbd_replies.specs.Worlds.{AreSteps, BeginsWith, IsToldIn};
+ghost use Rattle.rbd_replies.specs.Watched.{EndsWatch, IsAnnouncement, is_watching};
+ghost use Rattle.rbd_replies.specs.Worlds.{AreRepliesOf, AreSteps, BeginsWith};
 
 use rbd_course::Request;
 
@@ -140,9 +147,11 @@ pub fn polls_are_steps_of_lines<R: Request>()
 {}
 
 /// Each reply in the history of a world, whatever events came, is the one of its line's command: it
-/// says what the flat-copy machine has at its place in the one history.
+/// says what the flat-copy machine has at its own place in the one history, by the operations of
+/// the command from its start up to this very entry, and by none that came later. The entry is the
+/// last one of the happening that gave the line its reply.
 pub fn replies_of_worlds_are_the_flat_machines<R: Request>()
-    ensures { (w : WorldView R) (sound : IsSoundWorld R.stands w) → All (IsToldIn sound.run) w.history }
+    ensures { (w : WorldView R) (sound : IsSoundWorld R.stands w) → AreRepliesOf sound.run w.history }
 {}
 
 /// Each header that a reply in the history of a world shows is in form, whatever events came: its
@@ -182,13 +191,15 @@ pub fn fences_are_told()
 /// Who changed the data, the header, an object map or the journal of an image had the lock of the
 /// image there, by its header; and the lock of an instance was broken only once the instance was
 /// fenced at that site. A header is made before anybody can own it, and so is the first map of an
-/// image, before its header. What is left of an image whose header was removed, its objects and its
-/// maps, goes without a lock too, since there is none any more. What is done to a lock, to those
+/// image, before its header: by the command that drew the image's id, which never had a header.
+/// What is left of an image whose header was removed, its objects and its maps, goes without a lock
+/// too, since there is none any more: by the command that removed the header. (For which command an
+/// operation is that a stopped life had sent, a run doesn't say.) What is done to a lock, to those
 /// that watch and to what they are told changes no image.
 pub fn changes_are_the_owners()
     ensures owned { (homes : ℕ → Site) (run : List Happening) (o : Operation) (reply : Option Reply) (image : ℕ)
         → IsRight homes (Did o reply ∷ run) → changes_image image o.op ≡ true → was_done o.answer ≡ true
-        → OwnsOrNone image o.instance o.op (records_after o.site run) }
+        → OwnsOrNone image o run }
     ensures broken { (homes : ℕ → Site) (run : List Happening) (o : Operation) (reply : Option Reply) (image : ℕ) (owner : Who)
         → IsRight homes (Did o reply ∷ run) → o.op ≡ op.Header image (header.LockBreak owner) → o.answer ≡ answer.Done
         → is_fenced (records_after o.site run) owner ≡ true }
@@ -200,6 +211,50 @@ pub fn changes_are_the_owners()
 pub fn fences_and_locks_hold_in_worlds<R: Request>()
     ensures fences { (w : WorldView R) (sound : IsSoundWorld R.stands w) → AtEachOperation IsStoppedByTheFence sound.run }
     ensures locks { (w : WorldView R) (sound : IsSoundWorld R.stands w) → AtEachOperation IsTheOwners sound.run }
+{}
+
+/// The log of each site is an owned one, whatever events came: each line was answered by the records
+/// that the lines before it left, each change of an image that has a header is by the owner of its
+/// lock, and a lock is broken only where its owner is fenced. So all that `rbd_stands` says of such
+/// logs holds of the printed ones.
+pub fn logs_are_owned<R: Request>()
+    ensures run { (homes : ℕ → Site) (s : Site) (run : List Happening) → IsRight homes run → IsOwnedLog (log_of s run) }
+    ensures world { (w : WorldView R) (sound : IsSoundWorld R.stands w) (s : Site) → IsOwnedLog (site_in s w.sites).log }
+{}
+
+/// Who lost a lock let go of it itself, or was fenced: who has a lock at one place of a site's log
+/// has it at each later one, but where a line between them is his own by which he dropped it, or
+/// removed the header with it, or he is fenced there.
+pub fn who_lost_a_lock_was_fenced()
+    ensures { (before since : List Done) (image : ℕ) (me : Who) → IsOwnedLog (before ++ since) → HasLock image me (after_all no_records before)
+        → HasLock image me (after_all no_records (before ++ since))
+        ⊎ (SomeLine (IsLetGo image me) since ⊎ IsTrue (is_fenced (after_all no_records (before ++ since)) me)) }
+{}
+
+/// What a session had sent when it was stopped comes once, and as it was sent: where an operation
+/// comes late, the last stop of its session was that of its own instance, just this operation is
+/// what its slot wanted then, and nothing of the slot has come since. It ends no line.
+pub fn late_operations_were_sent_once<R: Request>()
+    ensures sent { (homes : ℕ → Site) (run : List Happening) (o : Operation) (reply : Option Reply) (slot : ℕ)
+        → IsRight homes (Did o reply ∷ run) → o.by ≡ AfterStop slot → WasSent slot o reply run }
+    ensures worlds { (w : WorldView R) (sound : IsSoundWorld R.stands w) → AtEachOperation ComesOnce sound.run }
+{}
+
+/// Nobody ends the watch of another session, but with the image: where an instance watches an image
+/// at a site before something happened, and not after it, then it stopped that itself, or the store
+/// let its watch expire, or the owner of the image's lock removed the image's header.
+pub fn watches_end_by_themselves()
+    ensures { (homes : ℕ → Site) (run : List Happening) (h : Happening) (who : Who) (s : Site) (image : ℕ)
+        → IsRight homes (h ∷ run) → is_watching who s image run ≡ true → is_watching who s image (h ∷ run) ≡ false
+        → EndsWatch who s image h run }
+{}
+
+/// What is only told to those who watch changes nothing but the notices: both sites' records and
+/// their flat sites stay as they were.
+pub fn what_is_told_changes_no_site()
+    ensures { (homes : ℕ → Site) (run : List Happening) (o : Operation) (reply : Option Reply) (image : ℕ) (kind : NoticeKind)
+        → IsRight homes (Did o reply ∷ run) → o.op ≡ op.Header image (header.Notify kind)
+        → IsAnnouncement o reply run }
 {}
 
 /// The calls are the events that came, each with its outcome, one after another; and what the

@@ -45,8 +45,15 @@
 //! | operation | what holds |
 //! |---|---|
 //! | of a fenced instance | at the site that fenced it: it is answered `Fenced`, and neither site, no flat site and no notice changes, at every place behind the fence, also long after its session was stopped |
-//! | a change of an image that is done | it is by the owner of the image's lock there, or makes the map of an image without a header, or removes what is left of one |
+//! | a change of an image that is done | it is by the owner of the image's lock there; or makes the map of an image whose id its command drew, and that never had a header; or removes what is left of one whose header its command removed |
 //! | a lock is broken | its owner was fenced before, at that site |
+//! | a lock is lost | its owner dropped it, removed the header with it, or is fenced |
+//! | what comes behind a stop | its slot wanted just this when its own life was stopped, and it comes once |
+//! | a watch ends | whoever watched ended it, or the store did, or the header was removed by the owner of the image's lock |
+//! | a notification | no record and no flat site changes |
+//!
+//! Of an operation that a stopped session had sent a run doesn't say for which command it is. So one
+//! that makes a map, or removes what is left of an image, is known by the records alone.
 //!
 //! # Contracts
 //!
@@ -61,10 +68,13 @@
 //! | `specs/Listed.antt` | what listings show |
 //! | `specs/Reads.antt` | what a read shows |
 //! | `specs/Replies.antt` | all of it, by command and reply (`IsReplyOf`) |
-//! | `specs/Worlds.antt` | so it is with each reply in a world's history; and that worlds go on by events |
+//! | `specs/Worlds.antt` | so it is with each reply in a world's history, at its own entry; and that worlds go on by events |
 //! | `specs/Shown.antt` | that the headers which replies of a history show are in form |
 //! | `specs/Bounds.antt` | how many operations a line's command has at most, so far and in all |
-//! | `specs/Fenced.antt` | that an operation changed nothing, since its instance is fenced |
+//! | `specs/Fenced.antt` | that an operation changed nothing, since its instance is fenced; and whose changes are |
+//! | `specs/Logs.antt` | that the log of a site is an owned one, as `rbd_stands` has it |
+//! | `specs/Sent.antt` | that what comes behind a stop was sent, and comes once |
+//! | `specs/Watched.antt` | how a watch ends, and what a notification leaves as it was |
 //!
 //! [`laws`] says it of each reply of each run that is right (`IsRight` of `rbd_world`), as that of
 //! every world is: at its own place, whatever comes later.

@@ -2,7 +2,7 @@
 use Rattle.std.proofs.Common.{◌≡◌, ℕ, zero, suc, ◌+◌, ◌<◌, ◌≤◌, ◌^◌, ◌==◌, ◌&&◌, ◌||◌, ◌⊎◌, inl, inr, cond, not, nat_lt, Bool, true, false, List, [], ◌∷◌, map, All, length, is_some, slice_get, Option, Some, None, refl, sym, ap, ◌∙◌, subst, arith}
 use Rattle.std.proofs.lemmas.Bool.{cases_lt, false≢true, true≢false}
 use Rattle.std.proofs.lemmas.List.Elements.{All-cons, All-nil}
-use Rattle.std.proofs.lemmas.Option.{none-some}
+use Rattle.std.proofs.lemmas.Option.{none-some, same_Some}
 use Rattle.std.proofs.lemmas.List.Folds.{list_any-append}
 use Rattle.std.proofs.Math.Bool.{or-false}
 use Rattle.rbd_client.specs.Client.{ClientView}
@@ -13,8 +13,13 @@ use Rattle.rbd_kinds.specs.declared.reply.Reply.{Reply}
 use Rattle.rbd_kinds.proofs.Plain.{eqb_flip}
 use Rattle.rbd_machine.specs.Plan.{Standing}
 use Rattle.rbd_script.specs.declared.script.Declared.{Declared}
+use Rattle.rbd_script.specs.declared.script.Said.{Said}
+use Rattle.rbd_script.specs.declared.script.Said.TheVariants as said
 use Rattle.rbd_script.specs.declared.script.Script.{Script}
-use Rattle.rbd_session.specs.Session.{held_in, script_line}
+use Rattle.rbd_locks.specs.Locks.{state_at}
+use Rattle.rbd_line.specs.Line.{any_past}
+use Rattle.rbd_session.specs.Lines.{lines_of}
+use Rattle.rbd_session.specs.Session.{SessionView, held_in, script_line}
 use Rattle.rbd_session.specs.declared.running.Occupant.{Occupant}
 use Rattle.rbd_world.specs.declared.event.Event.{Event}
 use Rattle.rbd_world.specs.declared.event.Outcome.{Outcome}
@@ -32,12 +37,17 @@ use Rattle.rbd_schedule.specs.Notices.{runs}
 use Rattle.rbd_schedule.specs.Playing.{IsPlay, homes_of}
 use Rattle.rbd_schedule.specs.Schedule.{Calm, Pace, Round, RoundsOn, most_idle}
 use Rattle.rbd_schedule.specs.Starts.{IsQuiet, earliest, is_end_of, is_ended}
+use Rattle.rbd_schedule.proofs.AtRest.{none_past, none_taken}
 use Rattle.rbd_schedule.proofs.Counted.{ends_idle}
+use Rattle.rbd_schedule.proofs.Elsewhere.{round_keeps}
 use Rattle.rbd_schedule.proofs.Ended.{AreSoundSessions, HasRequestsOf, NoneRuns, free_there, keeps_turns, none_still, quiet_turns, requests_step, sound_again, still_turns}
 use Rattle.rbd_schedule.proofs.Idle.{IsStill}
-use Rattle.rbd_schedule.proofs.Kept.{kept_by_play}
+use Rattle.rbd_schedule.proofs.Kept.{MayComeBy, kept_by_deeds, kept_by_play, kept_by_rounds, kept_to_closing}
+use Rattle.rbd_schedule.proofs.Mailed.{IsMailed, mailed_first, mailed_step}
+use Rattle.rbd_schedule.proofs.LetGo.{HasTaken, KeepsIn}
+use Rattle.rbd_schedule.proofs.LastRounds.{AreLastRounds, IdleRounds, last_rounds, requests_kept, ways_show}
 use Rattle.rbd_schedule.proofs.Quiet.{no_end, endings_end}
-use Rattle.rbd_schedule.proofs.Stuck.{stuck}
+use Rattle.rbd_schedule.proofs.Stuck.{AllQuiet, WaysAreShown, stuck}
 use Rattle.rbd_site.proofs.OneChange.{none_from_test}
 
 -- ---- the end of a line in the history is one in the run
@@ -193,8 +203,18 @@ module _ {R : Type 0} (stands : R → Standing) (script : Script) (w : WorldView
       by (Some c) runs at = slot_of c runs (held_in slot c.session.slots) refl at
 
   -- ---- where each slot of a session that runs is still
-  module _ (still : (s : ℕ) (c : ClientView R) → client_in s w.lives ≡ Some c → (slot : ℕ) → 1 ≤ slot → slot ≤ 64 → IsStill stands slot c) where
-    stuck_at : (session slot line : ℕ) → (at : line_at session slot w.lives ≡ Some line) → IsStuck stands w line
+  module _ (still : (s : ℕ) (c : ClientView R) → client_in s w.lives ≡ Some c → (slot : ℕ) → 1 ≤ slot → slot ≤ 64 → IsStill stands slot c)
+      (shown : (s : ℕ) (c : ClientView R) → client_in s w.lives ≡ Some c → WaysAreShown stands (is_lost_by script.lines) w c) (keeps : (s : ℕ) → s < length script.sessions → KeepsIn stands s w) where
+    -- what was asked for is quiesced
+    quiet_all : AllQuiet w
+    quiet_all s c is site image asked = by (keeps s (runs_below s c is) c is site image asked)
+      where
+        by : ((state_at site image c.locks).quiesced ≡ true) ⊎ ((any_past (lines_of c.session.lines site image) ≡ true) ⊎ HasTaken c) → (state_at site image c.locks).quiesced ≡ true
+        by (inl quiesced) = quiesced
+        by (inr (inl past)) = absurd (false≢true (sym (none_past stands c (sound_there s c is) (still s c is) site image) ∙ past))
+        by (inr (inr it)) = absurd (none_taken stands c (sound_there s c is) (still s c is) it.slot it.image it.taken)
+
+    stuck_at : (session slot line : ℕ) → (at : line_at session slot w.lives ≡ Some line) → IsStuck stands (is_lost_by script.lines) w line
     stuck_at session slot line at =
         let there = holder session slot line at in
         record {
@@ -203,20 +223,20 @@ module _ {R : Type 0} (stands : R → Standing) (script : Script) (w : WorldView
           runs = there.runs;
           slot = slot;
           holds = at;
-          stuck = stuck stands there.client (sound_there session there.client there.runs) (still session there.client there.runs) slot there.occupant there.held;
+          stuck = stuck stands (is_lost_by script.lines) w there.client (sound_there session there.client there.runs) (shown session there.client there.runs) quiet_all (quiet_all session there.client there.runs) (still session there.client there.runs) slot there.occupant there.held;
         }
 
-    each_line : (line : ℕ) → is_begun line w.history ≡ true → (is_ended line w.history ≡ true) ⊎ IsStuck stands w line
+    each_line : (line : ℕ) → is_begun line w.history ≡ true → (is_ended line w.history ≡ true) ⊎ IsStuck stands (is_lost_by script.lines) w line
     each_line line begun = by (begun_comes line begun)
       where
-        by : (is_ended line w.history ≡ true) ⊎ IsInSlot line w.lives → (is_ended line w.history ≡ true) ⊎ IsStuck stands w line
+        by : (is_ended line w.history ≡ true) ⊎ IsInSlot line w.lives → (is_ended line w.history ≡ true) ⊎ IsStuck stands (is_lost_by script.lines) w line
         by (inl ended) = inl ended
         by (inr there) = inr (stuck_at there.session there.slot line there.is)
 
-    held_somewhere : (line : ℕ) → IsStuck stands w line → SomebodyIsHeldUp stands w
+    held_somewhere : (line : ℕ) → IsStuck stands (is_lost_by script.lines) w line → SomebodyIsHeldUp stands (is_lost_by script.lines) w
     held_somewhere line it = by it.stuck
       where
-        by : IsStuckIn stands it.client it.slot → SomebodyIsHeldUp stands w
+        by : IsStuckIn stands (is_lost_by script.lines) w it.client it.slot → SomebodyIsHeldUp stands (is_lost_by script.lines) w
         by (inl up) = record { session = it.session; client = it.client; runs = it.runs; slot = it.slot; held = up }
         by (inr (first, behind, up)) = record { session = it.session; client = it.client; runs = it.runs; slot = first; held = up }
 
@@ -264,7 +284,7 @@ module _ {R : Type 0} (stands : R → Standing) (script : Script) (w : WorldView
               (sym (ap (λ b. cond b (earliest (λ line. is_begun line w.history) (λ line. is_ended line w.history) true (given_in script.lines s)) None) (room_there s c is)) ∙ quiet s)
 
     -- ---- somebody is in a slot, or nobody
-    all_or_held : IsQuiet (given_in script.lines) w → AreOver script w ⊎ SomebodyIsHeldUp stands w
+    all_or_held : IsQuiet (given_in script.lines) w → AreOver script w ⊎ SomebodyIsHeldUp stands (is_lost_by script.lines) w
     all_or_held quiet = by (any_of (λ s. (slot : ℕ) × (slot < 65) × Holds s slot) (λ s. (slot : ℕ) → slot < 65 → line_at s slot w.lives ≡ None) (λ s. any_of (Holds s) (λ slot. line_at s slot w.lives ≡ None) (line_or_none s) 65) (length script.sessions))
       where
         Holds : (s slot : ℕ) → Type 0
@@ -278,7 +298,7 @@ module _ {R : Type 0} (stands : R → Standing) (script : Script) (w : WorldView
             go (Some line) is = inl (line, is)
 
         by : ((s : ℕ) × (s < length script.sessions) × ((slot : ℕ) × (slot < 65) × Holds s slot)) ⊎ ((s : ℕ) → s < length script.sessions → (slot : ℕ) → slot < 65 → line_at s slot w.lives ≡ None)
-            → AreOver script w ⊎ SomebodyIsHeldUp stands w
+            → AreOver script w ⊎ SomebodyIsHeldUp stands (is_lost_by script.lines) w
         by (inl (s, below, (slot, within, (line, is)))) = inr (held_somewhere line (stuck_at s slot line is))
         by (inr nobody) = inl (all_over quiet nobody)
 
@@ -351,34 +371,91 @@ module _ {R : Type 0} (stands : R → Standing) (script : Script) (w : WorldView
   nobody_calms : NoneRuns stands given lost count w → HasCalmed stands script w
   nobody_calms none =
       let all : (s : ℕ) → runs s w ≡ false = λ s. by s (cases_lt s count) in
-      calmed stands script w play (λ s c is slot least most. absurd (true≢false (sym (ap is_some is) ∙ all s))) (none_quiet given w all)
+      calmed stands script w play (λ s c is slot least most. absurd (true≢false (sym (ap is_some is) ∙ all s))) (λ s c is. absurd (true≢false (sym (ap is_some is) ∙ all s)))
+      (λ s below c is. absurd (true≢false (sym (ap is_some is) ∙ all s))) (none_quiet given w all)
     where
       by : (s : ℕ) → (s < count) ⊎ (count ≤ s) → runs s w ≡ false
       by s (inl below) = none s below
       by s (inr past) = ap (λ l. is_some (running_of l)) ((sessions_there stands script w play).past s past)
 
-  round_calms : (before : WorldView R) → Round stands given lost count false before w → IsQuiet given before → HasCalmed stands script w
-  round_calms before round quiet =
+  -- a client is of its session, also before
+  own_before : (before : WorldView R) → HasRequestsOf stands given before w → (s : ℕ) (c : ClientView R) → client_in s before.lives ≡ Some c → c.session.instance.session ≡ s
+  own_before before same s c there = by (client_in s w.lives) refl
+    where
+      by : (o : Option (ClientView R)) → client_in s w.lives ≡ o → c.session.instance.session ≡ s
+      by None at = absurd (none-some c.session (sym (ap session_of at) ∙ same s ∙ ap session_of there))
+      by (Some x) at =
+          let one : c.session ≡ x.session = same_Some c.session x.session (sym (ap session_of there) ∙ sym (same s) ∙ ap session_of at) in
+          ap (λ (y : SessionView R). y.instance.session) one ∙ (play.sound.clients s x at).whose
+
+  round_calms : ((s : ℕ) (c : ClientView R) → client_in s w.lives ≡ Some c → WaysAreShown stands (is_lost_by script.lines) w c) → (before : WorldView R) → Round stands given lost count false before w → IsQuiet given before → HasCalmed stands script w
+  round_calms shown before round quiet =
       let old : Pace R = record { world = before; went_on = false } in
       let new : Pace R = record { world = w; went_on = false } in
       let kept = keeps_turns stands given (HasRequestsOf stands given before) (requests_step stands given before) lost count old new round refl ((λ s. refl), quiet) in
       let sound = sound_again stands given w before (λ s. sym (kept.0 s)) sounds in
       calmed stands script w play
-      (λ s c is slot least most. by s c is slot least most (still_turns stands given lost count old new round refl quiet sound s (runs_below stands script w play s c is))) kept.1
+      (λ s c is slot least most. by s c is slot least most (still_turns stands given lost count old new round refl quiet sound s (runs_below stands script w play s c is))) shown
+      (round_keeps stands given lost count before w round quiet sound (own_before before kept.0)) kept.1
     where
       by : (s : ℕ) (c : ClientView R) → client_in s w.lives ≡ Some c → (slot : ℕ) → 1 ≤ slot → slot ≤ 64 → ((k : ℕ) → k < 64 → (c : ClientView R) → client_in s w.lives ≡ Some c → IsStill stands (k + 1) c) → IsStill stands slot c
       by s c is zero least most still = absurd (omega (arith, least))
       by s c is (suc k) least most still = let same : k + 1 ≡ suc k = omega arith in subst (λ n. IsStill stands n c) same (still k (omega (arith, most)) c is)
 
-  ends_with : play.plays.closing.idle ≡ most_idle → HasCalmed stands script w
-  ends_with eight = by (last_round stands given lost count play.plays.closing.count (record { world = play.plays.between; idle = 0 }) (record { world = w; idle = play.plays.closing.idle }) play.plays.closing.on refl eight)
+  -- the mail before the last rounds
+  mailed_at : (last : AreLastRounds stands given lost count 7 (record { world = play.plays.between; idle = 0 }) w) → IsMailed last.before.world
+  mailed_at last =
+      kept_by_deeds (λ (c : Calm R). IsMailed c.world) _
+      (λ k old new rounds was. kept_by_rounds stands IsMailed (λ e. Unit {0}) (λ session slot. tt) (λ number. tt) (λ e result old new may. mailed_step stands e result old new) given
+      (λ session old new submits. mailed_step stands submits.command.submission submits.result old new submits.step) lost count k old new rounds was)
+      last.made (record { world = play.plays.between; idle = 0 }) last.before last.first
+      (kept_to_closing stands IsMailed (λ e. Unit {0}) (λ session slot. tt) (λ number. tt) (λ e result old new may. mailed_step stands e result old new) script (λ k line is. any_may line.said)
+      (λ lines more is session old new submits. mailed_step stands submits.command.submission submits.result old new submits.step) play.first w play.plays (mailed_first stands play.first play.new))
     where
-      by : IsLastRound stands given lost count (record { world = play.plays.between; idle = 0 }) w → HasCalmed stands script w
-      by last = go last.rest
-        where
-          go : IsAtRest stands given lost count last.before.world → HasCalmed stands script w
-          go (inl quiet) = round_calms last.before.world last.round quiet
-          go (inr none) = nobody_calms (none_still stands given lost count (record { world = last.before.world; went_on = false }) (record { world = w; went_on = false }) last.round none)
+      any_may : (s : Said) → MayComeBy (λ e. Unit {0}) s
+      any_may (said.Command session beside command) = tt
+      any_may (said.Poll session slot times) = tt
+      any_may (said.Until session slot kind) = tt
+      any_may (said.Settle rounds) = tt
+      any_may (said.Deliver number) = tt
+      any_may (said.Lose number) = tt
+      any_may (said.Expire session site image) = tt
+      any_may (said.Stop session) = tt
+      any_may (said.Restart session) = tt
+      any_may (said.Late session slot) = tt
+      any_may (said.Trim site image object) = tt
+
+  -- the seven rounds behind the first that was idle: none may start in them, or no session runs
+  shows_ways : (old before : WorldView R) → IdleRounds stands given lost count 6 old before → Round stands given lost count false before w → IsQuiet given old → IsMailed old → (s : ℕ) (c : ClientView R) → client_in s w.lives ≡ Some c → WaysAreShown stands lost w c
+  shows_ways old before first last quiet mailed s c there slot some r runs a acts =
+      ways_show stands given lost count old before w first last quiet mailed sounds (runs_below stands script w play) (λ s past. ap running_of ((sessions_there stands script w play).past s past)) s slot some c there r runs a acts
+
+  still_none : (k : ℕ) (old new : WorldView R) → IdleRounds stands given lost count k old new → NoneRuns stands given lost count old → NoneRuns stands given lost count new
+  unfolding Deeds
+  still_none zero old new done none = subst (NoneRuns stands given lost count) (sym done) none
+  still_none (suc k) old new (between, first, last) none =
+      none_still stands given lost count (record { world = between; went_on = false }) (record { world = new; went_on = false }) last (still_none k old between first none)
+
+  rests : AreLastRounds stands given lost count 7 (record { world = play.plays.between; idle = 0 }) w → HasCalmed stands script w
+  unfolding Deeds
+  rests last = go last.rounds (rounds_rest stands given lost count last.made (record { world = play.plays.between; idle = 0 }) last.before (pred last.before.idle) last.first refl (is_suc last.before.idle last.some))
+    where
+      pred : ℕ → ℕ
+      pred zero = 0
+      pred (suc k) = k
+
+      is_suc : (k : ℕ) → 1 ≤ k → k ≡ suc (pred k)
+      is_suc zero some = absurd (omega (arith, some))
+      is_suc (suc k) some = refl
+
+      go : IdleRounds stands given lost count 7 last.before.world w → IsAtRest stands given lost count last.before.world → HasCalmed stands script w
+      go rounds (inr nobody) = nobody_calms (still_none 7 last.before.world w rounds nobody)
+      go (between, first, round) (inl quiet) =
+          round_calms (shows_ways last.before.world between first round quiet (mailed_at last)) between round (requests_kept stands given lost count 6 last.before.world between first quiet).1
+
+  ends_with : play.plays.closing.idle ≡ most_idle → HasCalmed stands script w
+  ends_with eight =
+      rests (last_rounds stands given lost count 7 play.plays.closing.count (record { world = play.plays.between; idle = 0 }) (record { world = w; idle = play.plays.closing.idle }) play.plays.closing.on refl (omega (arith, eight)))
 
   pub plays_rest : length w.calls < 2 ^ 59 → HasCalmed stands script w
   plays_rest few = ends_with (ends_idle stands script w play few)

@@ -32,7 +32,7 @@ unheld_there None is = refl
 unheld_there (Some (occupant.Refused line refusal)) is = absurd (true≢false is)
 unheld_there (Some (occupant.Running r)) is = absurd (true≢false is)
 
-either_way : {P : Type 0} (n m : ℕ) → (n < m → P) → (m ≤ n → P) → P
+pub either_way : {P : Type 0} (n m : ℕ) → (n < m → P) → (m ≤ n → P) → P
 either_way {P} n m less more = by (cases_lt n m)
   where
     by : (n < m) ⊎ (m ≤ n) → P
@@ -41,7 +41,7 @@ either_way {P} n m less more = by (cases_lt n m)
 
 module _ {R : Type 0} (stands : R → Standing) (given : (session : ℕ) → List Given) where
   -- where none may start, none does
-  no_starts : (count : ℕ) (old new : WorldView R) → Deeds (λ k. Starts stands given) count old new → IsQuiet given old → new ≡ old
+  pub no_starts : (count : ℕ) (old new : WorldView R) → Deeds (λ k. Starts stands given) count old new → IsQuiet given old → new ≡ old
   unfolding Deeds
   no_starts zero old new done quiet = done
   no_starts (suc n) old new (between, before, it) quiet =
@@ -65,17 +65,17 @@ module _ {R : Type 0} (stands : R → Standing) (given : (session : ℕ) → Lis
   before_poll : (session slot : ℕ) (old new : Pace R) → PollsIn stands given session slot old new → new.went_on ≡ false → old.went_on ≡ false
   before_poll session slot old new polls still = (or_parts old.went_on (goes_on polls.result) (sym polls.pace ∙ still)).0
 
-  step_of : (session slot : ℕ) (old new : Pace R) → (polls : PollsIn stands given session slot old new) → new.went_on ≡ false → goes_on polls.result ≡ false
+  pub step_of : (session slot : ℕ) (old new : Pace R) → (polls : PollsIn stands given session slot old new) → new.went_on ≡ false → goes_on polls.result ≡ false
   step_of session slot old new polls still = (or_parts old.went_on (goes_on polls.result) (sym polls.pace ∙ still)).1
 
-  before_where : (held : Bool) (session slot : ℕ) (old new : Pace R) → PollsWhere stands given held session slot old new → new.went_on ≡ false → old.went_on ≡ false
+  pub before_where : (held : Bool) (session slot : ℕ) (old new : Pace R) → PollsWhere stands given held session slot old new → new.went_on ≡ false → old.went_on ≡ false
   before_where true session slot old new polls still = before_poll session slot old new polls still
   before_where false session slot old new same still = subst (λ (p : Pace R). p.went_on ≡ false) same still
 
   abbrev pub HeldPolls : (session : ℕ) → (point : Pace R) → ℕ → Pace R → Pace R → Type 0
   HeldPolls session point k = PollsWhere stands given (is_held session (k + 1) point.world) session (k + 1)
 
-  before_polls : (session : ℕ) (point : Pace R) (n : ℕ) (old new : Pace R) → Deeds (HeldPolls session point) n old new → new.went_on ≡ false → old.went_on ≡ false
+  pub before_polls : (session : ℕ) (point : Pace R) (n : ℕ) (old new : Pace R) → Deeds (HeldPolls session point) n old new → new.went_on ≡ false → old.went_on ≡ false
   unfolding Deeds
   before_polls session point zero old new done still = subst (λ (p : Pace R). p.went_on ≡ false) done still
   before_polls session point (suc n) old new (between, first, it) still =
@@ -85,7 +85,7 @@ module _ {R : Type 0} (stands : R → Standing) (given : (session : ℕ) → Lis
   before_all session old new polls still = before_poll session 0 old polls.point polls.slot_0 (before_polls session polls.point 64 polls.point new polls.held still)
 
   module _ (lost : (number : ℕ) → Bool) where
-    before_turn : (running : Bool) (session : ℕ) (old new : Pace R) → TurnWhere stands given lost running session old new → new.went_on ≡ false → old.went_on ≡ false
+    pub before_turn : (running : Bool) (session : ℕ) (old new : Pace R) → TurnWhere stands given lost running session old new → new.went_on ≡ false → old.went_on ≡ false
     before_turn true session old new turn still = before_all session (record { world = turn.told; went_on = old.went_on }) new turn.polls still
     before_turn false session old new same still = subst (λ (p : Pace R). p.went_on ≡ false) same still
 
@@ -119,7 +119,7 @@ module _ {R : Type 0} (stands : R → Standing) (given : (session : ℕ) → Lis
         keeps_polls session polls.point 64 polls.point new polls.held still
         (keeps_poll session 0 old polls.point polls.slot_0 (before_polls session polls.point 64 polls.point new polls.held still) keeps)
 
-    keeps_due : (due : Bool) (number : ℕ) (old new : WorldView R) → DeliversWhere stands given due number old new → Keeps old → Keeps new
+    pub keeps_due : (due : Bool) (number : ℕ) (old new : WorldView R) → DeliversWhere stands given due number old new → Keeps old → Keeps new
     keeps_due true number old new happens keeps = keeps_step old new (told_alone number old new happens keeps.1) keeps
     keeps_due false number old new same keeps = subst Keeps (sym same) keeps
 
@@ -149,7 +149,7 @@ module _ {R : Type 0} (stands : R → Standing) (given : (session : ℕ) → Lis
   session_at : (s : ℕ) (w : WorldView R) (c : ClientView R) → client_in s w.lives ≡ Some c → session_in s w.lives ≡ Some c.session
   session_at s w c is = ap session_of is
 
-  client_of : (s : ℕ) (o : Option (ClientView R)) (x : SessionView R) → session_of o ≡ Some x → (c : ClientView R) × (o ≡ Some c) × (c.session ≡ x)
+  pub client_of : (s : ℕ) (o : Option (ClientView R)) (x : SessionView R) → session_of o ≡ Some x → (c : ClientView R) × (o ≡ Some c) × (c.session ≡ x)
   client_of s None x is = absurd (none-some x is)
   client_of s (Some c) x is = (c, refl, same_Some c.session x is)
 
@@ -176,41 +176,41 @@ module _ {R : Type 0} (stands : R → Standing) (given : (session : ℕ) → Lis
       still_before stands old.sites c slot (sound session c at)
       (ap (λ o. goes_on (outcome_of (polled stands old.sites slot o))) (sym at) ∙ sym (ap goes_on is) ∙ still)
 
-  not_zero : (k : ℕ) → ((k + 1) == 0) ≡ false
+  pub not_zero : (k : ℕ) → ((k + 1) == 0) ≡ false
   not_zero k = ne_eqb (k + 1) 0 (λ is. absurd (omega (arith, is)))
 
   -- ---- what holds of each slot that was polled, and stays
 
-  -- `I` holds of the worlds of an idle round. `Q` holds of a slot of a client where it is polled,
-  -- and where it is free; and what an idle round plays leaves it.
-  module _ (I : WorldView R → Type 0) (I_step : (a b : WorldView R) → IsIdleStep stands a b → I a → I b) (Q : (slot : ℕ) → ClientView R → Type 0) where
-    abbrev HoldsIn : (session slot : ℕ) → WorldView R → Type 0
-    HoldsIn session slot w = (c : ClientView R) → client_in session w.lives ≡ Some c → Q slot c
-
-    module _ (Q_step : (session slot : ℕ) → (slot == 0) ≡ false → (a b : WorldView R) → IsIdleStep stands a b → I a → HoldsIn session slot a → HoldsIn session slot b)
-        (Q_poll : (session slot : ℕ) (a b : WorldView R) (result : Outcome) → IsStep stands (event.Poll session slot) a result b → goes_on result ≡ false → I a → HoldsIn session slot a)
-        (Q_free : (slot : ℕ) (c : ClientView R) → held_in slot c.session.slots ≡ None → Q slot c) where
+  -- `I` holds of the worlds of an idle round. `Q` holds for a slot of a session behind its poll, and
+  -- where it is free; and what an idle round plays leaves it.
+  module _ (I : WorldView R → Type 0) (I_step : (a b : WorldView R) → IsIdleStep stands a b → I a → I b) where
+    module _ (Q : (session slot : ℕ) → WorldView R → Type 0)
+        (Q_step : (session slot : ℕ) → (slot == 0) ≡ false → (a b : WorldView R) → IsIdleStep stands a b → I a → Q session slot a → Q session slot b)
+        (Q_behind : (session slot : ℕ) → (slot == 0) ≡ false → (a b : WorldView R) (result : Outcome) → IsStep stands (event.Poll session slot) a result b → goes_on result ≡ false → I a → Q session slot b)
+        (Q_free : (session slot : ℕ) (w : WorldView R) → ((c : ClientView R) → client_in session w.lives ≡ Some c → held_in slot c.session.slots ≡ None) → Q session slot w) where
       -- a slot that was polled, or wasn't held
       holds_where : (held : Bool) (session k : ℕ) (point old new : Pace R) → is_held session (k + 1) point.world ≡ held → PollsWhere stands given held session (k + 1) old new → new.went_on ≡ false
-          → IsQuiet given old.world → I old.world → HasRequestsOf point.world old.world → HoldsIn session (k + 1) new.world
+          → IsQuiet given old.world → I old.world → HasRequestsOf point.world old.world → Q session (k + 1) new.world
       holds_where true session k point old new at polls still quiet is same =
           let none = step_of session (k + 1) old new polls still in
-          let alone = polled_alone session (k + 1) polls.result old.world new.world polls.comes none quiet in
-          Q_step session (k + 1) (not_zero k) old.world new.world alone is (Q_poll session (k + 1) old.world polls.comes.between polls.result polls.comes.step none is)
-      holds_where false session k point old new at same_pace still quiet is same = λ c there.
+          let comes = polls.comes in
+          let first : IsIdleStep stands old.world comes.between = Asked session (k + 1) polls.result none comes.step in
+          let settled = no_starts comes.starts.count comes.between new.world comes.starts.starts (stays_quiet stands given old.world comes.between first quiet) in
+          subst (Q session (k + 1)) (sym settled) (Q_behind session (k + 1) (not_zero k) old.world comes.between polls.result comes.step none is)
+      holds_where false session k point old new at same_pace still quiet is same = Q_free session (k + 1) new.world (λ c there.
           let was : session_in session point.world.lives ≡ Some c.session = sym (same session) ∙ session_at session old.world c (ap (λ (p : Pace R). client_in session p.world.lives) (sym same_pace) ∙ there) in
-          Q_free (k + 1) c (unheld_there (held_in (k + 1) c.session.slots) (sym (ap (λ x. is_some (script_line (held_of (k + 1) x))) was) ∙ at))
+          unheld_there (held_in (k + 1) c.session.slots) (sym (ap (λ x. is_some (script_line (held_of (k + 1) x))) was) ∙ at))
 
       -- what holds of it stays beside the rest
       abbrev Both : (session slot : ℕ) → WorldView R → Type 0
-      Both session slot w = HoldsIn session slot w × I w
+      Both session slot w = Q session slot w × I w
 
       both_step : (session slot : ℕ) → (slot == 0) ≡ false → (a b : WorldView R) → IsIdleStep stands a b → Both session slot a → Both session slot b
       both_step session slot some a b step (holds, is) = (Q_step session slot some a b step is holds, I_step a b step is)
 
       -- so it holds of each of them, behind the polls of a turn
       holds_polls : (session : ℕ) (point : Pace R) (n : ℕ) (new : Pace R) → Deeds (HeldPolls session point) n point new → new.went_on ≡ false → IsQuiet given point.world → I point.world
-          → (k : ℕ) → k < n → HoldsIn session (k + 1) new.world
+          → (k : ℕ) → k < n → Q session (k + 1) new.world
       unfolding Deeds
       holds_polls session point zero new done still quiet is k below = absurd (omega (arith, below))
       holds_polls session point (suc n) new (between, first, it) still quiet is k below =
@@ -222,35 +222,50 @@ module _ {R : Type 0} (stands : R → Standing) (given : (session : ℕ) → Lis
           ((holds_polls session point n between first before quiet is k less, then.0), then.1)).0.0)
           (λ more.
           let same : k ≡ n = omega (arith, below, more) in
-          subst (λ j. HoldsIn session (j + 1) new.world) (sym same)
+          subst (λ j. Q session (j + 1) new.world) (sym same)
           (holds_where (is_held session (n + 1) point.world) session n point between new refl it still then.1 then.0 requests.0))
 
       module _ (lost : (number : ℕ) → Bool) where
         holds_turn : (running : Bool) (session : ℕ) (old new : Pace R) → runs session old.world ≡ running → TurnWhere stands given lost running session old new → new.went_on ≡ false → IsQuiet given old.world
-            → I old.world → (k : ℕ) → k < 64 → HoldsIn session (k + 1) new.world
+            → I old.world → (k : ℕ) → k < 64 → Q session (k + 1) new.world
         holds_turn true session old new at turn still quiet is k below =
             let polls = turn.polls in
             let before = before_polls session polls.point 64 polls.point new polls.held still in
             let told = keeps_dues I I_step (λ k. is_due lost session (k + 1) old.world) (length old.world.sites.mail) old.world turn.told turn.notices (is, quiet) in
             let point = keeps_poll I I_step session 0 (record { world = turn.told; went_on = old.went_on }) polls.point polls.slot_0 before told in
             holds_polls session polls.point 64 new polls.held still point.1 point.0 k below
-        holds_turn false session old new at same still quiet is k below = λ c there.
-            absurd (true≢false (sym (ap is_some there) ∙ subst (λ (p : Pace R). runs session p.world ≡ false) (sym same) at))
+        holds_turn false session old new at same still quiet is k below = Q_free session (k + 1) new.world (λ c there.
+            absurd (true≢false (sym (ap is_some there) ∙ subst (λ (p : Pace R). runs session p.world ≡ false) (sym same) at)))
 
         -- and behind a round, of those of all sessions
-        pub holds_turns : (n : ℕ) (old new : Pace R) → Deeds (TurnOf stands given lost) n old new → new.went_on ≡ false → IsQuiet given old.world → I old.world
-            → (session : ℕ) → session < n → (k : ℕ) → k < 64 → HoldsIn session (k + 1) new.world
+        pub comes_turns : (n : ℕ) (old new : Pace R) → Deeds (TurnOf stands given lost) n old new → new.went_on ≡ false → IsQuiet given old.world → I old.world
+            → (session : ℕ) → session < n → (k : ℕ) → k < 64 → Q session (k + 1) new.world
         unfolding Deeds
-        holds_turns zero old new done still quiet is session below k within = absurd (omega (arith, below))
-        holds_turns (suc n) old new (between, first, it) still quiet is session below k within =
+        comes_turns zero old new done still quiet is session below k within = absurd (omega (arith, below))
+        comes_turns (suc n) old new (between, first, it) still quiet is session below k within =
             let before = before_turn lost (runs n between.world) n between new it still in
             let then = keeps_turns I I_step lost n old between first before (is, quiet) in
             either_way session n
             (λ less. (keeps_turn (Both session (k + 1)) (both_step session (k + 1) (not_zero k)) lost (runs n between.world) n between new it still
-            ((holds_turns n old between first before quiet is session less k within, then.0), then.1)).0.0)
+            ((comes_turns n old between first before quiet is session less k within, then.0), then.1)).0.0)
             (λ more.
             let same : session ≡ n = omega (arith, below, more) in
-            subst (λ s. HoldsIn s (k + 1) new.world) (sym same) (holds_turn (runs n between.world) n between new refl it still then.1 then.0 k within))
+            subst (λ s. Q s (k + 1) new.world) (sym same) (holds_turn (runs n between.world) n between new refl it still then.1 then.0 k within))
+
+  -- so does what holds of a client's slot where it is polled
+  module _ (I : WorldView R → Type 0) (I_step : (a b : WorldView R) → IsIdleStep stands a b → I a → I b) (Q : (slot : ℕ) → ClientView R → Type 0) where
+    abbrev HoldsIn : (session slot : ℕ) → WorldView R → Type 0
+    HoldsIn session slot w = (c : ClientView R) → client_in session w.lives ≡ Some c → Q slot c
+
+    module _ (Q_step : (session slot : ℕ) → (slot == 0) ≡ false → (a b : WorldView R) → IsIdleStep stands a b → I a → HoldsIn session slot a → HoldsIn session slot b)
+        (Q_poll : (session slot : ℕ) (a b : WorldView R) (result : Outcome) → IsStep stands (event.Poll session slot) a result b → goes_on result ≡ false → I a → HoldsIn session slot a)
+        (Q_free : (slot : ℕ) (c : ClientView R) → held_in slot c.session.slots ≡ None → Q slot c) where
+      pub holds_turns : (lost : (number : ℕ) → Bool) (n : ℕ) (old new : Pace R) → Deeds (TurnOf stands given lost) n old new → new.went_on ≡ false → IsQuiet given old.world → I old.world
+          → (session : ℕ) → session < n → (k : ℕ) → k < 64 → HoldsIn session (k + 1) new.world
+      holds_turns =
+          comes_turns I I_step HoldsIn Q_step
+          (λ session slot some a b result step none is. Q_step session slot some a b (Asked session slot result none step) is (Q_poll session slot a b result step none is))
+          (λ session slot w free c there. Q_free slot c (free c there))
 
   module _ (lost : (number : ℕ) → Bool) where
     -- so each slot is still behind an idle round

@@ -341,9 +341,9 @@ quiet_again given given' w w' same world quiet = subst (λ v. IsQuiet given' v) 
 
 -- an event, and then all that may start
 pub comes_then : {R : Type 0} (stands : R → Standing) (e : Event) (result : Outcome) (old between new : WorldView R) (given given' : (session : ℕ) → List Given) → given' ≡ given
-    → IsStep stands e old result between → StartsAll stands given' between new → Comes stands given e result old new
-comes_then stands e result old between new given given' same step starts =
-    record { between = between; step = step; starts = subst (λ h. StartsAll stands h between new) same starts }
+    → IsStep stands e old result between → IsSoundWorld stands between → StartsAll stands given' between new → Comes stands given e result old new
+comes_then stands e result old between new given given' same step sound starts =
+    record { between = between; step = step; sound = sound; starts = subst (λ h. StartsAll stands h between new) same starts }
 
 -- ---- a command that a line gives
 

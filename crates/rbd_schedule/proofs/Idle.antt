@@ -113,14 +113,14 @@ not_taken at image told is taking done =
 -- ---- a poll by which nothing goes on
 
 -- Where the way of a slot's request asks again, and that is all.
-record AsksAgain {R : Type 0} (stands : R → Standing) (sites : Sites) (c : ClientView R) (slot : ℕ) (h : Happening) : Type 0 where
-  on : Acquire
-  acts : actor_at stands slot c ≡ actor.Way on
-  line : ℕ
-  is : h ≡ Did (operation_at (site_in on.site sites) c.session.instance (OnWay line) on.site (op_of on)) None
-  again : asks_again (kind_of (op_of on)) (answer_to (records_in on.site sites) c.session.instance (op_of on)) ≡ true
+pub record AsksAgain {R : Type 0} (stands : R → Standing) (sites : Sites) (c : ClientView R) (slot : ℕ) (h : Happening) : Type 0 where
+  pub on : Acquire
+  pub acts : actor_at stands slot c ≡ actor.Way on
+  pub line : ℕ
+  pub is : h ≡ Did (operation_at (site_in on.site sites) c.session.instance (OnWay line) on.site (op_of on)) None
+  pub again : asks_again (kind_of (op_of on)) (answer_to (records_in on.site sites) c.session.instance (op_of on)) ≡ true
 
-abbrev IsIdleBy : {R : Type 0} → (stands : R → Standing) → Sites → ClientView R → (slot : ℕ) → Happening → Type 0
+abbrev pub IsIdleBy : {R : Type 0} → (stands : R → Standing) → Sites → ClientView R → (slot : ℕ) → Happening → Type 0
 IsIdleBy stands sites c slot h = (h ≡ Nothing) ⊎ ((h ≡ Waited) ⊎ AsksAgain stands sites c slot h)
 
 module _ {R : Type 0} (stands : R → Standing) where
@@ -162,7 +162,7 @@ module _ {R : Type 0} (stands : R → Standing) where
   idle_house sites c slot (actor.Way a) still = inr (inl refl)
   idle_house sites c slot (actor.Release r) still = absurd (true≢false still)
 
-  idle_held : (sites : Sites) (c : ClientView R) (slot : ℕ) (o : Option (Occupant R)) → goes_on (outcome_of (polled_in stands sites c slot o)) ≡ false → IsIdleBy stands sites c slot (polled_in stands sites c slot o)
+  pub idle_held : (sites : Sites) (c : ClientView R) (slot : ℕ) (o : Option (Occupant R)) → goes_on (outcome_of (polled_in stands sites c slot o)) ≡ false → IsIdleBy stands sites c slot (polled_in stands sites c slot o)
   idle_held sites c slot None still = by (slot == 0) still
     where
       by : (b : Bool) → let h = cond b (releases sites c.session.instance (actor_at stands slot c)) Nothing in goes_on (outcome_of h) ≡ false → IsIdleBy stands sites c slot h
@@ -215,7 +215,7 @@ module _ {R : Type 0} (stands : R → Standing) where
     acts = λ some. inl (ap (actor_at stands slot) same);
   }
 
-  acts_on : (slot : ℕ) (c : ClientView R) (a : Acquire) → (slot == 0) ≡ false → (state_in slot c.slots).way ≡ way.On a → actor_at stands slot c ≡ actor.Way a
+  pub acts_on : (slot : ℕ) (c : ClientView R) (a : Acquire) → (slot == 0) ≡ false → (state_in slot c.slots).way ≡ way.On a → actor_at stands slot c ≡ actor.Way a
   acts_on slot c a some on =
       ap (λ b. cond b (releasing c.release (due_release c)) (actor_on (state_in slot c.slots).way (own_look_at stands slot c.session) c.locks)) some
       ∙ ap (λ w. actor_on w (own_look_at stands slot c.session) c.locks) on
@@ -237,7 +237,7 @@ module _ {R : Type 0} (stands : R → Standing) where
           answer_is is = cc
       by way.Unbegun on comes some = absurd comes
 
-  idle_becomes : (session slot : ℕ) (sites : Sites) (a b : ClientView R) (h : Happening) → IsIdleBy stands sites a slot h → Becomes stands (event.Poll session slot) h a b → IsIdlePoll slot a b
+  pub idle_becomes : (session slot : ℕ) (sites : Sites) (a b : ClientView R) (h : Happening) → IsIdleBy stands sites a slot h → Becomes stands (event.Poll session slot) h a b → IsIdlePoll slot a b
   idle_becomes session slot sites a b h (inl is) becomes = same_poll slot a b (subst (λ x. Becomes stands (event.Poll session slot) x a b) is becomes)
   idle_becomes session slot sites a b h (inr (inl is)) becomes = same_poll slot a b (subst (λ x. Becomes stands (event.Poll session slot) x a b) is becomes)
   idle_becomes session slot sites a b h (inr (inr asks)) becomes =
@@ -247,7 +247,7 @@ module _ {R : Type 0} (stands : R → Standing) where
       way_poll slot on (answer_to (records_in on.site sites) a.session.instance (op_of on)) a b asks.again
       (subst (IsFedBy stands slot on.site (op_of on) (fed.Answer (answer_to (records_in on.site sites) a.session.instance (op_of on))) None a b) asks.acts goes.fed) goes.states
 
-  abbrev IsIdlePollOf : (slot : ℕ) → (old new : Option (ClientView R)) → Type 0
+  abbrev pub IsIdlePollOf : (slot : ℕ) → (old new : Option (ClientView R)) → Type 0
   IsIdlePollOf slot None new = new ≡ None
   IsIdlePollOf slot (Some a) None = ⊥
   IsIdlePollOf slot (Some a) (Some b) = IsIdlePoll slot a b
@@ -257,7 +257,7 @@ module _ {R : Type 0} (stands : R → Standing) where
   idle_of session slot sites h (Some a) None idle becomes = becomes
   idle_of session slot sites h (Some a) (Some b) idle becomes = idle_becomes session slot sites a b h (idle a refl) becomes
 
-  runs_idle : (session slot : ℕ) (sites : Sites) (home : SiteId) (a : ClientView R) (new : Option (ClientView R)) (h : Happening) → IsIdleBy stands sites a slot h → RunsOn stands (event.Poll session slot) h home (Some a) new
+  pub runs_idle : (session slot : ℕ) (sites : Sites) (home : SiteId) (a : ClientView R) (new : Option (ClientView R)) (h : Happening) → IsIdleBy stands sites a slot h → RunsOn stands (event.Poll session slot) h home (Some a) new
       → BecomesOf stands (event.Poll session slot) h (Some a) new
   runs_idle session slot sites home a new h (inl is) runs =
       subst (λ x. BecomesOf stands (event.Poll session slot) x (Some a) new) (sym is) (subst (λ x. RunsOn stands (event.Poll session slot) x home (Some a) new) is runs)
@@ -281,7 +281,7 @@ module _ {R : Type 0} (stands : R → Standing) where
   same_of slot (Some a) (Some b) same = same_poll slot a b (same_Some b a same)
 
   -- of each session, at the slot that was polled, which for the others is any
-  poll_leaves : (session slot : ℕ) (old new : WorldView R) (result : Outcome) → IsStep stands (event.Poll session slot) old result new → goes_on result ≡ false → (s : ℕ)
+  pub poll_leaves : (session slot : ℕ) (old new : WorldView R) (result : Outcome) → IsStep stands (event.Poll session slot) old result new → goes_on result ≡ false → (s : ℕ)
       → IsIdlePollOf slot (client_in s old.lives) (client_in s new.lives)
   poll_leaves session slot old new result (is, does) still s = by (session == s) refl (client_then stands (event.Poll session slot) (polled stands old.sites slot (client_in session old.lives)) old new does s)
     where
@@ -348,7 +348,7 @@ module _ {R : Type 0} (stands : R → Standing) where
   on_locks way.Unbegun None old new same = refl
   on_locks way.Unbegun (Some p) old new same = ap (λ s. actor_by s p.site p.image) (same p.site p.image)
 
-  acts_same : (slot : ℕ) (a b : ClientView R) → (slot == 0) ≡ false → b.session ≡ a.session → AreStatesAlike a.locks b.locks → state_in slot b.slots ≡ state_in slot a.slots → actor_at stands slot b ≡ actor_at stands slot a
+  pub acts_same : (slot : ℕ) (a b : ClientView R) → (slot == 0) ≡ false → b.session ≡ a.session → AreStatesAlike a.locks b.locks → state_in slot b.slots ≡ state_in slot a.slots → actor_at stands slot b ≡ actor_at stands slot a
   acts_same slot a b some session locks state =
       ap (λ x. cond x (releasing b.release (due_release b)) (actor_on (state_in slot b.slots).way (own_look_at stands slot b.session) b.locks)) some
       ∙ ap (λ (s : SlotState). actor_on s.way (own_look_at stands slot b.session) b.locks) state

@@ -35,7 +35,7 @@ use Rattle.rbd_schedule.specs.Playing.{IsPassed, is_past, is_settled}
 -- ---- what is posted stays
 
 -- a list begins with what was there
-abbrev StaysIn : (mail now : List Notice) → Type 0
+abbrev pub StaysIn : (mail now : List Notice) → Type 0
 StaysIn mail now = (more : List Notice) × (now ≡ mail ++ more)
 
 stays_itself : (mail : List Notice) → StaysIn mail mail
@@ -56,11 +56,11 @@ mail_stays s r who o mail = by (is_fenced r who)
     by true = stays_itself mail
     by false = served_stays s r who o mail
 
-then_stays : (h : Happening) (sites : Sites) → StaysIn sites.mail (mail_then h sites)
+pub then_stays : (h : Happening) (sites : Sites) → StaysIn sites.mail (mail_then h sites)
 then_stays (Did o reply) sites = mail_stays _ (records_in o.site sites) o.instance o.op sites.mail
 then_stays _ sites = stays_itself sites.mail
 
-numbered_stays : (number : ℕ) (mail now : List Notice) (n : Notice) → StaysIn mail now → numbered number mail ≡ Some n → numbered number now ≡ Some n
+pub numbered_stays : (number : ℕ) (mail now : List Notice) (n : Notice) → StaysIn mail now → numbered number mail ≡ Some n → numbered number now ≡ Some n
 numbered_stays number mail now n (more, are) is =
     ap (numbered number) are ∙ find-append (λ (x : Notice). x.number == number) mail more ∙ ap (λ o. option_or o (numbered number more)) is
 

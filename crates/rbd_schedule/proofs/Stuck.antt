@@ -1,7 +1,7 @@
 -- Where all slots of a client are still, each of its requests is held up at a lock, or behind such
 -- a one.
-use Rattle.std.proofs.Common.{◌≡◌, ℕ, ◌≤◌, ◌==◌, ◌||◌, inl, inr, cond, Bool, true, false, List, [], ◌∷◌, Option, Some, None, refl, sym, ap, ◌∙◌, subst, arith}
-use Rattle.std.proofs.lemmas.Bool.{eq-eqb, false≢true, ne_eqb}
+use Rattle.std.proofs.Common.{◌≡◌, ℕ, ◌≤◌, ◌==◌, ◌||◌, ◌⊎◌, inl, inr, cond, Bool, true, false, List, [], ◌∷◌, Option, Some, None, refl, sym, ap, ◌∙◌, subst, arith}
+use Rattle.std.proofs.lemmas.Bool.{eq-eqb, false≢true, ne_eqb, true≢false}
 use Rattle.std.proofs.lemmas.Option.{none-some}
 use Rattle.rbd_client.specs.declared.actor.Actor.{Actor}
 use Rattle.rbd_client.specs.declared.actor.Actor.TheVariants as actor
@@ -9,9 +9,11 @@ use Rattle.rbd_client.specs.declared.slot_state.Way.{Way}
 use Rattle.rbd_client.specs.declared.slot_state.Way.TheVariants as way
 use Rattle.rbd_client.specs.Actor.{actor_at, actor_by, actor_on, due_release, is_acquiring, releasing}
 use Rattle.rbd_client.specs.Client.{ClientView, state_in}
-use Rattle.rbd_client.specs.Laws.{IsHeldBack}
 use Rattle.rbd_client.specs.Sound.{IsSoundClient, IsWellOnWay}
+use Rattle.rbd_kinds.specs.declared.id.Instance.{Instance}
+use Rattle.rbd_kinds.specs.declared.id.SiteId.{SiteId}
 use Rattle.rbd_kinds.specs.declared.image_at.ImageAt.{ImageAt}
+use Rattle.rbd_kinds.specs.declared.notice.Notice.{Notice}
 use Rattle.rbd_line.specs.Line.{Member, member_of}
 use Rattle.rbd_locks.specs.declared.lock_state.LockState.{LockState}
 use Rattle.rbd_locks.specs.Locks.{LocksView, state_at}
@@ -28,9 +30,12 @@ use Rattle.rbd_session.specs.Session.{held_in, own_look_at, running_at, running_
 use Rattle.rbd_session.specs.Waits.{waits}
 use Rattle.rbd_session.proofs.Consequences.{first_goes, members_run_there}
 use Rattle.rbd_session.proofs.Sound.{held_range}
-use Rattle.rbd_schedule.specs.Ends.{IsHeldUp, IsLockedOut, IsStuckIn}
+use Rattle.rbd_world.specs.World.{WorldView, client_in, records_in}
+use Rattle.rbd_schedule.specs.Ends.{IsAnothers, IsHeldUp, IsKept, IsLockedOut, IsStuckIn}
 use Rattle.rbd_schedule.proofs.Going.{alone_goes, runs_there}
+use Rattle.rbd_schedule.specs.Notices.{was_heard}
 use Rattle.rbd_schedule.proofs.Idle.{IsStill, Stays, StaysIn}
+use Rattle.rbd_schedule.proofs.Posting.{HasBeenAsked, IsPosted}
 
 -- ---- who acts at a slot of a request
 
@@ -38,17 +43,38 @@ abbrev is_nobody : Actor → Bool
 is_nobody actor.Nobody = true
 is_nobody _ = false
 
+-- the way that acts, or another one where none does
+abbrev way_or : Acquire → Actor → Acquire
+way_or other (actor.Way a) = a
+way_or other who = other
+
 abbrev is_release : Actor → Bool
 is_release (actor.Release r) = true
 is_release _ = false
 
 -- A request that doesn't act itself stands at its look, and why.
-record StandsOut {R : Type 0} (stands : R → Standing) (c : ClientView R) (slot : ℕ) (who : Actor) : Type 0 where
+record StandsOut {R : Type 0} (stands : R → Standing) (lost : (number : ℕ) → Bool) (w : WorldView R) (c : ClientView R) (slot : ℕ) (who : Actor) : Type 0 where
   image : ImageAt
   look : own_look_at stands slot c.session ≡ Some image
-  out : IsLockedOut image c who
+  out : IsLockedOut lost image w c who
 
-module _ {R : Type 0} (stands : R → Standing) (c : ClientView R) (sound : IsSoundClient stands c) (slot : ℕ) (some : (slot == 0) ≡ false) where
+-- what a client was asked for it has quiesced
+abbrev pub QuietsAsked : {R : Type 0} → ClientView R → Type 0
+QuietsAsked c = (site : SiteId) (image : ℕ) → (state_at site image c.locks).asked ≡ true → (state_at site image c.locks).quiesced ≡ true
+
+abbrev pub AllQuiet : {R : Type 0} → WorldView R → Type 0
+AllQuiet {R} w = (s : ℕ) (c : ClientView R) → client_in s w.lives ≡ Some c → QuietsAsked c
+
+-- an owner was asked, or a notice that asks it is lost
+abbrev pub IsAsked : {R : Type 0} → (lost : (number : ℕ) → Bool) → WorldView R → Instance → SiteId → (image : ℕ) → Type 0
+IsAsked lost w owner site image = (number : ℕ) × (n : Notice) × IsPosted w owner site image number n × ((lost number ≡ true) ⊎ HasBeenAsked w owner site image)
+
+-- each way of a client is to a lock that is another's, whose owner was asked
+abbrev pub WaysAreShown : {R : Type 0} → (stands : R → Standing) → (lost : (number : ℕ) → Bool) → WorldView R → ClientView R → Type 0
+WaysAreShown {R} stands lost w c = (slot : ℕ) → (slot == 0) ≡ false → (r : Running R) → running_at slot c.session ≡ Some r → (a : Acquire) → actor_at stands slot c ≡ actor.Way a
+    → (lock : IsAnothers (records_in a.site w.sites) a.image c.session.instance) × IsAsked lost w lock.owner a.site a.image
+
+module _ {R : Type 0} (stands : R → Standing) (lost : (number : ℕ) → Bool) (w : WorldView R) (c : ClientView R) (sound : IsSoundClient stands c) (shown : WaysAreShown stands lost w c) (quiet : AllQuiet w) (mine : QuietsAsked c) (slot : ℕ) (some : (slot == 0) ≡ false) where
   acts : actor_at stands slot c ≡ actor_on (state_in slot c.slots).way (own_look_at stands slot c.session) c.locks
   acts = ap (λ x. cond x (releasing c.release (due_release c)) (actor_on (state_in slot c.slots).way (own_look_at stands slot c.session) c.locks)) some
 
@@ -66,42 +92,93 @@ module _ {R : Type 0} (stands : R → Standing) (c : ClientView R) (sound : IsSo
           go false true = refl
           go false false = refl
 
-  -- nobody acts where it is held back
-  held_back : (p : ImageAt) → actor_by (state_at p.site p.image c.locks) p.site p.image ≡ actor.Nobody → IsHeldBack p.site p.image c.locks
-  held_back p is = go ((state_at p.site p.image c.locks).quiesced || (state_at p.site p.image c.locks).asked) (state_at p.site p.image c.locks).owned (ap is_nobody is)
+  -- nobody acts where a quiesce holds it back
+  held_back : (p : ImageAt) → actor_by (state_at p.site p.image c.locks) p.site p.image ≡ actor.Nobody → (state_at p.site p.image c.locks).quiesced ≡ true
+  held_back p is = by (state_at p.site p.image c.locks).quiesced refl (state_at p.site p.image c.locks).asked refl (state_at p.site p.image c.locks).owned (ap is_nobody is)
     where
-      go : (b o : Bool) → is_nobody (cond b actor.Nobody (cond o actor.Request (actor.Way (begun p.site p.image (state_at p.site p.image c.locks).watched)))) ≡ true → b ≡ true
-      go true o nobody = refl
-      go false true nobody = absurd (false≢true nobody)
-      go false false nobody = absurd (false≢true nobody)
+      by : (q : Bool) → (state_at p.site p.image c.locks).quiesced ≡ q → (a : Bool) → (state_at p.site p.image c.locks).asked ≡ a → (o : Bool)
+          → is_nobody (cond (q || a) actor.Nobody (cond o actor.Request (actor.Way (begun p.site p.image (state_at p.site p.image c.locks).watched)))) ≡ true → (state_at p.site p.image c.locks).quiesced ≡ true
+      by true quiesced a asked o nobody = quiesced
+      by false quiesced true asked o nobody = mine p.site p.image asked
+      by false quiesced false asked true nobody = absurd (false≢true nobody)
+      by false quiesced false asked false nobody = absurd (false≢true nobody)
 
-  nobody_out : (w : Way) → (state_in slot c.slots).way ≡ w → (look : Option ImageAt) → own_look_at stands slot c.session ≡ look → actor_on w look c.locks ≡ actor.Nobody → StandsOut stands c slot actor.Nobody
+  nobody_out : (y : Way) → (state_in slot c.slots).way ≡ y → (look : Option ImageAt) → own_look_at stands slot c.session ≡ look → actor_on y look c.locks ≡ actor.Nobody → StandsOut stands lost w c slot actor.Nobody
   nobody_out (way.On a) on look at is = absurd (false≢true (ap is_nobody is))
   nobody_out (way.Taken p) on look at is = absurd (false≢true (ap is_nobody is))
   nobody_out way.Unbegun on None at is = absurd (false≢true (ap is_nobody is))
   nobody_out way.Unbegun on (Some p) at is = record { image = p; look = at; out = held_back p is }
 
-  way_out : (x : Acquire) (w : Way) → (state_in slot c.slots).way ≡ w → (look : Option ImageAt) → own_look_at stands slot c.session ≡ look → actor_on w look c.locks ≡ actor.Way x → StandsOut stands c slot (actor.Way x)
-  way_out x (way.On a) on look at is =
-      let well = subst (λ w. IsWellOnWay stands slot w c.session c.locks) on (sound.ways slot) in
-      record { image = record { site = a.site; image = a.image }; look = well.at_look; out = refl }
-  way_out x (way.Taken p) on look at is = absurd (false≢true (ap is_acquiring is))
-  way_out x way.Unbegun on None at is = absurd (false≢true (ap is_acquiring is))
-  way_out x way.Unbegun on (Some p) at is = record { image = p; look = at; out = refl }
+  -- a way that acts is to the lock of the image that is looked at
+  record IsWayTo (x : Acquire) : Type 0 where
+    image : ImageAt
+    look : own_look_at stands slot c.session ≡ Some image
+    site_is : x.site ≡ image.site
+    image_is : x.image ≡ image.image
+
+  begins_there : (p : ImageAt) (x : Acquire) → own_look_at stands slot c.session ≡ Some p → actor_by (state_at p.site p.image c.locks) p.site p.image ≡ actor.Way x → IsWayTo x
+  begins_there p x look is = go ((state_at p.site p.image c.locks).quiesced || (state_at p.site p.image c.locks).asked) (state_at p.site p.image c.locks).owned is
+    where
+      go : (b o : Bool) → cond b actor.Nobody (cond o actor.Request (actor.Way (begun p.site p.image (state_at p.site p.image c.locks).watched))) ≡ actor.Way x → IsWayTo x
+      go true o is = absurd (false≢true (ap is_acquiring is))
+      go false true is = absurd (false≢true (ap is_acquiring is))
+      go false false is =
+          let same : begun p.site p.image (state_at p.site p.image c.locks).watched ≡ x = ap (way_or x) is in
+          record { image = p; look = look; site_is = sym (ap (λ (y : Acquire). y.site) same); image_is = sym (ap (λ (y : Acquire). y.image) same) }
+
+  way_to : (x : Acquire) (y : Way) → (state_in slot c.slots).way ≡ y → (look : Option ImageAt) → own_look_at stands slot c.session ≡ look → actor_on y look c.locks ≡ actor.Way x → IsWayTo x
+  way_to x (way.On a) on look at is =
+      let well = subst (λ y. IsWellOnWay stands slot y c.session c.locks) on (sound.ways slot) in
+      let same : a ≡ x = ap (way_or x) is in
+      record { image = record { site = a.site; image = a.image }; look = well.at_look; site_is = sym (ap (λ (y : Acquire). y.site) same); image_is = sym (ap (λ (y : Acquire). y.image) same) }
+  way_to x (way.Taken p) on look at is = absurd (false≢true (ap is_acquiring is))
+  way_to x way.Unbegun on None at is = absurd (false≢true (ap is_acquiring is))
+  way_to x way.Unbegun on (Some p) at is = begins_there p x at is
+
+  -- an owner that runs keeps it
+  kept_by : (p : ImageAt) (owner : Instance) → IsAsked lost w owner p.site p.image → (d : ClientView R) → client_in owner.session w.lives ≡ Some d → d.session.instance ≡ owner → IsKept lost w p owner (state_at p.site p.image d.locks)
+  kept_by p owner (number, n, it, told) d there is = by (state_at p.site p.image d.locks).asked refl (state_at p.site p.image d.locks).owned refl (was_heard number w.calls) refl told
+    where
+      asked_so : HasBeenAsked w owner p.site p.image → (state_at p.site p.image d.locks).asked ≡ false → (state_at p.site p.image d.locks).owned ≡ true → ⊥
+      asked_so asked none owned = true≢false (sym (asked d there is owned) ∙ none)
+
+      by : (a : Bool) → (state_at p.site p.image d.locks).asked ≡ a → (o : Bool) → (state_at p.site p.image d.locks).owned ≡ o → (h : Bool) → was_heard number w.calls ≡ h → (lost number ≡ true) ⊎ HasBeenAsked w owner p.site p.image
+          → IsKept lost w p owner (state_at p.site p.image d.locks)
+      by true asked o owned h heard told = inl (quiet owner.session d there p.site p.image asked)
+      by false asked false owned h heard told = inr (inl owned)
+      by false asked true owned true heard told = absurd (asked_so (it.heard heard) asked owned)
+      by false asked true owned false heard (inr now) = absurd (asked_so now asked owned)
+      by false asked true owned false heard (inl lost_it) = inr (inr (record {
+        number = number;
+        request = n;
+        posted = it.posted;
+        to = it.to;
+        site_is = it.site_is;
+        image_is = it.image_is;
+        kind = it.kind;
+        is_lost = lost_it;
+        unheard = heard;
+      }))
+
+  way_out : (r : Running R) → running_at slot c.session ≡ Some r → (x : Acquire) → actor_at stands slot c ≡ actor.Way x → IsWayTo x → StandsOut stands lost w c slot (actor.Way x)
+  way_out r runs x at to =
+      let shows = subst (λ s. (lock : IsAnothers (records_in s w.sites) to.image.image c.session.instance) × IsAsked lost w lock.owner s to.image.image) to.site_is
+      (subst (λ i. (lock : IsAnothers (records_in x.site w.sites) i c.session.instance) × IsAsked lost w lock.owner x.site i) to.image_is (shown slot some r runs x at)) in
+      record { image = to.image; look = to.look; out = record { lock = shows.0; keeps = λ d there is. kept_by to.image shows.0.owner shows.1 d there is } }
 
   -- a request that doesn't wait is held up where its slot is still
-  held_by : (r : Running R) → running_at slot c.session ≡ Some r → waits slot (track_of r c.session.lines) ≡ false → (who : Actor) → actor_at stands slot c ≡ who → Stays slot c.session.lines r who → IsHeldUp stands c slot
+  held_by : (r : Running R) → running_at slot c.session ≡ Some r → waits slot (track_of r c.session.lines) ≡ false → (who : Actor) → actor_at stands slot c ≡ who → Stays slot c.session.lines r who → IsHeldUp stands lost w c slot
   held_by r runs goes actor.Request at still = absurd (false≢true (sym goes ∙ still))
   held_by r runs goes (actor.Release x) at still =
       absurd (false≢true (sym (never_releases (state_in slot c.slots).way (own_look_at stands slot c.session) c.locks) ∙ ap is_release (sym acts ∙ at)))
   held_by r runs goes actor.Nobody at still =
       let out = nobody_out (state_in slot c.slots).way refl (own_look_at stands slot c.session) refl (sym acts ∙ at) in
-      record { request = r; runs = runs; image = out.image; look = out.look; out = subst (IsLockedOut out.image c) (sym at) out.out }
+      record { request = r; runs = runs; image = out.image; look = out.look; out = subst (IsLockedOut lost out.image w c) (sym at) out.out }
   held_by r runs goes (actor.Way x) at still =
-      let out = way_out x (state_in slot c.slots).way refl (own_look_at stands slot c.session) refl (sym acts ∙ at) in
-      record { request = r; runs = runs; image = out.image; look = out.look; out = subst (IsLockedOut out.image c) (sym at) out.out }
+      let out = way_out r runs x at (way_to x (state_in slot c.slots).way refl (own_look_at stands slot c.session) refl (sym acts ∙ at)) in
+      record { request = r; runs = runs; image = out.image; look = out.look; out = subst (IsLockedOut lost out.image w c) (sym at) out.out }
 
-module _ {R : Type 0} (stands : R → Standing) (c : ClientView R) (sound : IsSoundClient stands c) (still : (slot : ℕ) → 1 ≤ slot → slot ≤ 64 → IsStill stands slot c) where
+module _ {R : Type 0} (stands : R → Standing) (lost : (number : ℕ) → Bool) (w : WorldView R) (c : ClientView R) (sound : IsSoundClient stands c) (shown : WaysAreShown stands lost w c) (quiet : AllQuiet w) (mine : QuietsAsked c) (still : (slot : ℕ) → 1 ≤ slot → slot ≤ 64 → IsStill stands slot c) where
   not_zero : (slot : ℕ) → 1 ≤ slot → (slot == 0) ≡ false
   not_zero slot least = ne_eqb slot 0 (λ is. absurd (omega (arith, least, is)))
 
@@ -114,15 +191,15 @@ module _ {R : Type 0} (stands : R → Standing) (c : ClientView R) (sound : IsSo
       let range = held_range stands c.session sound.session slot (occupant.Running r) held in
       (range.0, subst (StaysIn slot c.session.lines (actor_at stands slot c)) held (still slot range.0 range.1))
 
-  first_held : (slot : ℕ) (r : Running R) → running_at slot c.session ≡ Some r → waits slot (track_of r c.session.lines) ≡ false → IsHeldUp stands c slot
+  first_held : (slot : ℕ) (r : Running R) → running_at slot c.session ≡ Some r → waits slot (track_of r c.session.lines) ≡ false → IsHeldUp stands lost w c slot
   first_held slot r runs goes =
       let it = stays slot r runs in
-      held_by stands c sound slot (not_zero slot it.0) r runs goes (actor_at stands slot c) refl it.1
+      held_by stands lost w c sound shown quiet mine slot (not_zero slot it.0) r runs goes (actor_at stands slot c) refl it.1
 
-  behind : (slot : ℕ) (p : ImageAt) (m : Member) → member_of slot (lines_of c.session.lines p.site p.image) ≡ Some m → IsStuckIn stands c slot
+  behind : (slot : ℕ) (p : ImageAt) (m : Member) → member_of slot (lines_of c.session.lines p.site p.image) ≡ Some m → IsStuckIn stands lost w c slot
   behind slot p m is = by (lines_of c.session.lines p.site p.image) refl is
     where
-      by : (members : List Member) → lines_of c.session.lines p.site p.image ≡ members → member_of slot members ≡ Some m → IsStuckIn stands c slot
+      by : (members : List Member) → lines_of c.session.lines p.site p.image ≡ members → member_of slot members ≡ Some m → IsStuckIn stands lost w c slot
       by [] line is = absurd (none-some m is)
       by (first ∷ members) line is =
           let found : member_of first.slot (lines_of c.session.lines p.site p.image) ≡ Some first
@@ -134,14 +211,14 @@ module _ {R : Type 0} (stands : R → Standing) (c : ClientView R) (sound : IsSo
             first_held first.slot there.0 there.1 (first_goes stands c.session p.site p.image first members there.0 sound.session line there.1),
           )
 
-  stuck_running : (slot : ℕ) (r : Running R) → running_at slot c.session ≡ Some r → IsStuckIn stands c slot
+  stuck_running : (slot : ℕ) (r : Running R) → running_at slot c.session ≡ Some r → IsStuckIn stands lost w c slot
   stuck_running slot r runs = by (sound.session.runs slot r runs).somewhere
     where
-      by : IsSomewhere slot (track_of r c.session.lines) → IsStuckIn stands c slot
+      by : IsSomewhere slot (track_of r c.session.lines) → IsStuckIn stands lost w c slot
       by (inl none) = inl (first_held slot r runs (alone_goes slot r.place r.turn [] (lines_of c.session.lines) none (sound.session.runs slot r runs).turns))
       by (inr (p, m, there)) = behind slot p m there.member
 
-  pub stuck : (slot : ℕ) (o : Occupant R) → held_in slot c.session.slots ≡ Some o → IsStuckIn stands c slot
+  pub stuck : (slot : ℕ) (o : Occupant R) → held_in slot c.session.slots ≡ Some o → IsStuckIn stands lost w c slot
   stuck slot (occupant.Refused line refusal) held =
       let range = held_range stands c.session sound.session slot (occupant.Refused line refusal) held in
       absurd (subst (StaysIn slot c.session.lines (actor_at stands slot c)) held (still slot range.0 range.1))

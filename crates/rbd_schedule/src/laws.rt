@@ -31,8 +31,11 @@ pub fn somebody_goes_on<R: Request>()
 
 /// At the end of a play nothing goes on any more: each command that was begun has its reply, or is
 /// lost, or is held up at a lock, or stands behind such a one in the line of its image; and where
-/// nobody is held up, each command of a session that runs is over. (A world in memory has had fewer
-/// than `2^59` events: `play` tells so.)
+/// nobody is held up, each command of a session that runs is over. What holds a command up is a
+/// quiesce of its own session, or another instance that has the lock and watches the image. This
+/// one was stopped, or has quiesced the image, or counts the lock as given up; or a notice that
+/// asks it for the lock is lost. (A world in memory has had fewer than `2^59` events: `play` tells
+/// so.)
 pub fn plays_come_to_rest<R: Request>()
     ensures { (script : Script) (w : WorldView R) → IsPlay R.stands script w → length w.calls < 2 ^ 59 → HasCalmed R.stands script w }
 {}

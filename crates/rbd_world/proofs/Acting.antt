@@ -203,7 +203,7 @@ module _ {R : Type 0} (stands : R → Standing) (old new : WorldView R) (w : IsS
     pub alone : TellsStandalone a
     alone = tells_alone stands old new w me doer s o result goes_by known permits (locked s) at_sites
 
-    pub done_so : RecallsBy doer s o goes_by w.run → IsOf doer me s o w.run → IsNextOf doer s o w.run → IsDone (operation_at (site_in s old.sites) me doer s o) w.run
+    pub done_so : RecallsBy doer s o goes_by w.run → IsOf doer me s o w.run → IsNextOf doer me s o w.run → IsDone (operation_at (site_in s old.sites) me doer s o) w.run
     done_so recalls whose next = is_done stands old new w me doer s o result goes_by known permits (locked s) at_sites (λ image drawn. w.new (InSlot session slot) s image (acted_drawn (knew slot) acts s image drawn)) recalls whose next
 
     pub all_know : AllKnow stands knows_now d.session

@@ -111,7 +111,7 @@ module _ {R : Type 0} (stands : R → Standing) (old new : WorldView R) (w : IsS
   tells_alone = told_standalone (records_in s old.sites) who (w.standalone s) o can_give
 
   -- it is the one that its site does there
-  pub is_done : ((image : ℕ) → is_drawn k.drawn s image ≡ true → HadNoHeader s image w.run) → RecallsBy by s o k w.run → IsOf by who s o w.run → IsNextOf by s o w.run → IsDone operation w.run
+  pub is_done : ((image : ℕ) → is_drawn k.drawn s image ≡ true → HadNoHeader s image w.run) → RecallsBy by s o k w.run → IsOf by who s o w.run → IsNextOf by who s o w.run → IsDone operation w.run
   is_done new recalls whose next = record {
     whose = whose;
     next = next;

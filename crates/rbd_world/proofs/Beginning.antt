@@ -1,6 +1,8 @@
 -- A world in which nothing happened is sound.
 use Rattle.std.proofs.Common.{◌≡◌, ℕ, true, List, [], length, is_some, Option, Some, None, refl, sym, ap, ◌∙◌, subst}
+use Rattle.std.proofs.lemmas.Bool.{true≢false}
 use Rattle.std.proofs.lemmas.Option.{none-some, same_Some}
+use Rattle.rbd_client.specs.declared.slot_state.SlotState.{SlotState}
 use Rattle.rbd_client.specs.Client.{ClientView, state_in}
 use Rattle.rbd_exact.specs.Exact.{IsExactBut, IsOwed}
 use Rattle.rbd_exact.proofs.ExactlyKept.{none_exact}
@@ -11,6 +13,7 @@ use Rattle.rbd_kinds.specs.declared.id.SiteId.{SiteId}
 use Rattle.rbd_kinds.specs.declared.id.SiteId.TheVariants as site
 use Rattle.rbd_known.specs.Knowing.{KnowsIn}
 use Rattle.rbd_machine.specs.Knowledge.{nothing_known}
+use Rattle.rbd_locks.specs.declared.lock_state.LockState.{LockState}
 use Rattle.rbd_machine.specs.Plan.{Standing}
 use Rattle.rbd_rely.specs.Truth.{AreMapped, AreStandalone}
 use Rattle.rbd_rely.proofs.Maps.{none_mapped}
@@ -21,11 +24,13 @@ use Rattle.rbd_site.specs.Log.{after_all}
 use Rattle.rbd_site.specs.Records.{Records, no_records}
 use Rattle.rbd_site.proofs.FormLemmas.{form_at_first}
 use Rattle.rbd_stands.proofs.Nothing.{nothing_stands}
+use Rattle.rbd_world.specs.LetGo.{release_of}
 use Rattle.rbd_world.specs.Owing.{owed_in}
 use Rattle.rbd_world.specs.Run.{Happening}
 use Rattle.rbd_world.specs.Seats.{seat_of_home}
 use Rattle.rbd_world.specs.Sound.{HasLearnedIf, AreLivesOf, Holder, InSlot, Sending, IsFirst, IsHeldRightly, IsLiving, IsNewWorld, IsRunning, IsSoundWorld, KeepsToItsWay, first_life, held_of, line_at}
 use Rattle.rbd_world.specs.Step.{IsFresh}
+use Rattle.rbd_world.specs.Watched.{HasWatchedOn}
 use Rattle.rbd_world.specs.World.{LivesView, WorldView, client_in, late_at, late_of, lives_in, sent_in, session_of}
 use Rattle.rbd_world.proofs.Changed.{lives_there}
 use Rattle.rbd_world.proofs.OrderedWorld.{none_in_order}
@@ -34,8 +39,8 @@ module _ {R : Type 0} (stands : R → Standing) where
   -- ---- a life without requests
 
   module _ (who : Instance) (home : SiteId) (c : ClientView R) (fresh : IsFresh stands who home c) where
-    pub fresh_living : (there : SiteId) (session : ℕ) (run : List Happening) → who.session ≡ session → home ≡ there → IsRunning who run → IsLiving stands there session run (λ slot. nothing_known) c
-    fresh_living there session run whose same runs = record {
+    pub fresh_living : (there : SiteId) (session : ℕ) (run : List Happening) → who.session ≡ session → home ≡ there → IsRunning who run → release_of who run ≡ None → IsLiving stands there session run (λ slot. nothing_known) c
+    fresh_living there session run whose same runs none = record {
       whose = ap (λ (i : Instance). i.session) fresh.instance ∙ whose;
       runs = subst (λ i. IsRunning i run) (sym fresh.instance) runs;
       at_home = fresh.at_home ∙ same;
@@ -44,6 +49,11 @@ module _ {R : Type 0} (stands : R → Standing) where
       held = λ slot. subst (IsHeldRightly stands (seat_of_home session there) c.session.instance run) (sym (fresh.slots slot)) tt;
       ways = λ slot. subst (λ o. KeepsToItsWay stands run (state_in slot c.slots).way (running_in o)) (sym (fresh.slots slot)) tt;
       learned = λ slot. subst (λ o. HasLearnedIf stands run (running_in o) nothing_known) (sym (fresh.slots slot)) tt;
+      releases = fresh.release ∙ sym none ∙ ap (λ i. release_of i run) (sym fresh.instance);
+      watches = record {
+        counts = λ s image watched. absurd (true≢false (sym watched ∙ ap (λ (l : LockState). l.watched) (fresh.locks s image)));
+        ways = λ slot. subst (λ (s : SlotState). HasWatchedOn s.way c.session.instance run) (sym (fresh.sound.free slot (fresh.slots slot))) tt;
+      };
     }
 
     pub fresh_true : (s : SiteId) (r : Records) (me : Instance) → IsTrueOf s r me (λ slot. nothing_known) c
@@ -110,7 +120,7 @@ module _ {R : Type 0} (stands : R → Standing) where
     first_living : (session : ℕ) (c : ClientView R) → client_in session w.lives ≡ Some c → IsLiving stands (home_of (lives_in session w.lives)) session [] (λ slot. nothing_known) c
     first_living session c is =
         let has : HasFirst session c = has_first session c is in
-        fresh_living (first_life session) has.lives.home c has.fresh (home_of (lives_in session w.lives)) session [] refl (sym (ap home_of has.there)) refl
+        fresh_living (first_life session) has.lives.home c has.fresh (home_of (lives_in session w.lives)) session [] refl (sym (ap home_of has.there)) refl refl
 
   pub new_world_is_sound : (w : WorldView R) → IsNewWorld stands w → IsSoundWorld stands w
   new_world_is_sound w new = record {
@@ -140,6 +150,7 @@ module _ {R : Type 0} (stands : R → Standing) where
     sending = λ session slot x is. absurd (none-some x (sym (none_late w new session slot) ∙ is));
     unsent = λ session slot none. refl;
     drops = λ session slot there x differ is. absurd (none-some x (sym (none_late w new session slot) ∙ is));
+    takes = λ session slot x is. absurd (none-some x (sym (none_late w new session slot) ∙ is));
     new = λ h s image drawn. tt;
     beside = λ h g strangers s. nothing_is_beside s _ _ _ nothing_known;
     order = tt;

@@ -39,6 +39,7 @@ use Rattle.rbd_world.specs.Past.{HadNoHeader}
 use Rattle.rbd_world.specs.Run.{Happening, Nothing, Waited, Began, Did, Refused, Trimmed, Expired, Heard, Stopped, Restarted, Sent, IsOfEvent, entries_of, flat_after, lines_at, log_of, mail_of, records_after, records_behind, sent_after}
 use Rattle.rbd_world.specs.Sound.{AreApart, AreInSlots, AreLivesOf, AreStrangers, Holder, InSlot, Sending, IsDue, IsLiving, IsSoundWorld, IsStanding, MayStillCome, known_in}
 use Rattle.rbd_world.specs.Step.{Does, DoesAtSites, begins_of, call_of, come, delivered, done_by, ended_watch, goes_on_by, happening, heard_by, is_begun, mail_then, polled, polled_in, releases, restarted, restarted_of, stopped, submitted}
+use Rattle.rbd_world.specs.Watched.{TakesBehindWatch}
 use Rattle.rbd_world.specs.World.{LivesView, WorldView, client_in, late_at, lives_in, records_in, site_in}
 use Rattle.rbd_world.proofs.Exactly.{IsOwedFor, exact_then}
 
@@ -182,6 +183,7 @@ module _ {R : Type 0} (stands : R → Standing) where
     pub unsent : (session slot : ℕ) → late_at session slot new.lives ≡ None → knows (Sending session slot) ≡ nothing_known
     pub drops : (session slot there : ℕ) (x : Sent) → slot ≢ there → late_at session slot new.lives ≡ Some x → (r : Records)
         → MayAct x.site r (who (Sending session slot)) (who (Sending session there)) (knows (Sending session slot)) (knows (Sending session there)) x.op
+    pub takes : (session slot : ℕ) (x : Sent) → late_at session slot new.lives ≡ Some x → TakesBehindWatch x.instance x.site x.op (h ∷ w.run)
     pub none_yet : (g : Holder) (s : SiteId) (image : ℕ) → is_drawn (knows g).drawn s image ≡ true → HadNoHeader s image w.run
     pub beside : (h g : Holder) → AreStrangers h g → (s : SiteId) → AreBeside s (records_in s new.sites) (who h) (who g) (knows h) (knows g)
     pub owes : IsOwedFor h w.run
@@ -240,6 +242,7 @@ module _ {R : Type 0} (stands : R → Standing) where
         sending = carries.sending;
         unsent = carries.unsent;
         drops = carries.drops;
+        takes = carries.takes;
         new = λ g s image drawn. (none_now g s image drawn, carries.none_yet g s image drawn);
         beside = carries.beside;
         order = (carries.turn, w.order);

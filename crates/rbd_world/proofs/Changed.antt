@@ -14,13 +14,17 @@ use Rattle.rbd_session.specs.declared.running.Occupant.{Occupant}
 use Rattle.rbd_session.specs.declared.running.Occupant.TheVariants as occupant
 use Rattle.rbd_session.specs.Session.{SessionView, held_in, running_at, running_in, script_line}
 use Rattle.rbd_world.specs.declared.event.Event.{Event}
+use Rattle.rbd_world.specs.LetGo.{moves_house, release_of}
 use Rattle.rbd_world.specs.Run.{Happening, Life, Sent, life_after, life_behind, sent_behind}
 use Rattle.rbd_world.specs.Seats.{seat_at, seat_of_home}
 use Rattle.rbd_machine.specs.declared.seat.Seat.{Seat}
 use Rattle.rbd_world.specs.Sound.{HasLearnedIf, AreApart, AreLivesOf, IsHeldRightly, IsLiving, IsOpen, IsRunning, IsSoundWorld, KeepsToItsWay, held_of, line_at}
 use Rattle.rbd_world.specs.Step.{AreSlotsBut, AreStatesBut, Becomes, BecomesOf, Does, IsSameClient, LivesOnIf, RunsOn, late_behind, latest_behind, names_session}
+use Rattle.rbd_world.specs.Watched.{CountsItsWatches}
 use Rattle.rbd_world.specs.World.{LateView, LivesView, WorldView, client_in, late_at, late_of, lives_in, running_of, sent_in, session_of}
+use Rattle.rbd_world.proofs.LetGo.{still_releases}
 use Rattle.rbd_world.proofs.Quiet.{IsQuiet, held_on, learned_on}
+use Rattle.rbd_world.proofs.Watching.{counts_on}
 use Rattle.rbd_world.proofs.Ways.{ways_on}
 
 -- ---- this slot, or another one
@@ -256,8 +260,8 @@ module _ {R : Type 0} (stands : R → Standing) where
   module _ (home : SiteId) (session : ℕ) (h : Happening) (run : List Happening) (lifeless : IsLifeless h) where
     -- one for which it is nothing
     pub living_on : (knows : (x : ℕ) → Knowledge) (c : ClientView R) → ((x line : ℕ) → script_line (held_in x c.session.slots) ≡ Some line → IsQuiet line h)
-        → IsLiving stands home session run knows c → IsLiving stands home session (h ∷ run) knows c
-    living_on knows c quiet living = record {
+        → moves_house c.session.instance h ≡ false → IsLiving stands home session run knows c → IsLiving stands home session (h ∷ run) knows c
+    living_on knows c quiet still living = record {
       whose = living.whose;
       runs = running_on c.session.instance h run lifeless living.runs;
       at_home = living.at_home;
@@ -266,6 +270,8 @@ module _ {R : Type 0} (stands : R → Standing) where
       held = λ x. held_on stands (seat_of_home session home) c.session.instance h run (held_in x c.session.slots) (quiet x) (living.held x);
       ways = λ x. ways_on stands h run (state_in x c.slots).way (held_in x c.session.slots) (quiet x) (living.ways x);
       learned = λ x. learned_on stands (seat_of_home session home) c.session.instance h run (held_in x c.session.slots) (knows x) (quiet x) (living.learned x);
+      releases = living.releases ∙ sym (still_releases c.session.instance h run still);
+      watches = counts_on c.session.instance h run c living.watches;
     }
 
     -- one of which a slot changed
@@ -274,9 +280,9 @@ module _ {R : Type 0} (stands : R → Standing) where
         → ((x line : ℕ) → x ≢ slot → script_line (held_in x c.session.slots) ≡ Some line → IsQuiet line h)
         → IsSoundClient stands d → AllKnow stands knows' d.session → IsHeldRightly stands (seat_of_home session home) c.session.instance (h ∷ run) (held_in slot d.session.slots)
         → KeepsToItsWay stands (h ∷ run) (state_in slot d.slots).way (running_at slot d.session)
-        → ((x : ℕ) → x ≢ slot → knows' x ≡ knows x) → HasLearnedIf stands (h ∷ run) (running_at slot d.session) (knows' slot)
-        → IsLiving stands home session (h ∷ run) knows' d
-    living_of knows knows' slot c d living slots states client quiet sound know own keeps others learns = record {
+        → ((x : ℕ) → x ≢ slot → knows' x ≡ knows x) → HasLearnedIf stands (h ∷ run) (running_at slot d.session) (knows' slot) → d.release ≡ release_of c.session.instance (h ∷ run)
+        → CountsItsWatches c.session.instance (h ∷ run) d → IsLiving stands home session (h ∷ run) knows' d
+    living_of knows knows' slot c d living slots states client quiet sound know own keeps others learns release watches = record {
       whose = ap (λ (i : Instance). i.session) client.instance ∙ living.whose;
       runs = subst (λ i. IsRunning i (h ∷ run)) (sym client.instance) (running_on c.session.instance h run lifeless living.runs);
       at_home = client.home ∙ living.at_home;
@@ -285,6 +291,8 @@ module _ {R : Type 0} (stands : R → Standing) where
       held = λ x. subst (λ i. IsHeldRightly stands (seat_of_home session home) i (h ∷ run) (held_in x d.session.slots)) (sym client.instance) (by x (same_or_other x slot));
       ways = λ x. way_by x (same_or_other x slot);
       learned = λ x. learned_by x (same_or_other x slot);
+      releases = release ∙ ap (λ i. release_of i (h ∷ run)) (sym client.instance);
+      watches = subst (λ i. CountsItsWatches i (h ∷ run) d) (sym client.instance) watches;
     }
       where
         learned_by : (x : ℕ) → (x ≡ slot) ⊎ (x ≢ slot) → HasLearnedIf stands (h ∷ run) (running_at x d.session) (knows' x)

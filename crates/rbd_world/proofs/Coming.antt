@@ -44,6 +44,7 @@ use Rattle.rbd_world.proofs.Debts.{none_sent}
 use Rattle.rbd_world.proofs.Elsewhere.{IsAs, Same, Silent, beside_still, unknown_looks, new_still}
 use Rattle.rbd_world.proofs.OrderedWorld.{no_turn, order_on}
 use Rattle.rbd_world.proofs.Quiet.{IsQuiet, quiet_did}
+use Rattle.rbd_world.proofs.Watching.{takes_on}
 use Rattle.rbd_world.proofs.Slots.{open_back, same_slots}
 
 -- ---- slots that are let go
@@ -214,7 +215,7 @@ module _ {R : Type 0} (stands : R → Standing) (old new : WorldView R) (w : IsS
   due =
       is_done stands old new w x.instance (AfterStop slot) x.site x.op None goes_by known permits locked at_sites
       (λ image drawn. w.new (Sending session slot) x.site image (less_drawn x.op k x.site image drawn)) tt
-      (ap (λ i. sent_after i slot w.run) may.whose ∙ sym (w.late session slot) ∙ sent) tt
+      (ap (λ i. sent_after i slot w.run) may.whose ∙ sym (w.late session slot) ∙ sent) (w.takes session slot x sent)
 
   -- ---- who is where
 
@@ -437,7 +438,7 @@ module _ {R : Type 0} (stands : R → Standing) (old new : WorldView R) (w : IsS
       due = (due, tt);
       whole = whole_then stands old new w x.instance (AfterStop slot) x.site x.op None goes_by known permits locked at_sites;
       lives = lives_now;
-      clients = λ m q is. living_on stands (w.homes m) m h w.run (λ n life. refl) (known_in w.knows m) q (λ y line at. quiet line) (w.clients m q (was m q is));
+      clients = λ m q is. living_on stands (w.homes m) m h w.run (λ n life. refl) (known_in w.knows m) q (λ y line at. quiet line) refl (w.clients m q (was m q is));
       in_slots = λ m y q is. w.in_slots m y q (was m q is);
       nobody = λ m is y. w.nobody m (sym (client_same m) ∙ is) y;
       apart = λ line m y other there one two. w.apart line m y other there (sym (line_same m y) ∙ one) (sym (line_same other there) ∙ two);
@@ -447,6 +448,7 @@ module _ {R : Type 0} (stands : R → Standing) (old new : WorldView R) (w : IsS
       sending = sending_now;
       unsent = unsent_now;
       drops = drops_now;
+      takes = λ m y z is. takes_on z.instance z.site z.op h w.run (w.takes m y z (sym (late_elsewhere m y (elsewhere m y z is)) ∙ is));
       beside = beside_still w.who w.who w.knows knows_then (λ s. records_in s new.sites)
           (λ a g apart s.
           beside_then stands old new w x.instance (AfterStop slot) x.site x.op None goes_by known permits locked at_sites (w.who a) (w.who g) (w.knows a) (w.knows g) (w.beside a g apart) s)

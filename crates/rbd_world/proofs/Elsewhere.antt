@@ -1,5 +1,5 @@
 -- What begins or ends a life of one session leaves the other sessions as they are.
-use Rattle.std.proofs.Common.{◌≡◌, ◌≢◌, ℕ, ◌==◌, cond, List, ◌∷◌, is_some, None, Some, refl, sym, ap, ◌∙◌, subst, true}
+use Rattle.std.proofs.Common.{◌≡◌, ◌≢◌, ℕ, ◌==◌, cond, List, ◌∷◌, is_some, None, Some, refl, sym, ap, ◌∙◌, subst, true, false}
 use Rattle.std.proofs.lemmas.Bool.{true≢false, eq-eqb, ne_eqb}
 use Rattle.rbd_client.specs.Client.{ClientView, state_in}
 use Rattle.rbd_kinds.specs.declared.data_op.DataOp.TheVariants as object
@@ -17,19 +17,22 @@ use Rattle.rbd_rely.proofs.Nothing.{nothing_is_beside}
 use Rattle.rbd_rely.proofs.Together.{beside_mutual}
 use Rattle.rbd_session.specs.Session.{held_in, script_line}
 use Rattle.rbd_site.specs.Records.{Records}
+use Rattle.rbd_world.specs.LetGo.{moves_house}
 use Rattle.rbd_world.specs.Run.{Happening, Life, life_after, life_behind}
 use Rattle.rbd_world.specs.Seats.{seat_of_home}
 use Rattle.rbd_world.specs.Sound.{AreLivesOf, AreStrangers, Holder, InSlot, IsLiving, known_in}
 use Rattle.rbd_world.specs.World.{LivesView}
+use Rattle.rbd_world.proofs.LetGo.{still_releases}
 use Rattle.rbd_world.proofs.Quiet.{IsQuiet, held_on, learned_on}
+use Rattle.rbd_world.proofs.Watching.{counts_on}
 use Rattle.rbd_world.proofs.Ways.{ways_on}
 
 -- ---- lives
 
 module _ {R : Type 0} (stands : R → Standing) (home : SiteId) (session : ℕ) (h : Happening) (run : List Happening) (still : (l : Life) → life_behind session h l ≡ l) where
   pub living_still : (knows : (x : ℕ) → Knowledge) (c : ClientView R) → ((x line : ℕ) → script_line (held_in x c.session.slots) ≡ Some line → IsQuiet line h)
-      → IsLiving stands home session run knows c → IsLiving stands home session (h ∷ run) knows c
-  living_still knows c quiet living = record {
+      → moves_house c.session.instance h ≡ false → IsLiving stands home session run knows c → IsLiving stands home session (h ∷ run) knows c
+  living_still knows c quiet unmoved living = record {
     whose = living.whose;
     runs =
         ap (λ i. life_behind i h (life_after i run)) living.whose ∙ still (life_after session run) ∙ ap (λ i. life_after i run) (sym living.whose)
@@ -40,6 +43,8 @@ module _ {R : Type 0} (stands : R → Standing) (home : SiteId) (session : ℕ) 
     held = λ x. held_on stands (seat_of_home session home) c.session.instance h run (held_in x c.session.slots) (quiet x) (living.held x);
     ways = λ x. ways_on stands h run (state_in x c.slots).way (held_in x c.session.slots) (quiet x) (living.ways x);
     learned = λ x. learned_on stands (seat_of_home session home) c.session.instance h run (held_in x c.session.slots) (knows x) (quiet x) (living.learned x);
+    releases = living.releases ∙ sym (still_releases c.session.instance h run unmoved);
+    watches = counts_on c.session.instance h run c living.watches;
   }
 
   pub lives_still : (l : LivesView R) → AreLivesOf run home session l → AreLivesOf (h ∷ run) home session l

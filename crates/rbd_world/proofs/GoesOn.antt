@@ -1,5 +1,5 @@
 -- What has to be shown where the client of one session goes on in its life, put together.
-use Rattle.std.proofs.Common.{◌≡◌, ◌≢◌, ◌⊎◌, inl, inr, ℕ, true, ◌==◌, cond, [], ◌∷◌, Some, None, refl, sym, ap, ◌∙◌, subst}
+use Rattle.std.proofs.Common.{◌≡◌, ◌≢◌, ◌⊎◌, inl, inr, ℕ, true, false, ◌==◌, cond, [], ◌∷◌, Some, None, refl, sym, ap, ◌∙◌, subst}
 use Rattle.std.proofs.lemmas.Bool.{eq-eqb, ne_eqb}
 use Rattle.std.proofs.lemmas.Option.{none-some, same_Some}
 use Rattle.rbd_client.specs.Client.{ClientView}
@@ -10,6 +10,7 @@ use Rattle.rbd_machine.specs.Plan.{Standing}
 use Rattle.rbd_rely.specs.Beside.{AreBeside}
 use Rattle.rbd_rely.proofs.Together.{beside_mutual}
 use Rattle.rbd_session.specs.Session.{held_in, script_line}
+use Rattle.rbd_world.specs.LetGo.{moves_house}
 use Rattle.rbd_world.specs.Order.{IsInOrder, IsInTurn, IsWriterOf}
 use Rattle.rbd_world.specs.Past.{HadNoHeader}
 use Rattle.rbd_world.specs.Run.{Happening, Sent, sent_after, steps_in}
@@ -20,6 +21,7 @@ use Rattle.rbd_world.proofs.Changed.{GoesOnAs, IsLifeless, SendsNothing, client_
 use Rattle.rbd_world.proofs.Exactly.{IsOwedFor}
 use Rattle.rbd_world.proofs.OrderedWorld.{orders_of}
 use Rattle.rbd_world.proofs.Quiet.{IsQuiet}
+use Rattle.rbd_world.proofs.Watching.{takes_on}
 
 module _ {R : Type 0} (stands : R → Standing) (old new : WorldView R) (w : IsSoundWorld stands old) (h : Happening) (session : ℕ) (c d : ClientView R) (goes : GoesOnAs old new session c d)
     (there : client_in session old.lives ≡ Some c) (instance : d.session.instance ≡ c.session.instance) (lifeless : IsLifeless h) (sends : SendsNothing h) (knows_now : ℕ → Knowledge) where
@@ -91,8 +93,9 @@ module _ {R : Type 0} (stands : R → Standing) (old new : WorldView R) (w : IsS
         → ((m : ℕ) (q : ClientView R) → m ≢ session → client_in m old.lives ≡ Some q → (other : ℕ) → IsWriterOf q.session.instance other (h ∷ w.run) → steps_in other h ≡ [])
         → IsInOrder stands (w.homes session) d.session.instance (h ∷ w.run) d.session
         → ((x : ℕ) (s : SiteId) (image : ℕ) → is_drawn (knows_now x).drawn s image ≡ true → HadNoHeader s image w.run)
+        → ((m : ℕ) (q : ClientView R) → m ≢ session → client_in m old.lives ≡ Some q → moves_house q.session.instance h ≡ false)
         → IsCarried stands old new w h
-    goes_carries standing due whole living quiet apart slots truth others sending owes turn foreign order none_yet = record {
+    goes_carries standing due whole living quiet apart slots truth others sending owes turn foreign order none_yet unmoved = record {
       who = w.who;
       knows = knows_then;
       carries = record {
@@ -110,6 +113,7 @@ module _ {R : Type 0} (stands : R → Standing) (old new : WorldView R) (w : IsS
         sending = λ m x y is. let before = sym (late_same m x) ∙ is in ((w.sending m x y before).0, sending m x y before);
         unsent = λ m x none. w.unsent m x (sym (late_same m x) ∙ none);
         drops = λ m x z y differ is. w.drops m x z y differ (sym (late_same m x) ∙ is);
+        takes = λ m x y is. takes_on y.instance y.site y.op h w.run (w.takes m x y (sym (late_same m x) ∙ is));
         none_yet = λ g s image. new_by g s image (whose g);
         beside = beside_then;
         owes = owes;
@@ -144,7 +148,7 @@ module _ {R : Type 0} (stands : R → Standing) (old new : WorldView R) (w : IsS
         client_by m q is (inr differ) =
             let before = was m q differ is in
             subst (λ k. IsLiving stands (w.homes m) m (h ∷ w.run) k q) (sym (known_there m differ))
-            (living_on stands (w.homes m) m h w.run lifeless (known_in w.knows m) q (quiet m q differ before) (w.clients m q before))
+            (living_on stands (w.homes m) m h w.run lifeless (known_in w.knows m) q (quiet m q differ before) (unmoved m q differ before) (w.clients m q before))
 
         slot_by : (m x : ℕ) (q : ClientView R) → client_in m new.lives ≡ Some q → (m ≡ session) ⊎ (m ≢ session) → w.who (InSlot m x) ≡ q.session.instance
         slot_by m x q is (inl same) =

@@ -10,16 +10,20 @@ use Rattle.rbd_kinds.specs.declared.notice.Notice.{Notice}
 use Rattle.rbd_kinds.specs.Instances.{same_instance}
 use Rattle.rbd_kinds.proofs.Instances.{same_instance_is}
 use Rattle.rbd_known.specs.Knowing.{AllKnow}
+use Rattle.rbd_locks.specs.declared.lock_state.LockState.{LockState}
+use Rattle.rbd_locks.specs.Locks.{state_at}
 use Rattle.rbd_machine.specs.Knowledge.{Knowledge}
 use Rattle.rbd_machine.specs.Plan.{Standing}
 use Rattle.rbd_rely.specs.Beside.{AreBeside}
 use Rattle.rbd_session.specs.Session.{SessionView, held_in, running_at, script_line}
 use Rattle.rbd_watch.specs.Posting.{numbered}
 use Rattle.rbd_world.specs.declared.event.Event.TheVariants as event
+use Rattle.rbd_world.specs.LetGo.{release_of}
 use Rattle.rbd_world.specs.Run.{Heard, mail_of}
 use Rattle.rbd_world.specs.Seats.{seat_at}
 use Rattle.rbd_world.specs.Sound.{AreStrangers, HasLearnedIf, Holder, InSlot, IsDelivered, IsHeldRightly, IsLiving, IsRunning, IsSoundWorld, KeepsToItsWay, held_of, known_in, line_at}
 use Rattle.rbd_world.specs.Step.{Does, DoesAtSites, Hears, IsSoundIf}
+use Rattle.rbd_world.specs.Watched.{CountsItsWatches}
 use Rattle.rbd_world.specs.World.{WorldView, client_in, records_in, session_of}
 use Rattle.rbd_world.proofs.Carried.{IsCarried, numbered_is, whole_in}
 use Rattle.rbd_world.proofs.Changed.{GoesOnAs, client_is, client_was, clients_stay, has_become, line_is, living_on, same_or_other}
@@ -28,6 +32,7 @@ use Rattle.rbd_world.proofs.OrderedWorld.{still_in_order}
 use Rattle.rbd_world.proofs.Quiet.{quiet_heard}
 use Rattle.rbd_world.proofs.Rest.{StaysTrue, same_true, still_may_come, where_standing}
 use Rattle.rbd_world.proofs.Slots.{open_back, same_slots}
+use Rattle.rbd_world.proofs.Watching.{counts_alike, heard_watches}
 
 module _ {R : Type 0} (stands : R → Standing) (old new : WorldView R) (w : IsSoundWorld stands old) (notice : Notice) (c d : ClientView R) (there : client_in notice.to.session old.lives ≡ Some c)
     (goes : GoesOnAs old new notice.to.session c d) (hears : Hears stands notice c d) (at_sites : DoesAtSites (Heard notice) old.sites new.sites) where
@@ -75,10 +80,15 @@ module _ {R : Type 0} (stands : R → Standing) (old new : WorldView R) (w : IsS
         subst (λ ss. KeepsToItsWay stands (Heard notice ∷ w.run) (state_in x ss).way (running_at x d.session)) (sym hears.slots)
         (subst (λ (v : SessionView R). KeepsToItsWay stands (Heard notice ∷ w.run) (state_in x c.slots).way (running_at x v)) (sym hears.session) (still.ways x));
     learned = λ x. subst (λ (v : SessionView R). HasLearnedIf stands (Heard notice ∷ w.run) (running_at x v) (knew x)) (sym hears.session) (still.learned x);
+    releases = hears.release ∙ still.releases ∙ ap (λ i. release_of i (Heard notice ∷ w.run)) (sym same_who);
+    watches =
+        subst (λ i. CountsItsWatches i (Heard notice ∷ w.run) d) (sym same_who)
+        (counts_alike c.session.instance (Heard notice ∷ w.run) c d
+        (λ s image. ap (λ (l : LockState). l.watched) (hears.locks s image) ∙ heard_watches notice s image (state_at s image c.locks)) hears.slots still.watches);
   }
     where
       still : IsLiving stands (w.homes session) session (Heard notice ∷ w.run) knew c
-      still = living_on stands (w.homes session) session (Heard notice) w.run (λ m l. refl) knew c (λ x line at. quiet_heard line notice) (w.clients session c there)
+      still = living_on stands (w.homes session) session (Heard notice) w.run (λ m l. refl) knew c (λ x line at. quiet_heard line notice) refl (w.clients session c there)
 
   truth_now : (s : SiteId) → IsTrueOf s (records_in s new.sites) d.session.instance knew d
   truth_now s =
@@ -101,7 +111,7 @@ module _ {R : Type 0} (stands : R → Standing) (old new : WorldView R) (w : IsS
       truth_now (λ m q differ is s. (stays s).clients q.session.instance (known_in w.knows m) q (w.truth m q is s))
       (λ m x y is. still_may_come stands old new w (λ s. records_in s new.sites) stays m y _ (w.sending m x y is).1) tt tt (λ m q differ is other writer. refl)
       (still_in_order stands old new w (Heard notice) due session c d there hears.session (λ line before. refl) (λ other writer. refl))
-      (λ x t image drawn. w.new (InSlot session x) t image drawn)
+      (λ x t image drawn. w.new (InSlot session x) t image drawn) (λ m q differ is. refl)
 
 module _ {R : Type 0} (stands : R → Standing) where
   pub heard_keeps : (old new : WorldView R) (w : IsSoundWorld stands old) (number : ℕ) (notice : Notice) (c : ClientView R) → numbered number old.sites.mail ≡ Some notice

@@ -1,5 +1,6 @@
 pub mod Acting
 pub mod Ahead
+pub mod Asking
 pub mod Alive
 pub mod Answered
 pub mod AtSites
@@ -21,6 +22,7 @@ pub mod InLine
 pub mod InOrder
 pub mod KeptAhead
 pub mod Latest
+pub mod LetGo
 pub mod Lost
 pub mod LostLines
 pub mod Newcomer
@@ -34,6 +36,7 @@ pub mod OrderedWorld
 pub mod Orderly
 pub mod Owes
 pub mod Owned
+pub mod OwnersWatch
 pub mod Parts
 pub mod Polling
 pub mod Quiet
@@ -45,16 +48,20 @@ pub mod Restarting
 pub mod Runs
 pub mod Slots
 pub mod Stepping
+pub mod StillWatching
 pub mod Steps
 pub mod Stopping
 pub mod Stored
 pub mod Submitted
+pub mod TakesNone
+pub mod Telling
 pub mod Told
 pub mod Turned
 pub mod Unborn
 pub mod Undone
 pub mod Walks
 pub mod Wanted
+pub mod Watching
 pub mod Ways
 pub mod WaysOfLines
 pub mod WritesFirst

@@ -44,6 +44,7 @@ use Rattle.rbd_world.proofs.Quiet.{IsQuiet, quiet_began}
 use Rattle.rbd_world.proofs.Rest.{StaysTrue, same_true, still_may_come, where_standing}
 use Rattle.rbd_world.proofs.Runs.{IsUnheard, begun_is_asked, unheard}
 use Rattle.rbd_world.proofs.Slots.{in_this_slot, open_back, other_slots}
+use Rattle.rbd_world.proofs.Watching.{counts_but, counts_on}
 use Rattle.rbd_site.proofs.OneChange.{none_from_test}
 
 module _ {R : Type 0} (stands : R → Standing) (old new : WorldView R) (w : IsSoundWorld stands old) (session line : ℕ) (command : Command) (built : is_built command ≡ true)
@@ -236,7 +237,8 @@ module _ {R : Type 0} (stands : R → Standing) (old new : WorldView R) (w : IsS
         (living_of stands home session does_begin w.run (λ m l. refl) knew knew lowest c d living begins.slots became.states begins.client (λ x other apart is. quiet x other is)
         (subst (IsSoundIf stands) (client_is old new session c d goes) (sound session)) all (holds_rightly (held_in lowest d.session.slots) is_new)
         (subst (λ (s : SlotState). KeepsToItsWay stands (does_begin ∷ w.run) s.way (running_at lowest d.session)) (sym became.state) (begins_no_way (held_in lowest d.session.slots) is_new))
-        (λ x differ. refl) (learned_new (held_in lowest d.session.slots) is_new))
+        (λ x differ. refl) (learned_new (held_in lowest d.session.slots) is_new) (became.house.release ∙ living.releases)
+        (counts_but me (does_begin ∷ w.run) c d lowest became.house.locks became.states (ap (λ (s : SlotState). s.way) became.state) (counts_on me does_begin w.run c living.watches)))
         quiet_others begun_apart (λ l now. slots_then l now (line == l) refl)
         (λ s. (stays s).clients d.session.instance knew d
         (subst (λ i. IsTrueOf s (records_in s old.sites) i knew d) (sym begins.client.instance)
@@ -248,7 +250,7 @@ module _ {R : Type 0} (stands : R → Standing) (old new : WorldView R) (w : IsS
         (order_then (held_in lowest d.session.slots) refl is_new
         (order_beside stands old new w does_begin due home me lowest c.session (λ x other apart is. quiet x other is) (ap running_in living.sound.session.lowest.free) (λ other writer. refl)
         (w.in_order session c there))))
-        (λ x t image drawn. w.new (InSlot session x) t image drawn)
+        (λ x t image drawn. w.new (InSlot session x) t image drawn) (λ m q apart at. refl)
 
   pub began_keeps : Does stands (event.Submit session line command) does_begin old new → DoesAtSites does_begin old.sites new.sites
       → ((m : ℕ) → IsSoundIf stands (client_in m new.lives)) → IsCarried stands old new w does_begin

@@ -43,6 +43,7 @@ use Rattle.rbd_world.proofs.Owes.{plain_owes, way_plain}
 use Rattle.rbd_world.proofs.Quiet.{IsQuiet, quiet_did, underway_still, learned_still}
 use Rattle.rbd_world.proofs.RefusedOnWay.{refused_on_way}
 use Rattle.rbd_world.proofs.Slots.{in_this_slot, not_open, open_back, other_slots}
+use Rattle.rbd_world.proofs.Watching.{counts_fed, takes_behind_watch, way_watched}
 use Rattle.rbd_world.proofs.Ways.{asks_next, way_acts, way_goes_on, way_refused}
 
 module _ {R : Type 0} (stands : R → Standing) (old new : WorldView R) (w : IsSoundWorld stands old) (session slot : ℕ) (c : ClientView R) (there : client_in session old.lives ≡ Some c)
@@ -126,7 +127,7 @@ module _ {R : Type 0} (stands : R → Standing) (old new : WorldView R) (w : IsS
 
     done_there : IsDone operation w.run
     done_there = done_so stands old new w session slot c there a.site (op_of a) wanted (OnWay r.line) result d became at_sites sound_then tt (λ asked is. sym (is_mine asked is))
-        (asks_next a (way_of r.line w.run) stands_there)
+        (asks_next a (way_of r.line w.run) stands_there, takes_behind_watch a me w.run (way_watched stands slot c me w.run living.watches a acts))
 
     due : IsDue w.homes does_it w.run
     due = by result refl
@@ -194,7 +195,8 @@ module _ {R : Type 0} (stands : R → Standing) (old new : WorldView R) (w : IsS
         (knows_now stands old new w session slot c there a.site (op_of a) wanted (OnWay r.line) result d became at_sites sound_then) slot c d living became.slots became.states became.client quiet
         sound_then (all_know stands old new w session slot c there a.site (op_of a) wanted (OnWay r.line) result d became at_sites sound_then) (still_held result refl is_fed.session) (still_on_way result refl is_fed.session)
         (others_know stands old new w session slot c there a.site (op_of a) wanted (OnWay r.line) result d became at_sites sound_then)
-        (still_learned result refl is_fed.session)
+        (still_learned result refl is_fed.session) (is_fed.release ∙ living.releases)
+        (counts_fed stands slot c me w.run living.watches operation result refl d became.states wanted became.fed)
 
     -- its line stays in its slot, unless it has its reply
     slots_then : (l : ℕ) → IsOpen l (does_it ∷ w.run) → (b : Bool) → (r.line == l) ≡ b → IsInSlot l new.lives
@@ -230,7 +232,7 @@ module _ {R : Type 0} (stands : R → Standing) (old new : WorldView R) (w : IsS
         (truth_of_others stands old new w session slot c there a.site (op_of a) wanted (OnWay r.line) result d became at_sites sound_then)
         (sending_now stands old new w session slot c there a.site (op_of a) wanted (OnWay r.line) result d became at_sites sound_then)
         (λ calm. plain_owes operation result w.run (λ line. refl) (way_plain a)) (no_turn operation result w.run (λ line. refl)) (λ m q apart is other writer. refl) (order result is_fed.session)
-        (new_now stands old new w session slot c there a.site (op_of a) wanted (OnWay r.line) result d became at_sites sound_then)
+        (new_now stands old new w session slot c there a.site (op_of a) wanted (OnWay r.line) result d became at_sites sound_then) (λ m q apart is. refl)
 
   pub way_keeps : Does stands (event.Poll session slot) does_it old new → DoesAtSites does_it old.sites new.sites → ((m : ℕ) → IsSoundIf stands (client_in m new.lives)) → IsCarried stands old new w does_it
   way_keeps does at_sites sound =

@@ -50,6 +50,7 @@ use Rattle.rbd_world.proofs.OrderedWorld.{running_line}
 use Rattle.rbd_world.proofs.Owes.{own_owes}
 use Rattle.rbd_world.proofs.Quiet.{IsQuiet, quiet_did}
 use Rattle.rbd_world.proofs.Slots.{in_this_slot, not_open, open_back, other_slots}
+use Rattle.rbd_world.proofs.Watching.{counts_fed}
 use Rattle.rbd_world.proofs.Ways.{goes_on_itself, way_is_over}
 
 module _ {R : Type 0} (stands : R → Standing) (old new : WorldView R) (w : IsSoundWorld stands old) (session slot : ℕ) (c : ClientView R) (there : client_in session old.lives ≡ Some c)
@@ -190,7 +191,8 @@ module _ {R : Type 0} (stands : R → Standing) (old new : WorldView R) (w : IsS
         result c.session.lines d.session.lines (held_in slot d.session.slots) comes)
         (still_over (held_in slot d.session.slots) comes)
         (others_know stands old new w session slot c there s o wanted (Itself r.line) result d became at_sites sound_then)
-        (learned_then (held_in slot d.session.slots) comes)
+        (learned_then (held_in slot d.session.slots) comes) (is_fed.release ∙ living.releases)
+        (counts_fed stands slot c me w.run living.watches operation result refl d became.states wanted became.fed)
 
     -- its line stays in its slot, unless it has its reply
     slots_then : (l : ℕ) → IsOpen l (does_it ∷ w.run) → (b : Bool) → (r.line == l) ≡ b → IsInSlot l new.lives
@@ -246,7 +248,7 @@ module _ {R : Type 0} (stands : R → Standing) (old new : WorldView R) (w : IsS
         (λ calm. own_owes stands old w calm.1 session slot c there r holds s why o next asks result can_give)
         (in_turn stands w.homes home me slot w.run c.session d.session r runs living.sound.session goes s why o next asks a result (next_number (site_in s old.sites))
         (effect_of (records_in s old.sites) (done.Op o) a) w.order (w.in_order session c there) is_mine)
-        foreign order (new_now stands old new w session slot c there s o wanted (Itself r.line) result d became at_sites sound_then)
+        foreign order (new_now stands old new w session slot c there s o wanted (Itself r.line) result d became at_sites sound_then) (λ m q apart is. refl)
 
   pub did_keeps : Does stands (event.Poll session slot) does_it old new → DoesAtSites does_it old.sites new.sites → ((m : ℕ) → IsSoundIf stands (client_in m new.lives)) → IsCarried stands old new w does_it
   did_keeps does at_sites sound =

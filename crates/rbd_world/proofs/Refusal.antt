@@ -2,6 +2,7 @@
 use Rattle.std.proofs.Common.{◌≡◌, ◌≢◌, inl, inr, ℕ, ◌==◌, ◌||◌, Bool, true, false, [], ◌∷◌, ◌++◌, Some, refl, sym, ap, ◌∙◌, subst}
 use Rattle.std.proofs.lemmas.Bool.{true≢false, eq-eqb}
 use Rattle.std.proofs.lemmas.Option.{none-some, same_Some}
+use Rattle.rbd_client.specs.declared.slot_state.SlotState.{SlotState}
 use Rattle.rbd_client.specs.Client.{ClientView, state_in}
 use Rattle.rbd_commands.specs.declared.refusal.Refusal.{Refusal}
 use Rattle.rbd_held.specs.Truth.{IsTrueOf}
@@ -31,6 +32,7 @@ use Rattle.rbd_world.proofs.OrderedWorld.{freed_order, order_beside}
 use Rattle.rbd_world.proofs.Quiet.{IsQuiet, quiet_refused}
 use Rattle.rbd_world.proofs.Rest.{StaysTrue, same_true, still_may_come, where_standing}
 use Rattle.rbd_world.proofs.Slots.{not_open, open_back, other_slots}
+use Rattle.rbd_world.proofs.Watching.{counts_but, counts_on}
 
 module _ {R : Type 0} (stands : R → Standing) (old new : WorldView R) (w : IsSoundWorld stands old) (session slot : ℕ) (c : ClientView R) (there : client_in session old.lives ≡ Some c)
     (line : ℕ) (refusal : Refusal) (holds : held_in slot c.session.slots ≡ Some (occupant.Refused line refusal)) where
@@ -103,7 +105,9 @@ module _ {R : Type 0} (stands : R → Standing) (old new : WorldView R) (w : IsS
         (living_of stands home session does_refuse w.run (λ m l. refl) knew knew slot c d living serves.slots serves.states serves.client quiet
         (subst (IsSoundIf stands) (client_is old new session c d goes) (sound session)) all (subst (IsHeldRightly stands (seat_at w.homes session) me (does_refuse ∷ w.run)) (sym serves.held) tt)
         (subst (λ o. KeepsToItsWay stands (does_refuse ∷ w.run) (state_in slot d.slots).way (running_in o)) (sym serves.held) tt)
-        (λ x differ. refl) (subst (λ o. HasLearnedIf stands (does_refuse ∷ w.run) (running_in o) (knew slot)) (sym serves.held) tt))
+        (λ x differ. refl) (subst (λ o. HasLearnedIf stands (does_refuse ∷ w.run) (running_in o) (knew slot)) (sym serves.held) tt) (serves.house.release ∙ living.releases)
+        (counts_but me (does_refuse ∷ w.run) c d slot serves.house.locks serves.states
+        (ap (λ (s : SlotState). s.way) ((subst (IsSoundIf stands) (client_is old new session c d goes) (sound session)).free slot serves.held)) (counts_on me does_refuse w.run c living.watches)))
         quiet_others (apart_of old new session c d goes slot serves.slots w.apart (λ l is. absurd (none-some l (sym (ap script_line serves.held) ∙ is))))
         (λ l now. slots_then l now (line == l) refl)
         (λ s. (stays s).clients d.session.instance knew d
@@ -115,7 +119,7 @@ module _ {R : Type 0} (stands : R → Standing) (old new : WorldView R) (w : IsS
         (subst (λ i. IsInOrder stands home i (does_refuse ∷ w.run) d.session) (sym serves.client.instance)
         (freed_order stands home me (does_refuse ∷ w.run) slot c.session d.session serves.slots serves.lines (ap running_in serves.held)
         (order_beside stands old new w does_refuse refusal_meant home me slot c.session quiet (ap running_in holds) (λ other writer. refl) (w.in_order session c there))))
-        (λ x t image drawn. w.new (InSlot session x) t image drawn)
+        (λ x t image drawn. w.new (InSlot session x) t image drawn) (λ m q apart is. refl)
 
   pub refused_keeps : Does stands (event.Poll session slot) does_refuse old new → DoesAtSites does_refuse old.sites new.sites
       → ((m : ℕ) → IsSoundIf stands (client_in m new.lives)) → IsCarried stands old new w does_refuse

@@ -15,20 +15,23 @@ use Rattle.rbd_owner.specs.declared.release.Release.{Release}
 use Rattle.rbd_session.specs.Session.{SessionView, held_in, running_in, script_line}
 use Rattle.rbd_site.specs.Step.{answer_to}
 use Rattle.rbd_world.specs.declared.event.Event.TheVariants as event
+use Rattle.rbd_world.specs.LetGo.{release_of}
 use Rattle.rbd_world.specs.Run.{House, Happening, Did, Operation}
 use Rattle.rbd_world.specs.Seats.{seat_at}
 use Rattle.rbd_world.specs.Sound.{IsDue, IsHeldRightly, IsLiving, IsSoundWorld, KeepsToItsWay, known_in, HasLearnedIf}
 use Rattle.rbd_world.specs.Step.{Does, DoesAtSites, Goes, IsSoundIf, operation_at}
+use Rattle.rbd_world.specs.Ways.{IsNextOfRelease}
 use Rattle.rbd_world.specs.World.{WorldView, client_in, records_in, site_in}
 use Rattle.rbd_world.proofs.Acting.{all_know, beside_now, beside_of_others, done_so, knows_now, sending_now, standing, truth_now, truth_of_others, whole, new_now, others_know}
 use Rattle.rbd_world.proofs.Carried.{IsCarried}
 use Rattle.rbd_world.proofs.Changed.{GoesOnAs, apart_of, client_is, has_become, living_of}
 use Rattle.rbd_world.proofs.GoesOn.{goes_carries}
+use Rattle.rbd_world.proofs.LetGo.{next_of_release, others_move_nothing, releases_then}
 use Rattle.rbd_world.proofs.OrderedWorld.{no_turn, still_in_order}
 use Rattle.rbd_world.proofs.Owes.{plain_owes, release_plain}
 use Rattle.rbd_world.proofs.Quiet.{IsQuiet, quiet_did}
 use Rattle.rbd_world.proofs.Slots.{open_back, other_slots}
-use Rattle.rbd_world.proofs.Ways.{of_release}
+use Rattle.rbd_world.proofs.Watching.{counts_fed}
 
 module _ {R : Type 0} (stands : R → Standing) (old new : WorldView R) (w : IsSoundWorld stands old) (session slot : ℕ) (c : ClientView R) (there : client_in session old.lives ≡ Some c)
     (free : held_in slot c.session.slots ≡ None) (x : Release) (acts : actor_at stands slot c ≡ actor.Release x) where
@@ -53,6 +56,10 @@ module _ {R : Type 0} (stands : R → Standing) (old new : WorldView R) (w : IsS
   living : IsLiving stands home session w.run (known_in w.knows session) c
   living = w.clients session c there
 
+  -- it is the next of the release that is under way, or begins one
+  next : IsNextOfRelease (release_of me w.run) x.site (release_op x)
+  next = subst (λ o. IsNextOfRelease o x.site (release_op x)) living.releases (next_of_release stands slot c x acts)
+
   -- it is for no line
   quiet : (line : ℕ) → IsQuiet line does_it
   quiet line = quiet_did line operation None refl
@@ -66,7 +73,7 @@ module _ {R : Type 0} (stands : R → Standing) (old new : WorldView R) (w : IsS
     sound_then = subst (IsSoundIf stands) (client_is old new session c d goes_on) (sound session)
 
     due : IsDue w.homes does_it w.run
-    due = (done_so stands old new w session slot c there x.site (release_op x) wanted House None d became at_sites sound_then tt living.runs (of_release x), tt)
+    due = (done_so stands old new w session slot c there x.site (release_op x) wanted House None d became at_sites sound_then tt living.runs next, tt)
 
     still_free : held_in slot d.session.slots ≡ None
     still_free = ap (λ (s : SessionView R). held_in slot s.slots) is_fed.session ∙ free
@@ -80,6 +87,8 @@ module _ {R : Type 0} (stands : R → Standing) (old new : WorldView R) (w : IsS
         (subst (λ o. KeepsToItsWay stands (does_it ∷ w.run) (state_in slot d.slots).way (running_in o)) (sym still_free) tt)
         (others_know stands old new w session slot c there x.site (release_op x) wanted House None d became at_sites sound_then)
         (subst (λ o. HasLearnedIf stands (does_it ∷ w.run) (running_in o) (knows_now stands old new w session slot c there x.site (release_op x) wanted House None d became at_sites sound_then slot)) (sym still_free) tt)
+        (is_fed.release ∙ sym (releases_then operation None w.run x refl refl refl))
+        (counts_fed stands slot c me w.run living.watches operation None refl d became.states wanted became.fed)
 
     release_carries : IsCarried stands old new w does_it
     release_carries =
@@ -98,6 +107,7 @@ module _ {R : Type 0} (stands : R → Standing) (old new : WorldView R) (w : IsS
         (λ calm. plain_owes operation None w.run (λ line. refl) (release_plain x)) (no_turn operation None w.run (λ line. refl)) (λ m q apart is other writer. refl)
         (still_in_order stands old new w does_it due session c d there is_fed.session (λ line before. refl) (λ other writer. refl))
         (new_now stands old new w session slot c there x.site (release_op x) wanted House None d became at_sites sound_then)
+        (λ m q apart is. others_move_nothing q.session.instance operation None (λ same. apart (sym (w.clients m q is).whose ∙ sym same ∙ living.whose)))
 
   pub release_keeps : Does stands (event.Poll session slot) does_it old new → DoesAtSites does_it old.sites new.sites → ((m : ℕ) → IsSoundIf stands (client_in m new.lives)) → IsCarried stands old new w does_it
   release_keeps does at_sites sound =

@@ -20,6 +20,7 @@ use Rattle.rbd_stands.specs.Site.{StandsFor}
 use Rattle.rbd_stands.proofs.StoreSteps.{expired_stands, trim_stands}
 use Rattle.rbd_watch.specs.Watching.{oldest_of}
 use Rattle.rbd_world.specs.declared.event.Event.{Event}
+use Rattle.rbd_world.specs.LetGo.{moves_house}
 use Rattle.rbd_world.specs.Order.{IsInTurn}
 use Rattle.rbd_world.specs.Run.{Happening, Nothing, Waited, Trimmed, Expired, Sent, life_after, records_after, flat_after, sent_after}
 use Rattle.rbd_world.specs.Sound.{AreLivesOf, IsDue, IsExpired, IsRight, IsSoundWorld, IsTrimmed, MayStillCome, held_of, known_in, line_at}
@@ -31,6 +32,7 @@ use Rattle.rbd_world.proofs.Exactly.{IsOwedFor}
 use Rattle.rbd_world.proofs.OrderedWorld.{order_on}
 use Rattle.rbd_world.proofs.Quiet.{IsQuiet, quiet_expired, quiet_nothing, quiet_trimmed, quiet_waited}
 use Rattle.rbd_world.proofs.Slots.{open_back, same_slots}
+use Rattle.rbd_world.proofs.Watching.{takes_on}
 
 -- the sites stand for their flat sites behind each run that is right
 pub where_standing : (homes : ℕ → SiteId) (run : List Happening) → IsRight homes run → StandFlat run
@@ -100,9 +102,9 @@ module _ {R : Type 0} (stands : R → Standing) (old new : WorldView R) (w : IsS
       by true is = same_of e h leaves (lives_in session old.lives) (lives_in session new.lives) (does.named session is)
       by false is = does.others session is
 
-  rested : (h : Happening) → ((line : ℕ) → IsQuiet line h) → IsLifeless h → SendsNothing h → AreSame → StandFlat (h ∷ w.run) → IsDue w.homes h w.run → IsOwedFor h w.run → IsInTurn h w.run
+  rested : (h : Happening) → ((line : ℕ) → IsQuiet line h) → IsLifeless h → SendsNothing h → ((i : Instance) → moves_house i h ≡ false) → AreSame → StandFlat (h ∷ w.run) → IsDue w.homes h w.run → IsOwedFor h w.run → IsInTurn h w.run
       → ((s : SiteId) → StaysTrue s (records_in s new.sites)) → IsCarried stands old new w h
-  rested h quiet lifeless sends same standing due owes turn stays = record {
+  rested h quiet lifeless sends unmoved same standing due owes turn stays = record {
     who = w.who;
     knows = w.knows;
     carries = record {
@@ -111,7 +113,7 @@ module _ {R : Type 0} (stands : R → Standing) (old new : WorldView R) (w : IsS
       whole = λ s. (stays s).whole (whole_in stands old w s);
       lives = λ session l is. lives_on session l (w.lives session l (sym (same session) ∙ is));
       clients = λ session c is.
-          living_on stands (w.homes session) session h w.run lifeless (known_in w.knows session) c (λ slot line at. quiet line) (w.clients session c (client_was session c is));
+          living_on stands (w.homes session) session h w.run lifeless (known_in w.knows session) c (λ slot line at. quiet line) (unmoved c.session.instance) (w.clients session c (client_was session c is));
       in_slots = λ session slot c is. w.in_slots session slot c (client_was session c is);
       nobody = λ session none slot. w.nobody session (sym (client_same session) ∙ none) slot;
       apart = λ line session slot other there one two. w.apart line session slot other there (sym (line_same session slot) ∙ one) (sym (line_same other there) ∙ two);
@@ -123,6 +125,7 @@ module _ {R : Type 0} (stands : R → Standing) (old new : WorldView R) (w : IsS
           (was.0, still_may_come (λ s. records_in s new.sites) stays session x _ was.1);
       unsent = λ session slot none. w.unsent session slot (sym (late_same session slot) ∙ none);
       drops = λ session slot there x differ is. w.drops session slot there x differ (sym (late_same session slot) ∙ is);
+      takes = λ session slot x is. takes_on x.instance x.site x.op h w.run (w.takes session slot x (sym (late_same session slot) ∙ is));
       none_yet = w.new;
       beside = λ one other apart s. (stays s).beside (w.who one) (w.who other) (w.knows one) (w.knows other) (w.beside one other apart s);
       owes = owes;
@@ -155,11 +158,11 @@ module _ {R : Type 0} (stands : R → Standing) (old new : WorldView R) (w : IsS
 
   pub nothing_keeps : (e : Event) → ((a b : LivesView R) → LivesOn stands e Nothing a b → b ≡ a) → Does stands e Nothing old new → DoesAtSites Nothing old.sites new.sites → IsCarried stands old new w Nothing
   nothing_keeps e leaves does at_sites =
-      rested Nothing quiet_nothing (λ m l. refl) (λ m x o. refl) (lives_stay e Nothing leaves does) (where_standing w.homes w.run w.right) tt tt tt (λ s. same_true s (records_in s new.sites) (at_sites.records s))
+      rested Nothing quiet_nothing (λ m l. refl) (λ m x o. refl) (λ i. refl) (lives_stay e Nothing leaves does) (where_standing w.homes w.run w.right) tt tt tt (λ s. same_true s (records_in s new.sites) (at_sites.records s))
 
   pub waited_keeps : (e : Event) → ((a b : LivesView R) → LivesOn stands e Waited a b → b ≡ a) → Does stands e Waited old new → DoesAtSites Waited old.sites new.sites → IsCarried stands old new w Waited
   waited_keeps e leaves does at_sites =
-      rested Waited quiet_waited (λ m l. refl) (λ m x o. refl) (lives_stay e Waited leaves does) (where_standing w.homes w.run w.right) tt tt tt (λ s. same_true s (records_in s new.sites) (at_sites.records s))
+      rested Waited quiet_waited (λ m l. refl) (λ m x o. refl) (λ i. refl) (lives_stay e Waited leaves does) (where_standing w.homes w.run w.right) tt tt tt (λ s. same_true s (records_in s new.sites) (at_sites.records s))
 
   -- ---- the store trims an object that is there
 
@@ -175,7 +178,7 @@ module _ {R : Type 0} (stands : R → Standing) (old new : WorldView R) (w : IsS
       → Does stands e (Trimmed site (next_number (site_in site old.sites)) image object) old new
       → DoesAtSites (Trimmed site (next_number (site_in site old.sites)) image object) old.sites new.sites → IsCarried stands old new w (Trimmed site (next_number (site_in site old.sites)) image object)
   trimmed_keeps e site image object is_there leaves does at_sites =
-      rested (Trimmed site number image object) (λ line. quiet_trimmed line site number image object) (λ m l. refl) (λ m x o. refl) (lives_stay e (Trimmed site number image object) leaves does)
+      rested (Trimmed site number image object) (λ line. quiet_trimmed line site number image object) (λ m l. refl) (λ m x o. refl) (λ i. refl) (lives_stay e (Trimmed site number image object) leaves does)
       (λ s. stands_there s (same_site site s) (where_standing w.homes w.run w.right s)) (trim_due site image object is_there) tt tt
       (λ s. subst (StaysTrue s) (sym (at_sites.records s)) (true_there s (same_site site s)))
     where
@@ -198,7 +201,7 @@ module _ {R : Type 0} (stands : R → Standing) (old new : WorldView R) (w : IsS
       → Does stands e (Expired site (next_number (site_in site old.sites)) image who) old new
       → DoesAtSites (Expired site (next_number (site_in site old.sites)) image who) old.sites new.sites → IsCarried stands old new w (Expired site (next_number (site_in site old.sites)) image who)
   expired_keeps e site image who oldest leaves does at_sites =
-      rested (Expired site number image who) (λ line. quiet_expired line site number image who) (λ m l. refl) (λ m x o. refl) (lives_stay e (Expired site number image who) leaves does)
+      rested (Expired site number image who) (λ line. quiet_expired line site number image who) (λ m l. refl) (λ m x o. refl) (λ i. refl) (lives_stay e (Expired site number image who) leaves does)
       (λ s. stands_there s (same_site site s) (where_standing w.homes w.run w.right s)) due tt tt
       (λ s. subst (StaysTrue s) (sym (at_sites.records s)) (true_there s (same_site site s)))
     where

@@ -7,6 +7,7 @@ use Rattle.rbd_client.specs.Client.{ClientView}
 use Rattle.rbd_held.specs.Truth.{IsTrueOf}
 use Rattle.rbd_kinds.specs.declared.id.Instance.{Instance}
 use Rattle.rbd_kinds.specs.declared.id.SiteId.{SiteId}
+use Rattle.rbd_kinds.proofs.Instances.{same_instance_itself}
 use Rattle.rbd_machine.specs.Knowledge.{Knowledge, nothing_known}
 use Rattle.rbd_machine.specs.Plan.{Standing}
 use Rattle.rbd_session.specs.Session.{script_line}
@@ -21,10 +22,12 @@ use Rattle.rbd_world.proofs.Beginning.{fresh_living, fresh_runs_none, fresh_true
 use Rattle.rbd_world.proofs.Carried.{IsCarried, whole_in}
 use Rattle.rbd_world.proofs.Changed.{same_or_other}
 use Rattle.rbd_world.proofs.Elsewhere.{IsAs, Same, Silent, beside_still, known_but, known_there, lives_still, living_still, nothing_here, new_still}
+use Rattle.rbd_world.proofs.LetGo.{moved_releases, other_instance}
 use Rattle.rbd_world.proofs.OrderedWorld.{none_in_order, order_on}
 use Rattle.rbd_world.proofs.Quiet.{quiet_restarted}
 use Rattle.rbd_world.proofs.Rest.{StaysTrue, same_true, still_may_come, where_standing}
 use Rattle.rbd_world.proofs.Slots.{open_back, same_slots}
+use Rattle.rbd_world.proofs.Watching.{takes_on}
 
 -- it begins a life of its own session alone
 pub begins_elsewhere : (who : Instance) (m : ℕ) (l : Life) → m ≢ who.session → life_behind m (Restarted who) l ≡ l
@@ -151,12 +154,13 @@ module _ {R : Type 0} (stands : R → Standing) (old new : WorldView R) (w : IsS
   clients_now : (m : ℕ) (q : ClientView R) → client_in m new.lives ≡ Some q → (m ≡ session) ⊎ (m ≢ session) → IsLiving stands (w.homes m) m (h ∷ w.run) (known_but w.knows session m) q
   clients_now m q is (inr differ) =
       subst (λ k. IsLiving stands (w.homes m) m (h ∷ w.run) k q) (sym (known_there w.knows session m differ))
-      (living_still stands (w.homes m) m h w.run (still_elsewhere m differ) (known_in w.knows m) q (λ x line at. quiet_restarted line next) (w.clients m q (was m q differ is)))
+      (living_still stands (w.homes m) m h w.run (still_elsewhere m differ) (known_in w.knows m) q (λ x line at. quiet_restarted line next)
+      (other_instance next q.session.instance (λ same. differ (sym (w.clients m q (was m q differ is)).whose ∙ sym same ∙ mine.whose))) (w.clients m q (was m q differ is)))
   clients_now m q is (inl same) =
       subst (λ i. IsLiving stands (w.homes i) i (h ∷ w.run) (known_but w.knows session i) q) (sym same)
       (subst (λ k. IsLiving stands (w.homes session) session (h ∷ w.run) k q) (sym (nothing_here w.knows session))
       (subst (IsLiving stands (w.homes session) session (h ∷ w.run) (λ x. nothing_known)) (is_it m q same is)
-      (fresh_living stands next l.home born.client born.fresh (w.homes session) session (h ∷ w.run) mine.whose mine.home_is (begun_here next.session refl))))
+      (fresh_living stands next l.home born.client born.fresh (w.homes session) session (h ∷ w.run) mine.whose mine.home_is (begun_here next.session refl) (moved_releases next h w.run (same_instance_itself next)))))
 
   truth_now : (m : ℕ) (q : ClientView R) → client_in m new.lives ≡ Some q → (s : SiteId) → (m ≡ session) ⊎ (m ≢ session)
       → IsTrueOf s (records_in s new.sites) q.session.instance (known_but w.knows session m) q
@@ -206,6 +210,7 @@ module _ {R : Type 0} (stands : R → Standing) (old new : WorldView R) (w : IsS
           (before.0, still_may_come stands old new w (λ s. records_in s new.sites) stays m y _ before.1);
       unsent = λ m x is. w.unsent m x (sym (late_same m x) ∙ is);
       drops = λ m x z y differ is. w.drops m x z y differ (sym (late_same m x) ∙ is);
+      takes = λ m x y is. takes_on y.instance y.site y.op h w.run (w.takes m x y (sym (late_same m x) ∙ is));
       beside = beside_still w.who who_then w.knows knows_then (λ s. records_in s new.sites)
           (λ a g apart s. (stays s).beside (w.who a) (w.who g) (w.knows a) (w.knows g) (w.beside a g apart s)) each_is;
       none_yet = new_still w.who who_then w.knows knows_then (λ s image. HadNoHeader s image w.run) w.new each_is;

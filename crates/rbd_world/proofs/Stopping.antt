@@ -40,17 +40,21 @@ use Rattle.rbd_world.specs.Seats.{seat_at}
 use Rattle.rbd_world.specs.Past.{HadNoHeader}
 use Rattle.rbd_world.specs.Sound.{AreLivesOf, AreStrangers, Holder, InSlot, Sending, IsHeldRightly, IsInSlot, IsLedTo, IsLiving, IsLostOf, IsOpen, IsSoundWorld, IsStop, MayStillCome, held_of, known_in, line_at}
 use Rattle.rbd_world.specs.Step.{Does, DoesAtSites, LivesOnIf, lost_by, stopped, wanted_by}
+use Rattle.rbd_world.specs.Watched.{TakesBehindWatch}
 use Rattle.rbd_world.specs.World.{LateView, LivesView, WorldView, client_in, late_at, late_of, lives_in, records_in, running_of, sent_in, session_of}
 use Rattle.rbd_world.proofs.Unborn.{acted_drawn}
 use Rattle.rbd_world.proofs.Acting.{by_no_lock}
 use Rattle.rbd_world.proofs.Carried.{IsCarried, whole_in}
 use Rattle.rbd_world.proofs.Changed.{lives_there, same_or_other}
 use Rattle.rbd_world.proofs.Elsewhere.{beside_as, known_but, known_there, lives_still, living_still, nothing_beside, unknown_looks}
+use Rattle.rbd_world.proofs.LetGo.{other_instance}
 use Rattle.rbd_world.proofs.Lost.{among_ascending, are_distinct, ascending_increases, found_from, is_found, lines_in}
 use Rattle.rbd_world.proofs.OrderedWorld.{order_on}
 use Rattle.rbd_world.proofs.Quiet.{IsQuiet, quiet_stopped}
 use Rattle.rbd_world.proofs.Rest.{StaysTrue, same_true, still_may_come, where_standing}
 use Rattle.rbd_world.proofs.Slots.{not_open, open_back}
+use Rattle.rbd_world.proofs.TakesNone.{wanted_behind_watch}
+use Rattle.rbd_world.proofs.Watching.{takes_on}
 
 -- ---- what each slot wanted
 
@@ -362,6 +366,18 @@ module _ {R : Type 0} (stands : R → Standing) (old new : WorldView R) (w : IsS
         subst (MayStillCome m (λ s. records_in s new.sites) y) (sym (knows_elsewhere m x differ)) (still_may_come stands old new w (λ s. records_in s new.sites) stays m y _ before.1),
       )
 
+  -- it takes a lock only behind its watch
+  taken_now : (x : ℕ) (y : Sent) (o : Option (SiteId × Op)) → wanted x ≡ o → sent_of who o ≡ Some y → TakesBehindWatch y.instance y.site y.op (h ∷ w.run)
+  taken_now x y None is sent = absurd (none-some y sent)
+  taken_now x y (Some p) is sent =
+      subst (λ (z : Sent). TakesBehindWatch z.instance z.site z.op (h ∷ w.run)) (same_Some _ y sent)
+      (takes_on who p.0 p.1 h w.run
+      (wanted_behind_watch stands (seat_at w.homes session) x c who w.run living.watches (living.held x) p.0 p.1 (wanted_at (λ slot. op_wanted stands slot c) 65 x p is)))
+
+  takes_now : (m x : ℕ) (y : Sent) → late_at m x new.lives ≡ Some y → (m ≡ session) ⊎ (m ≢ session) → TakesBehindWatch y.instance y.site y.op (h ∷ w.run)
+  takes_now m x y is (inl same) = taken_now x y (wanted x) refl (sym (late_at_it m x same) ∙ is)
+  takes_now m x y is (inr differ) = takes_on y.instance y.site y.op h w.run (w.takes m x y (sym (late_elsewhere m x differ) ∙ is))
+
   none_sent : (o : Option (SiteId × Op)) (k : Knowledge) → sent_of who o ≡ None → sends_by o k ≡ nothing_known
   none_sent None k is = refl
   none_sent (Some p) k is = absurd (none-some _ (sym is))
@@ -489,7 +505,8 @@ module _ {R : Type 0} (stands : R → Standing) (old new : WorldView R) (w : IsS
       let differ = elsewhere m q is in
       let before = was m q differ is in
       subst (λ k. IsLiving stands (w.homes m) m (h ∷ w.run) k q) (sym (known_there w.knows session m differ))
-      (living_still stands (w.homes m) m h w.run (still_elsewhere m differ) (known_in w.knows m) q (quiet_of m q differ before) (w.clients m q before))
+      (living_still stands (w.homes m) m h w.run (still_elsewhere m differ) (known_in w.knows m) q (quiet_of m q differ before)
+      (other_instance who q.session.instance (λ same. differ (sym (w.clients m q before).whose ∙ sym same ∙ living.whose))) (w.clients m q before))
 
   truth_now : (m : ℕ) (q : ClientView R) → client_in m new.lives ≡ Some q → (s : SiteId) → IsTrueOf s (records_in s new.sites) q.session.instance (known_but w.knows session m) q
   truth_now m q is s =
@@ -546,6 +563,7 @@ module _ {R : Type 0} (stands : R → Standing) (old new : WorldView R) (w : IsS
       sending = λ m x y is. sending_now m x y is (same_or_other m session);
       unsent = λ m x is. unsent_now m x is (same_or_other m session);
       drops = λ m x y z differ is r. drops_now m x y z differ is r (same_or_other m session);
+      takes = λ m x y is. takes_now m x y is (same_or_other m session);
       beside = beside_now;
       none_yet = new_now;
       owes = tt;

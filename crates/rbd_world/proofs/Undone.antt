@@ -12,6 +12,7 @@ use Rattle.rbd_kinds.specs.declared.id.Instance.{Instance}
 use Rattle.rbd_kinds.specs.declared.id.SiteId.{SiteId}
 use Rattle.rbd_known.specs.Calm.{IsCalmRequest}
 use Rattle.rbd_known.proofs.Behind.{alike_know}
+use Rattle.rbd_locks.specs.declared.lock_state.LockState.{LockState}
 use Rattle.rbd_machine.specs.Knowledge.{Knowledge}
 use Rattle.rbd_machine.specs.Path.{IsWalk}
 use Rattle.rbd_machine.specs.Plan.{Standing}
@@ -25,6 +26,7 @@ use Rattle.rbd_session.specs.Advance.{IsSameStand}
 use Rattle.rbd_session.specs.Session.{IsAlikeIn, held_in, running_at, running_in, script_line}
 use Rattle.rbd_site.specs.InForm.{AreInForm}
 use Rattle.rbd_world.specs.declared.sites.Sites.{Sites}
+use Rattle.rbd_world.specs.LetGo.{release_of}
 use Rattle.rbd_world.specs.Owing.{IsUnhindered, owed_in}
 use Rattle.rbd_world.specs.Run.{Happening, AreCalls, asked_by, log_of, records_after, steps_of, way_of}
 use Rattle.rbd_machine.specs.Standalone.{TellAllStandalone}
@@ -32,10 +34,12 @@ use Rattle.rbd_machine.specs.declared.seat.Seat.{Seat}
 use Rattle.rbd_world.specs.Seats.{seat_of_home}
 use Rattle.rbd_world.specs.Sound.{HasLearnedIf, AreLivesOf, AreStrangers, Holder, InSlot, Sending, IsHeldRightly, IsLiving, IsRunning, IsSoundWorld, IsUnderWay, KeepsToItsWay, MayStillCome, has_ended, held_of, known_in, line_at}
 use Rattle.rbd_world.specs.Step.{AreLivesAlike, IsAlikeOf, IsClientAlikeIf, IsSoundIf, IsUndone}
+use Rattle.rbd_world.specs.Watched.{CountsItsWatches}
 use Rattle.rbd_world.specs.Ways.{GoesWith}
 use Rattle.rbd_world.specs.World.{LateView, LivesView, WorldView, client_in, late_at, late_of, lives_in, records_in, running_of, sent_in, session_of, site_in}
 use Rattle.rbd_world.proofs.OrderedWorld.{alike_order_if}
 use Rattle.rbd_world.proofs.Slots.{same_slots}
+use Rattle.rbd_world.proofs.Watching.{counts_alike}
 
 module _ {R : Type 0} (stands : R → Standing) where
   -- ---- a slot
@@ -124,6 +128,10 @@ module _ {R : Type 0} (stands : R → Standing) where
         subst (λ ss. KeepsToItsWay stands run (state_in slot ss).way (running_at slot d.session)) (sym alike.slots)
         (alike_ways run (state_in slot c.slots).way (held_in slot c.session.slots) (held_in slot d.session.slots) (alike.session.slots slot) (living.ways slot));
     learned = λ slot. alike_learned run (knows slot) (held_in slot c.session.slots) (held_in slot d.session.slots) (alike.session.slots slot) (living.learned slot);
+    releases = alike.release ∙ living.releases ∙ ap (λ i. release_of i run) (sym alike.session.instance);
+    watches =
+        subst (λ i. CountsItsWatches i run d) (sym alike.session.instance)
+        (counts_alike c.session.instance run c d (λ s image. ap (λ (l : LockState). l.watched) (alike.locks s image)) alike.slots living.watches);
   }
 
   -- of one that is there, or of none
@@ -232,6 +240,7 @@ module _ {R : Type 0} (stands : R → Standing) where
         (w.sending session slot x (sym (late_was session slot) ∙ is));
     unsent = λ session slot none. w.unsent session slot (sym (late_was session slot) ∙ none);
     drops = λ session slot there x differ is. w.drops session slot there x differ (sym (late_was session slot) ∙ is);
+    takes = λ session slot x is. w.takes session slot x (sym (late_was session slot) ∙ is);
     beside =
         subst (λ (sites : Sites). (h g : Holder) → AreStrangers h g → (s : SiteId) → AreBeside s (records_in s sites) (w.who h) (w.who g) (w.knows h) (w.knows g)) (sym undone.sites) w.beside;
     order = w.order;

@@ -19,26 +19,28 @@ use Rattle.rbd_owner.specs.Steps.{fenced, lock_break}
 use Rattle.rbd_owner.proofs.Behind.{ends_with, step_in_order}
 use Rattle.rbd_owner.proofs.Bounded.{all_bounded, take_bounded}
 use Rattle.rbd_owner.proofs.Ordered.{ordered_acquire, ordered_walk}
+use Rattle.rbd_world.specs.LetGo.{release_of}
 use Rattle.rbd_world.specs.Run.{Doer, Itself, OnWay, House, AfterStop, Happening, Nothing, Waited, Began, Did, Refused, Trimmed, Expired, Heard, Stopped, Restarted, Operation, is_on_way, step_of, way_of}
 use Rattle.rbd_world.specs.Sound.{EndsWith as Ends, GoesOnBehind, IsDue, IsNextOf, IsRight, StandsAtLook}
 use Rattle.rbd_world.specs.Ways.{AreAWay, AsksNext, IsOfRelease, IsOver, WasRefused}
+use Rattle.rbd_world.proofs.LetGo.{of_next}
 use Rattle.rbd_world.proofs.Ways.{one_step_more}
 use Rattle.rbd_world.proofs.Runs.{done_of}
 
 -- ---- at each place of a run
 
 module _ (homes : ℕ → SiteId) (line : ℕ) (o : Operation) (r : Option Reply) (run : List Happening) (right : IsRight homes (Did o r ∷ run)) where
-  next_of : (by : Doer) → o.by ≡ by → IsNextOf by o.site o.op run
-  next_of by is = subst (λ d. IsNextOf d o.site o.op run) is (done_of homes o r run right.1).next
+  next_of : (by : Doer) → o.by ≡ by → IsNextOf by o.instance o.site o.op run
+  next_of by is = subst (λ d. IsNextOf d o.instance o.site o.op run) is (done_of homes o r run right.1).next
 
   pub asked_on_way : o.by ≡ OnWay line → AsksNext o.site o.op (way_of line run)
-  asked_on_way = next_of (OnWay line)
+  asked_on_way is = (next_of (OnWay line) is).0
 
   pub over_before : o.by ≡ Itself line → IsOver (way_of line run)
   over_before = next_of (Itself line)
 
   pub lets_go : o.by ≡ House → IsOfRelease o.op
-  lets_go = next_of House
+  lets_go is = of_next (release_of o.instance run) o.site o.op (next_of House is)
 
   pub at_look : o.by ≡ OnWay line → StandsAtLook homes line o.site run
   at_look is = by r right.1
@@ -73,8 +75,8 @@ are_a_way homes line (h ∷ run) (standing, due, right) = by h due (subst AreAWa
     by : (h : Happening) → IsDue homes h run → AreAWay (way_of line run ++ []) → AreAWay (way_of line (h ∷ run))
     by (Did o r) due still = go (is_on_way line o.by) refl
       where
-        asked_of : (by : Doer) → is_on_way line by ≡ true → IsNextOf by o.site o.op run → AsksNext o.site o.op (way_of line run)
-        asked_of (OnWay other) is next = subst (λ l. AsksNext o.site o.op (way_of l run)) (eqb-true other line is) next
+        asked_of : (by : Doer) → is_on_way line by ≡ true → IsNextOf by o.instance o.site o.op run → AsksNext o.site o.op (way_of line run)
+        asked_of (OnWay other) is next = subst (λ l. AsksNext o.site o.op (way_of l run)) (eqb-true other line is) next.0
         asked_of (Itself other) is next = absurd (true≢false (sym is))
         asked_of House is next = absurd (true≢false (sym is))
         asked_of (AfterStop slot) is next = absurd (true≢false (sym is))

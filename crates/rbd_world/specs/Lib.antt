@@ -2,6 +2,7 @@ pub mod Begun
 pub mod Events
 pub mod InLine
 pub mod Late
+pub mod LetGo
 pub mod Noted
 pub mod Operate
 pub mod Order
@@ -14,3 +15,4 @@ pub mod Ways
 pub mod World
 pub mod Seats
 pub mod Past
+pub mod Watched

@@ -49,13 +49,15 @@ use Rattle.rbd_watch.specs.Posting.{numbered}
 use Rattle.rbd_watch.specs.Watching.{oldest_of}
 use Rattle.rbd_world.specs.Begun.{has_line}
 use Rattle.rbd_world.specs.declared.begun.BegunLines.{BegunLines}
+use Rattle.rbd_world.specs.LetGo.{release_of}
 use Rattle.rbd_world.specs.Order.{IsInOrder, KeepsOrder}
 use Rattle.rbd_world.specs.Owing.{IsUnhindered, owed_in}
 use Rattle.rbd_world.specs.Past.{HadNoHeader, known_along}
 use Rattle.rbd_world.specs.Run.{Asked, Doer, Itself, OnWay, House, AfterStop, Happening, Began, Did, Refused, Trimmed, Expired, Heard, Stopped, Restarted, Operation, Sent, AreCalls, asked_by, ends, flat_after, history_of, is_among, life_after, log_of, mail_of, records_after, sent_after, step_of, steps_of, way_of}
 use Rattle.rbd_world.specs.Seats.{seat_at, seat_of_home}
 use Rattle.rbd_world.specs.Step.{IsFresh, is_begun}
-use Rattle.rbd_world.specs.Ways.{AsksNext, GoesWith, IsOfRelease, IsOver, WasRefused}
+use Rattle.rbd_world.specs.Watched.{CountsItsWatches, TakesBehindWatch}
+use Rattle.rbd_world.specs.Ways.{AsksNext, GoesWith, IsNextOfRelease, IsOver, WasRefused}
 use Rattle.rbd_world.specs.World.{LateView, LivesView, WorldView, client_in, late_at, lives_in, records_in, session_in, site_in}
 
 -- ---- a run that is right at every place
@@ -123,12 +125,14 @@ IsOf House who s o before = IsRunning who before
 IsOf (AfterStop slot) who s o before = sent_after who.session slot before ≡ Some (record { instance = who; site = s; op = o })
 
 -- It is the next of what it is done for. One of a line itself comes where its way wasn't begun or
--- is over, one on the way is what the way asks for there, and a house only lets locks go.
-abbrev pub IsNextOf : Doer → SiteId → Op → (before : List Happening) → Type 0
-IsNextOf (Itself line) s o before = IsOver (way_of line before)
-IsNextOf (OnWay line) s o before = AsksNext s o (way_of line before)
-IsNextOf House s o before = IsOfRelease o
-IsNextOf (AfterStop slot) s o before = Unit {0}
+-- is over, and one on the way is what the way asks for there. Where that takes the lock the instance
+-- has watched the image, and so it is with what comes behind a stop. A house only lets locks go: where it
+-- dropped one it tells of that next, and of no other.
+abbrev pub IsNextOf : Doer → Instance → SiteId → Op → (before : List Happening) → Type 0
+IsNextOf (Itself line) who s o before = IsOver (way_of line before)
+IsNextOf (OnWay line) who s o before = AsksNext s o (way_of line before) × TakesBehindWatch who s o before
+IsNextOf House who s o before = IsNextOfRelease (release_of who before) s o
+IsNextOf (AfterStop slot) who s o before = TakesBehindWatch who s o before
 
 -- A walk of the line's command asks for the operation, and this is what it taught.
 pub record Recalls (line : ℕ) (s : SiteId) (o : Op) (k : Knowledge) (before : List Happening) : Type 0 where
@@ -153,7 +157,7 @@ RecallsBy by s o k before = Unit {0}
 -- of an image is its owner's. A line's own operation goes by what its command learned.
 pub record IsDone (o : Operation) (before : List Happening) : Type 0 where
   pub whose : IsOf o.by o.instance o.site o.op before
-  pub next : IsNextOf o.by o.site o.op before
+  pub next : IsNextOf o.by o.instance o.site o.op before
   pub number : o.number ≡ length (log_of o.site before) + 1
   pub answer : o.answer ≡ answer_to (records_after o.site before) o.instance o.op
   pub effect : o.effect ≡ effect_of (records_after o.site before) (done.Op o.op) o.answer
@@ -318,6 +322,8 @@ pub record IsLiving {R : Type 0} (stands : R → Standing) (home : SiteId) (sess
   pub held : (slot : ℕ) → IsHeldRightly stands (seat_of_home session home) c.session.instance run (held_in slot c.session.slots)
   pub ways : (slot : ℕ) → KeepsToItsWay stands run (state_in slot c.slots).way (running_at slot c.session)
   pub learned : (slot : ℕ) → HasLearnedIf stands run (running_at slot c.session) (knows slot)
+  pub releases : c.release ≡ release_of c.session.instance run
+  pub watches : CountsItsWatches c.session.instance run c
 
 -- ---- what a stopped life may still send
 
@@ -418,6 +424,8 @@ pub record IsSoundWorld {R : Type 0} (stands : R → Standing) (w : WorldView R)
   pub unsent : (session slot : ℕ) → late_at session slot w.lives ≡ None → knows (Sending session slot) ≡ nothing_known
   pub drops : (session slot there : ℕ) (x : Sent) → slot ≢ there → late_at session slot w.lives ≡ Some x → (r : Records)
       → MayAct x.site r (who (Sending session slot)) (who (Sending session there)) (knows (Sending session slot)) (knows (Sending session there)) x.op
+  -- and takes a lock only where the stopped life watched the image
+  pub takes : (session slot : ℕ) (x : Sent) → late_at session slot w.lives ≡ Some x → TakesBehindWatch x.instance x.site x.op run
   -- an id that somebody drew had no header so far
   pub new : (h : Holder) (s : SiteId) (image : ℕ) → is_drawn (knows h).drawn s image ≡ true → HadNoHeader s image run
   -- no two that aren't of one client are in each other's way

@@ -265,12 +265,13 @@ pub record IsSameHouse {R : Type 0} (old new : ClientView R) : Type 0 where
   pub release : new.release ≡ old.release
   pub heard : new.heard ≡ old.heard
 
--- a life without requests, which knows of no lock and has heard nothing
+-- a life without requests, which knows of no lock, lets none go, and has heard nothing
 pub record IsFresh {R : Type 0} (stands : R → Standing) (who : Instance) (home : SiteId) (c : ClientView R) : Type 0 where
   pub instance : c.session.instance ≡ who
   pub at_home : c.session.home ≡ home
   pub slots : (slot : ℕ) → held_in slot c.session.slots ≡ None
   pub locks : (s : SiteId) (image : ℕ) → state_at s image c.locks ≡ unknown
+  pub release : c.release ≡ None
   pub heard : c.heard ≡ []
   pub sound : IsSoundClient stands c
 

@@ -1,6 +1,6 @@
 -- The operations of a line on its way to the lock of its image: they are a way, up to where it
 -- stands.
-use Rattle.std.specs.Prelude.{◌≡◌, ◌⊎◌, ℕ, Bool, List, []}
+use Rattle.std.specs.Prelude.{◌≡◌, ◌⊎◌, ℕ, Bool, List, [], Option, Some, None}
 use Rattle.rbd_client.specs.declared.slot_state.Way.{Way}
 use Rattle.rbd_client.specs.declared.slot_state.Way.TheVariants as way
 use Rattle.rbd_kinds.specs.declared.answer.Answer.{Answer}
@@ -13,7 +13,9 @@ use Rattle.rbd_machine.specs.Path.{Answered}
 use Rattle.rbd_machine.specs.Plan.{Plan, Ask, Return}
 use Rattle.rbd_machine.specs.declared.reason.Reason.{Reason}
 use Rattle.rbd_owner.specs.Acquire.{IsWay, rest_of_acquire}
+use Rattle.rbd_owner.specs.Release.{release_op}
 use Rattle.rbd_owner.specs.Steps.{lock_drop, released_lock}
+use Rattle.rbd_owner.specs.declared.release.Release.{Release}
 use Rattle.rbd_requests.specs.Looking.{LooksNoMore}
 
 -- ---- operations that are a way
@@ -59,6 +61,15 @@ pub record WasRefused (site : SiteId) (r : Reply) (steps : List Answered) : Type
 pub record IsOfRelease (o : Op) : Type 0 where
   pub image : ℕ
   pub is : (o ≡ lock_drop image) ⊎ (o ≡ released_lock image)
+
+pub record IsDrop (o : Op) : Type 0 where
+  pub image : ℕ
+  pub is : o ≡ lock_drop image
+
+-- A lock is dropped where no release is under way, and where one is, what that wants is done.
+abbrev pub IsNextOfRelease : (under_way : Option Release) → SiteId → Op → Type 0
+IsNextOfRelease None s o = IsDrop o
+IsNextOfRelease (Some r) s o = (s ≡ r.site) × (o ≡ release_op r)
 
 -- ---- what the state of a slot says
 

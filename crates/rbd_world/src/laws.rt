@@ -1,5 +1,5 @@
 //! What holds of every world: each law is the contract of a function that does nothing.
-ghost use Rattle.std.specs.Prelude.{◌≡◌, ℕ, ◌+◌, ◌*◌, ◌≤◌, ◌++◌, ◌∷◌, [], List, Option, true, false, Some, count_by};
+ghost use Rattle.std.specs.Prelude.{◌≡◌, ◌⊎◌, ℕ, ◌+◌, ◌*◌, ◌≤◌, ◌++◌, ◌∷◌, [], List, Option, true, false, Some, count_by};
 ghost use Rattle.rbd_client.specs.Client.{ClientView};
 ghost use Rattle.rbd_exact.specs.Exact.{AreExact};
 ghost use Rattle.rbd_kinds.specs.declared.answer.Answer.{Answer as Word};
@@ -10,15 +10,18 @@ ghost use Rattle.rbd_kinds.specs.declared.reply.Reply.{Reply as Told};
 ghost use Rattle.rbd_machine.specs.Path.{Answered};
 ghost use Rattle.rbd_owner.specs.Counts.{is_counted, is_fence, is_round, is_take};
 ghost use Rattle.rbd_owner.specs.Order.{EndsWith};
-ghost use Rattle.rbd_owner.specs.Steps.{fenced, lock_break};
+ghost use Rattle.rbd_owner.specs.Steps.{fenced, lock_break, lock_drop, lock_take, released_lock};
 ghost use Rattle.rbd_site.specs.Records.{object_at};
+ghost use Rattle.rbd_watch.specs.Watching.{watches};
 ghost use Rattle.rbd_world.specs.Events.{AreCallsOf};
 ghost use Rattle.rbd_world.specs.Late.{comes_among, is_late, is_stopped_among};
+ghost use Rattle.rbd_world.specs.LetGo.{HasDropped};
 ghost use Rattle.rbd_world.specs.Order.{IsWriterOf, WritesFirst, found_before};
 ghost use Rattle.rbd_world.specs.Owing.{IsUnhindered, has_worked};
-ghost use Rattle.rbd_world.specs.Run.{Did, Happening, House, Itself, OnWay, Operation, comes_of, step_of, way_of};
+ghost use Rattle.rbd_world.specs.Run.{Did, Happening, House, Itself, OnWay, Operation, comes_of, records_after, step_of, way_of};
 ghost use Rattle.rbd_world.specs.Sound.{IsInSlot, IsNewWorld, IsOpen, IsRight, IsRunning, IsSoundWorld, StandsAtLook};
 ghost use Rattle.rbd_world.specs.Step.{Does, DoesAtSites, DropsWhatItMay, IsBuiltEvent, IsSoundIf, IsUndone, MayCome, WantsWhatItMay, happening};
+ghost use Rattle.rbd_world.specs.Watched.{has_watched, watch_ended};
 ghost use Rattle.rbd_world.specs.Ways.{AreAWay, AsksNext, IsOfRelease, IsOver, WasRefused};
 ghost use Rattle.rbd_world.specs.World.{WorldView, client_in, late_at, records_in};
 ghost use Rattle.rbd_world.specs.declared.event.Call.{Call};
@@ -133,4 +136,26 @@ pub fn operations_come_in_their_turn()
         → IsRight homes (Did o reply ∷ run) → o.by ≡ Itself line → IsOver (way_of line run) }
     ensures house { (homes : ℕ → Which) (o : Operation) (reply : Option Told) (run : List Happening)
         → IsRight homes (Did o reply ∷ run) → o.by ≡ House → IsOfRelease o.op }
+{}
+
+/// A house tells that a lock was let go only behind its own drop of that lock, which was done: it
+/// did nothing since, and its life went on. It drops no lock as long as it has one to tell of.
+pub fn a_house_tells_only_behind_its_own_drop()
+    ensures tells { (homes : ℕ → Which) (o : Operation) (reply : Option Told) (run : List Happening) (image : ℕ)
+        → IsRight homes (Did o reply ∷ run) → o.by ≡ House → o.op ≡ released_lock image → HasDropped o.instance o.site image run }
+    ensures drops { (homes : ℕ → Which) (o : Operation) (reply : Option Told) (run : List Happening) (image : ℕ)
+        → IsRight homes (Did o reply ∷ run) → o.by ≡ House → o.op ≡ lock_drop image → (s : Which) (other : ℕ) → HasDropped o.instance s other run → ⊥ }
+{}
+
+/// Who takes the lock of an image has watched the image in this life: a `watch` of it was done. So
+/// the owner of a lock watches the image, unless its watch was ended since: by the store, by itself,
+/// or with the header.
+pub fn an_owner_watches_its_image()
+    ensures takes { (homes : ℕ → Which) (o : Operation) (reply : Option Told) (run : List Happening) (image : ℕ)
+        → IsRight homes (Did o reply ∷ run) → o.op ≡ lock_take image → has_watched o.instance o.site image run ≡ true }
+    ensures watched { (homes : ℕ → Which) (run : List Happening) (s : Which) (image : ℕ) (h : HeaderView) (who : Who)
+        → IsRight homes run → (records_after s run).headers image ≡ Some h → h.owner ≡ Some who → has_watched who s image run ≡ true }
+    ensures watches { (homes : ℕ → Which) (run : List Happening) (s : Which) (image : ℕ) (h : HeaderView) (who : Who)
+        → IsRight homes run → (records_after s run).headers image ≡ Some h → h.owner ≡ Some who
+        → (watches who ((records_after s run).watchers image) ≡ true) ⊎ (watch_ended who s image run ≡ true) }
 {}

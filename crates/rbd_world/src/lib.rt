@@ -54,7 +54,9 @@
 //! | `specs/Run.antt` | a *run*: what the calls did, one after another; its history, its logs, its records, flat sites and mail at each place, the operations of a line, and the lives of a session |
 //! | `specs/Step.antt` | what an event does (`happening`, `IsStep`), what a step that is refused memory leaves (`IsUndone`), and what is asked of an event |
 //! | `specs/Sound.antt` | what holds of each world (`IsSoundWorld`) |
-//! | `specs/Ways.antt` | the operations of a line on its way to the lock of its image |
+//! | `specs/Ways.antt` | the operations of a line on its way to the lock of its image, and those of a release |
+//! | `specs/LetGo.antt` | which release of a lock a house is in the middle of |
+//! | `specs/Watched.antt` | who watched an image, and whether its watch was ended since |
 //! | `specs/Owing.antt` | what lines owe to object maps, and runs in which nobody is stopped or fenced |
 //! | `specs/Order.antt` | the order in which the writes of one instance change an image (`KeepsOrder`), and where they stand meanwhile |
 //! | `specs/InLine.antt` | how a write goes through the line of its image |

@@ -6,6 +6,7 @@ use Rattle.rbd_schedule.specs.Playing.{IsPlay, IsPlayable}
 use Rattle.rbd_lab.specs.Output.{IsSummed, stands}
 use Rattle.rbd_lab.proofs.Generated.{generated_in_order, generated_playable}
 use Rattle.rbd_lab.proofs.Played.{played}
+use Rattle.rbd_lab.proofs.Summed.{counts_add_up}
 use Rattle.rbd_lab.proofs.play.summed.Goals as goal
 
 pub play-requires : goal.play-requires
@@ -15,12 +16,14 @@ pub returns : goal.returns
 returns c =
     let load = c.args.load.now in
     let world = c.in_ok-world.world in
+    let play = subst (λ script. IsPlay stands script world) c.in_ok-script.ensures c.in_ok-world.ensures.play in
     IfOk-weaker c.sum_up-text.result
     (λ text. text.items ≡ summary_text c.in_ok-script.script world.history)
     (λ text. IsSummed load text.items)
     (λ text is. record {
       world = world;
-      played = played (script_of load) world (generated_playable load c.requires) (generated_in_order load) (subst (λ script. IsPlay stands script world) c.in_ok-script.ensures c.in_ok-world.ensures.play) c.in_ok-world.ensures.few;
+      played = played (script_of load) world (generated_playable load c.requires) (generated_in_order load) play c.in_ok-world.ensures.few;
+      adds_up = counts_add_up (script_of load) world (generated_in_order load) play;
       tells = is ∙ ap (λ script. summary_text script world.history) c.in_ok-script.ensures;
     })
     c.sum_up-text.ensures

@@ -27,5 +27,5 @@ returns-clause-life g c = λ session.
     (record { home = c.life.inside.home; latest = c.instance-life-inside.result; running = running; late = c.life.inside.late })) (sym c.replace.ensures.after)
     (restart_lives_on g.R.Machine.stands session c.args.life.now before c.life.view_is (restarts g.R.Machine.stands c.args.life.now.latest c.args.life.now.running none below)
     c.in_ok-client.client
-    (record { instance = who; at_home = home; slots = c.in_ok-client.ensures.slots; locks = c.in_ok-client.ensures.locks; heard = c.in_ok-client.ensures.heard; sound = c.in_ok-client.ensures.sound })
+    (record { instance = who; at_home = home; slots = c.in_ok-client.ensures.slots; locks = c.in_ok-client.ensures.locks; release = c.in_ok-client.ensures.release; heard = c.in_ok-client.ensures.heard; sound = c.in_ok-client.ensures.sound })
     c.instance-life-inside.result (c.instance-life-inside.ensures ∙ who))

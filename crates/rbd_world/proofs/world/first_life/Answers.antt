@@ -11,6 +11,7 @@ returns-clause-first g c = record {
     at_home = c.in_ok-client.ensures.who.1;
     slots = c.in_ok-client.ensures.slots;
     locks = c.in_ok-client.ensures.locks;
+    release = c.in_ok-client.ensures.release;
     heard = c.in_ok-client.ensures.heard;
     sound = c.in_ok-client.ensures.sound;
   };

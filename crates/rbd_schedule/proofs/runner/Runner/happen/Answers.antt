@@ -1,6 +1,7 @@
 use Rattle.std.proofs.Common.{length, sym, ap, subst}
 use Rattle.std.proofs.lemmas.Result.{on_ok_weaker}
 use Rattle.rbd_requests.specs.Session.{stands_of}
+use Rattle.rbd_world.specs.Sound.{IsSoundWorld}
 use Rattle.rbd_world.specs.Step.{IsStep}
 use Rattle.rbd_schedule.specs.Playing.{GoesOn, given_to}
 use Rattle.rbd_schedule.specs.declared.runner.Runner.{Runner}
@@ -26,6 +27,7 @@ returns-clause-happens g c =
       comes = comes_then (stands_of g.E.Machine.stands) c.args.event c.in_ok-outcome.outcome c.args.self.now.world c.note.new.self.world c.start_all.new.self.world
           (given_to c.args.self.now) (given_to c.note.new.self) goes.given
           (subst (λ w. IsStep (stands_of g.E.Machine.stands) c.args.event c.args.self.now.world c.in_ok-outcome.outcome w) (sym (ap (λ (r : Runner g.row.E.Denot). r.world) c.note.ensures.rest)) c.in_ok-outcome.ensures.step)
+          (subst (IsSoundWorld (stands_of g.E.Machine.stands)) (sym (ap (λ (r : Runner g.row.E.Denot). r.world) c.note.ensures.rest)) c.step.ensures.sound)
           starts;
     }) c.start_all.ensures.starts
 

@@ -1,6 +1,7 @@
 use Rattle.std.proofs.Common.{length, refl, sym, ap, subst, None}
 use Rattle.rbd_requests.specs.Session.{stands_of}
 use Rattle.rbd_world.specs.declared.event.Event.TheVariants as event
+use Rattle.rbd_world.specs.Sound.{IsSoundWorld}
 use Rattle.rbd_world.specs.Step.{IsStep}
 use Rattle.rbd_schedule.specs.Playing.{given_to}
 use Rattle.rbd_schedule.specs.declared.runner.Runner.{Runner}
@@ -21,6 +22,7 @@ returns-clause-comes g c =
     comes_then (stands_of g.E.Machine.stands) (event.Poll c.args.session c.args.slot) c.in_ok-outcome.outcome c.args.self.now.world c.note.new.self.world c.start_all.new.self.world
     (given_to c.args.self.now) (given_to c.note.new.self) goes.given
     (subst (λ w. IsStep (stands_of g.E.Machine.stands) (event.Poll c.args.session c.args.slot) c.args.self.now.world c.in_ok-outcome.outcome w) (sym (ap (λ (r : Runner g.row.E.Denot). r.world) c.note.ensures.rest)) c.in_ok-outcome.ensures.step)
+    (subst (IsSoundWorld (stands_of g.E.Machine.stands)) (sym (ap (λ (r : Runner g.row.E.Denot). r.world) c.note.ensures.rest)) c.poll_alone.ensures.sound)
     c.in_ok-start_all.ensures.starts
 
 pub returns-clause-goes : goal.returns-clause-goes

@@ -11,6 +11,7 @@ returns-clause-starts g c = record {
       (subst (λ s. c.index.result.now ≡ get_or c.args.self.now.queues.items s c.index.result.now) c.session.view_is c.index.ensures) c.index-command.ensures;
   result = c.in_ok-outcome.outcome;
   step = c.in_ok-outcome.ensures.step;
+  sound = c.step.ensures.sound;
 }
 
 pub returns-clause-goes : goal.returns-clause-goes

@@ -1,0 +1,74 @@
+-- Who watched an image, and whether its watch was ended since.
+use Rattle.std.specs.Prelude.{◌≡◌, ℕ, ◌&&◌, ◌||◌, if◌then◌else◌, Bool, true, false, List, [], ◌∷◌}
+use Rattle.std.specs.List.{list_any}
+use Rattle.rbd_client.specs.declared.slot_state.Way.{Way}
+use Rattle.rbd_client.specs.declared.slot_state.Way.TheVariants as way
+use Rattle.rbd_client.specs.Client.{ClientView, state_in}
+use Rattle.rbd_kinds.specs.declared.answer.Answer.{Answer}
+use Rattle.rbd_kinds.specs.declared.answer.Answer.TheVariants as answer
+use Rattle.rbd_kinds.specs.declared.header_op.HeaderOp.TheVariants as header
+use Rattle.rbd_kinds.specs.declared.id.Instance.{Instance}
+use Rattle.rbd_kinds.specs.declared.id.SiteId.{SiteId}
+use Rattle.rbd_kinds.specs.declared.operation.Op.{Op}
+use Rattle.rbd_kinds.specs.declared.operation.Op.TheVariants as op
+use Rattle.rbd_kinds.specs.Images.{is_at}
+use Rattle.rbd_kinds.specs.Instances.{same_instance}
+use Rattle.rbd_locks.specs.Locks.{state_at}
+use Rattle.rbd_owner.specs.Steps.{lock_take}
+use Rattle.rbd_owner.specs.declared.acquire.Stage.{Stage}
+use Rattle.rbd_owner.specs.declared.acquire.Stage.TheVariants as stage
+use Rattle.rbd_world.specs.Run.{Happening, Did, Expired}
+
+-- a watch of the image, at its site
+abbrev pub is_watch : SiteId → Op → Answer → SiteId → (image : ℕ) → Bool
+is_watch there (op.Header on header.Watch) answer.Done s image = is_at there on s image
+is_watch there o a s image = false
+
+-- the instance's own
+abbrev pub watches_by : Instance → SiteId → (image : ℕ) → Happening → Bool
+watches_by who s image (Did o reply) = same_instance o.instance who && is_watch o.site o.op o.answer s image
+watches_by who s image h = false
+
+abbrev pub has_watched : Instance → SiteId → (image : ℕ) → List Happening → Bool
+has_watched who s image run = list_any (watches_by who s image) run
+
+-- ---- how a watch ends
+
+-- by an `unwatch` of its own that is done, or with the header, whoever removes it
+abbrev pub ends_it : Instance → SiteId → (me : Instance) → Op → Answer → SiteId → (image : ℕ) → Bool
+ends_it who there me (op.Header on header.Unwatch) answer.Done s image = is_at there on s image && same_instance me who
+ends_it who there me (op.Header on header.Remove) answer.Done s image = is_at there on s image
+ends_it who there me o a s image = false
+
+-- or by the store
+abbrev pub ends_watch : Instance → SiteId → (image : ℕ) → Happening → Bool
+ends_watch who s image (Did o reply) = ends_it who o.site o.instance o.op o.answer s image
+ends_watch who s image (Expired there number on i) = is_at there on s image && same_instance i who
+ends_watch who s image h = false
+
+-- it was ended since the instance watched last
+abbrev pub watch_ended : Instance → SiteId → (image : ℕ) → List Happening → Bool
+watch_ended who s image [] = false
+watch_ended who s image (h ∷ run) = if watches_by who s image h then false else (ends_watch who s image h || watch_ended who s image run)
+
+-- ---- who takes a lock
+
+-- Where the operation takes the lock of an image, the instance has watched the image.
+abbrev pub TakesBehindWatch : Instance → SiteId → Op → List Happening → Type 0
+TakesBehindWatch who s o run = (image : ℕ) → o ≡ lock_take image → has_watched who s image run ≡ true
+
+-- ---- what a client counts
+
+-- A way that is past its watch has watched the image.
+abbrev pub HasWatchedAt : Stage → Instance → SiteId → (image : ℕ) → List Happening → Type 0
+HasWatchedAt stage.Watching who s image run = Unit {0}
+HasWatchedAt at who s image run = has_watched who s image run ≡ true
+
+abbrev pub HasWatchedOn : Way → Instance → List Happening → Type 0
+HasWatchedOn (way.On a) who run = HasWatchedAt a.stage who a.site a.image run
+HasWatchedOn w who run = Unit {0}
+
+-- It counts as watched only images that it has watched, and no way is past a watch that wasn't done.
+pub record CountsItsWatches {R : Type 0} (who : Instance) (run : List Happening) (c : ClientView R) : Type 0 where
+  pub counts : (s : SiteId) (image : ℕ) → (state_at s image c.locks).watched ≡ true → has_watched who s image run ≡ true
+  pub ways : (slot : ℕ) → HasWatchedOn (state_in slot c.slots).way who run
