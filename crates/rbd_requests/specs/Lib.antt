@@ -11,4 +11,3 @@ pub mod OrderlyAlone
 pub mod CommandsOrderly
 pub mod CommandsLawful
 pub mod CommandsMeant
-pub mod WorkLaws

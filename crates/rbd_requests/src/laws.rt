@@ -65,8 +65,8 @@ pub fn turns_are_those_of_the_extent()
     ensures { (seat : Seat) (command : Command) (s : Standing) (e : Extent) → IsPlanFor seat command s → extent_of command ≡ Some e → TakesTurns e s.plan }
 {}
 
-/// The request of a command has so many operations at most, by the number of pieces that its extent
-/// has at most by the header of any image. Each time that it begins again, as a read does, it has
+/// The number of operations of a request is bounded by the number of objects that its extent
+/// touches. Each time that it begins again, as a read does, it has
 /// as many once more. A resize, a rollback and an `rm` have beside these what they were told: a
 /// resize three for each object with bytes from the new size on, a rollback those too and four for
 /// each object of the snapshot, and an `rm` one for each object in use.

@@ -1,12 +1,11 @@
-//! The requests of a session as one type: of each command that is served, and of a machine that a
-//! layer above brings. No crate above names a command's request.
+//! The requests of all commands that are served as one type. No crate above names a command's
+//! request.
 //!
 //! ```text
 //! is_built(&command)                                    // true: `write disk 4094 hello` is served
-//! let work: Work<Follower> = Work::Plain(command);
-//! SessionRequest::extent(&work)                         // bytes 4094 to 4098, which it changes piece by piece
+//! SessionRequest::extent(&command)                      // bytes 4094 to 4098, which it changes piece by piece
 //! let seat = Seat { session: SessionNo(0), home: SiteId::A };
-//! match SessionRequest::begin(alloc, &seat, work)? {
+//! match SessionRequest::begin(alloc, &seat, command)? {
 //!     Begun::Refused(refusal) => refusal,               // only a `create`, whose shape is outside the limits
 //!     Begun::Asks(mut request) => {
 //!         request.wants()                               // an operation at site A, of the kind dir-find
@@ -42,14 +41,11 @@
 //! - A [`SessionRequest`] does what the request in it does, call by call.
 //! - A `create` outside the limits is refused with BadShape, before any operation. All else begins
 //!   at an operation.
-//! - The extent of a work is what it changes piece by piece beside other requests of its image: it
+//! - The extent of a command is what it changes piece by piece beside other requests of its image: it
 //!   takes its turn at each object of it. A read changes nothing, and `snap create`, `snap rm`,
 //!   `snap rollback`, `resize`, `rm`, `close` and `quiesce` are alone on their image.
 //! - What a resize, a rollback and an `rm` do is bounded only by what they are told: how many
 //!   objects there are, the image's header says, and which of them are in use, the head's map.
-//! - A machine that a layer above brings ([`Work::Extra`]) stands at an operation, keeps to its
-//!   line without a turn, and does only what it may by what it knows (`rbd_machine`). Whoever
-//!   brings it says what its reply means.
 //!
 //! # Contracts
 //!
@@ -58,7 +54,7 @@
 //! `specs/Touched.antt`: the extent that a command changes (`extent_of`) or is about
 //! (`touched_by`), what its turns are (`TakesTurns`), and how many operations it has (`bound_of`),
 //! beside those by what it is told (`told_by`). `specs/Session.antt`: where a [`SessionRequest`]
-//! stands (`stands_of`), and what a session asks of a work (`Serves`). [`SessionRequest`] meets
+//! stands (`stands_of`). [`SessionRequest`] meets
 //! [`Machine`](rbd_machine::Machine) and [`Request`](rbd_course::Request), the laws of the latter
 //! among it.
 //!
@@ -73,8 +69,7 @@
 //! # Cost
 //!
 //! A call is that of the request in it, and one choice. `begin` takes memory only for a write,
-//! which shares its bytes, and for a fill, whose bytes it makes. [`is_built`] and [`extent_of`]
-//! take none.
+//! which shares its bytes, and for a fill, whose bytes it makes. [`is_built`] and `extent` take none.
 //!
 //! # How it works
 //!
@@ -82,11 +77,10 @@
 //! request serves the command, and hands the command over to it whole.
 #![tactic(auto)]
 
+mod begin;
 mod kind;
 pub mod laws;
 mod request;
-mod work;
 
 pub use kind::is_built;
 pub use request::SessionRequest;
-pub use work::{Work, extent_of};

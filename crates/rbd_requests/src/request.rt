@@ -11,15 +11,14 @@ use rbd_request::{ReadRequest, WriteRequest};
 use rbd_resize::{ResizeRequest, RollbackRequest};
 use std::alloc::Global;
 
-/// A request of a session: of a command, or a machine that a layer above brings, as a mirror's. It
-/// does what the request in it does.
+/// The request of a command. It does what the request in it does.
 ///
 /// ```text
 /// let request = write_request(alloc, SiteId::A, command)?;
-/// let mut request: SessionRequest<Follower> = SessionRequest::Write(request);
+/// let mut request = SessionRequest::Write(request);
 /// request.wants()       // what the write wants: an operation at site A, of the kind dir-find
 /// ```
-pub enum SessionRequest<E> {
+pub enum SessionRequest {
     /// `read`
     Read(Boxed<ReadRequest>),
     /// `write` or `fill`
@@ -40,12 +39,10 @@ pub enum SessionRequest<E> {
     Remove(Boxed<RemoveRequest>),
     /// `close`, `quiesce`, `resume` or `tell`
     Close(Boxed<CloseRequest>),
-    /// A machine that a layer above brings.
-    Extra(Boxed<E>),
 }
 
-// (written out, so that it is a call where a request is let go, and not a choice of eleven)
-impl<E: Drop> Drop for SessionRequest<E> {
+// (written out, so that it is a call where a request is let go, and not a choice of ten)
+impl Drop for SessionRequest {
     fn drop(self) {
         match self {
             SessionRequest::Read(request) => drop(request),
@@ -58,15 +55,14 @@ impl<E: Drop> Drop for SessionRequest<E> {
             SessionRequest::Rollback(request) => drop(request),
             SessionRequest::Remove(request) => drop(request),
             SessionRequest::Close(request) => drop(request),
-            SessionRequest::Extra(request) => drop(request),
         }
     }
 }
 
-impl<E: Machine + Drop> Machine for SessionRequest<E> {
-    ghost stands = { stands_of E.stands };
+impl Machine for SessionRequest {
+    ghost stands = { stands_of };
 
-    ghost is_ready = { is_ready_of E.is_ready };
+    ghost is_ready = { is_ready_of };
 
     fn wants(&self) -> Want {
         match self {
@@ -80,7 +76,6 @@ impl<E: Machine + Drop> Machine for SessionRequest<E> {
             SessionRequest::Rollback(request) => request.wants(),
             SessionRequest::Remove(request) => request.wants(),
             SessionRequest::Close(request) => request.wants(),
-            SessionRequest::Extra(request) => request.wants(),
         }
     }
 
@@ -96,7 +91,6 @@ impl<E: Machine + Drop> Machine for SessionRequest<E> {
             SessionRequest::Rollback(request) => request.next(alloc),
             SessionRequest::Remove(request) => request.next(alloc),
             SessionRequest::Close(request) => request.next(alloc),
-            SessionRequest::Extra(request) => request.next(alloc),
         }
     }
 
@@ -112,7 +106,6 @@ impl<E: Machine + Drop> Machine for SessionRequest<E> {
             SessionRequest::Rollback(request) => request.reason(),
             SessionRequest::Remove(request) => request.reason(),
             SessionRequest::Close(request) => request.reason(),
-            SessionRequest::Extra(request) => request.reason(),
         }
     }
 
@@ -128,7 +121,6 @@ impl<E: Machine + Drop> Machine for SessionRequest<E> {
             SessionRequest::Rollback(request) => request.event(alloc),
             SessionRequest::Remove(request) => request.event(alloc),
             SessionRequest::Close(request) => request.event(alloc),
-            SessionRequest::Extra(request) => request.event(alloc),
         }
     }
 
@@ -144,7 +136,6 @@ impl<E: Machine + Drop> Machine for SessionRequest<E> {
             SessionRequest::Rollback(request) => request.ready(alloc, fed),
             SessionRequest::Remove(request) => request.ready(alloc, fed),
             SessionRequest::Close(request) => request.ready(alloc, fed),
-            SessionRequest::Extra(request) => request.ready(alloc, fed),
         }
     }
 
@@ -160,7 +151,6 @@ impl<E: Machine + Drop> Machine for SessionRequest<E> {
             SessionRequest::Rollback(request) => request.feed(fed),
             SessionRequest::Remove(request) => request.feed(fed),
             SessionRequest::Close(request) => request.feed(fed),
-            SessionRequest::Extra(request) => request.feed(fed),
         }
     }
 }

@@ -1,7 +1,7 @@
 //! One client's requests, each in a slot, and who of them may go on.
 //!
 //! ```text
-//! let mut session: Session<SessionRequest<Follower>> = Session::new(alloc, c1, SiteId::A)?;
+//! let mut session: Session<SessionRequest> = Session::new(alloc, c1, SiteId::A)?;
 //! let one = session.submit(alloc, 3, write)?;    // slot 1
 //! let two = session.submit(alloc, 4, snap)?;     // slot 2: a `snap create` of the same image
 //! session.kind(one)                              // site A, dir-find
@@ -16,9 +16,9 @@
 //! # Rules
 //!
 //! A request that changes an image *joins* the image's line at the answer by which it found it,
-//! alone or beside others. It looks at the header, and then *waits for its look under the lock*:
-//! the look under the lock. Until that look is answered it is asked anew, at each look at the slot,
-//! whether it may go on.
+//! alone or beside others. It reads the header, waits for the lock, and reads the header again: that
+//! is its *look under the lock*. Until then it is asked anew, at each look at the slot, whether it
+//! may go on.
 //!
 //! | a request | may go past its look under the lock when |
 //! |---|---|

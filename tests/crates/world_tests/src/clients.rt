@@ -4,13 +4,13 @@
 //! As a word: `runs,0,2,3,new`. It is whether it runs, the number of its life, or 9 where it
 //! doesn't, its lowest free slot and the line in its slot 1, or 0 for none, and whether the line 12
 //! was begun.
-use super::drive::Clients;
 use super::rows::row_holds;
 use rbd_kinds::{NoMemory, SessionNo, Slot};
+use rbd_world::World;
 use std::alloc::Global;
 
 /// The number of the life of a client that runs, and 9 where it doesn't.
-fn life(world: &Clients, session: SessionNo) -> u32 {
+fn life(world: &World, session: SessionNo) -> u32 {
     match world.running(session) {
         Some(who) if who.session == session => who.life,
         _ => 9,
@@ -18,7 +18,7 @@ fn life(world: &Clients, session: SessionNo) -> u32 {
 }
 
 /// The number of a client's lowest free slot, and 0 where it has none.
-fn free(world: &Clients, session: SessionNo) -> u8 {
+fn free(world: &World, session: SessionNo) -> u8 {
     match world.free(session) {
         Some(slot) => slot.0,
         None => 0,
@@ -28,7 +28,7 @@ fn free(world: &Clients, session: SessionNo) -> u8 {
 /// Whether this is told of a client.
 pub fn is_client(
     alloc: Global,
-    world: &Clients,
+    world: &World,
     session: SessionNo,
     facts: &str,
 ) -> Result<bool, NoMemory> {

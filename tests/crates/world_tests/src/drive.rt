@@ -2,18 +2,14 @@
 //!
 //! Whether an event may come is looked at before it does: nothing proves that the rows of a test
 //! keep to that.
-use rbd_admin::CreateRequest;
 use rbd_kinds::{NoMemory, SessionNo, SiteId, Slot};
 use rbd_requests::is_built;
 use rbd_world::{Event, Outcome, World};
 use std::alloc::Global;
 use std::process::Abort;
 
-/// The clients of these tests. No machine is brought, so any type may stand where its type would.
-pub type Clients = World<CreateRequest>;
-
 /// A world of the clients c1, c2 and c4 at site A, and c3 at site B.
-pub fn new_world(rt: &impl Abort, alloc: Global) -> Clients {
+pub fn new_world(rt: &impl Abort, alloc: Global) -> World {
     match World::new(alloc, &[SiteId::A, SiteId::A, SiteId::B, SiteId::A]) {
         Ok(world) => world,
         Err(_) => panic!(rt; "there is no memory"),
@@ -41,7 +37,7 @@ fn is_built_event(event: &Event) -> bool {
 fn step(
     rt: &impl Abort,
     alloc: Global,
-    world: &mut Clients,
+    world: &mut World,
     event: &Event,
 ) -> Result<Outcome, NoMemory> {
     assert!(rt; is_built_event(event));
@@ -52,7 +48,7 @@ fn step(
 pub fn comes(
     rt: &impl Abort,
     alloc: Global,
-    world: &mut Clients,
+    world: &mut World,
     event: Event,
 ) -> Result<Outcome, NoMemory> {
     let outcome = step(rt, alloc, world, &event);
@@ -61,7 +57,7 @@ pub fn comes(
 }
 
 /// The word of the kind of operation that is wanted at a slot, or `none`.
-pub fn wanted(world: &Clients, session: SessionNo, slot: Slot) -> &'static str {
+pub fn wanted(world: &World, session: SessionNo, slot: Slot) -> &'static str {
     match world.kind(session, slot) {
         Some((_, kind)) => kind.word(),
         None => "none",

@@ -16,11 +16,11 @@
 //! | `entries:64` | nothing: the history has so many entries |
 //! | `filled:9.4.2` | nothing: the last reply has 9 bytes, of which two from 4 on are a fill's |
 use super::clients::is_client;
-use super::drive::{Clients, comes};
+use super::drive::comes;
 use super::fills::shows_fill;
 use super::schedule::{number, session_of, small_number};
 use rbd_kinds::{ImageId, NoMemory, Notice, NoticeKind, SessionNo, SiteId, Slot};
-use rbd_world::{Event, Outcome};
+use rbd_world::{Event, Outcome, World};
 use std::alloc::Global;
 use std::process::Abort;
 
@@ -69,7 +69,7 @@ fn push_told(text: &mut Vec<u8>, notice: &Notice) -> Result<(), NoMemory> {
 /// Whether a client heard these words, one after another.
 fn has_heard(
     alloc: Global,
-    world: &Clients,
+    world: &World,
     session: SessionNo,
     words: &str,
 ) -> Result<bool, NoMemory> {
@@ -81,7 +81,7 @@ fn has_heard(
 }
 
 /// What site A answered last, where the last step was an operation.
-fn answered(world: &Clients) -> &'static str {
+fn answered(world: &World) -> &'static str {
     match (world.calls().last(), world.operations(SiteId::A).last()) {
         (Some(call), Some(done)) if matches!(&call.outcome, Outcome::Step { .. }) => {
             done.answer.word()
@@ -91,7 +91,7 @@ fn answered(world: &Clients) -> &'static str {
 }
 
 /// Whether what a word says is so.
-fn holds_now(alloc: Global, world: &Clients, kind: &str, rest: &str) -> Result<bool, NoMemory> {
+fn holds_now(alloc: Global, world: &World, kind: &str, rest: &str) -> Result<bool, NoMemory> {
     let (client, words) = rest.split_once('=').unwrap_or(("", rest));
     match kind {
         "heard" => has_heard(alloc, world, session_of(client), words),
@@ -108,7 +108,7 @@ fn holds_now(alloc: Global, world: &Clients, kind: &str, rest: &str) -> Result<b
 pub fn other_goes(
     rt: &impl Abort,
     alloc: Global,
-    world: &mut Clients,
+    world: &mut World,
     kind: &str,
     rest: &str,
 ) -> Result<bool, NoMemory> {

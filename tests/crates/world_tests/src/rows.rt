@@ -27,13 +27,14 @@
 //! | `heard` | an instance heard a notice |
 //! | `stored` | the store did a step of its own |
 //! | `stopped`, `restarted` | the client was stopped, or began its next life |
-use super::drive::{Clients, new_world};
+use super::drive::new_world;
 use super::schedule::play;
 use super::script::{SCRIPT, script};
 use super::tables::table_holds;
 use super::told::is_told;
 use rbd_kinds::NoMemory;
 use rbd_script::Script;
+use rbd_world::World;
 use std::alloc::Global;
 use std::process::Abort;
 
@@ -45,7 +46,7 @@ pub fn is_so(rt: &impl Abort, row: &str, what: &str, found_out: Result<bool, NoM
 fn part_holds(
     rt: &impl Abort,
     alloc: Global,
-    world: &mut Clients,
+    world: &mut World,
     script: &Script,
     row: &str,
     part: &str,
@@ -64,7 +65,7 @@ fn part_holds(
 fn parts_hold(
     rt: &impl Abort,
     alloc: Global,
-    world: &mut Clients,
+    world: &mut World,
     script: &Script,
     name: &str,
     row: &str,

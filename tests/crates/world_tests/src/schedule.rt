@@ -10,12 +10,12 @@
 //! | `1.2=none` | nothing: this is what it wants |
 //! | `stop:1`, and others with a colon | see `others` |
 //! | `!1.2=none` | what the word behind the `!` says isn't so |
-use super::drive::{Clients, comes, wanted};
+use super::drive::{comes, wanted};
 use super::others::other_goes;
 use super::rows::is_so;
 use rbd_kinds::{NoMemory, SessionNo, Slot, TryClone};
 use rbd_script::{Line, Said};
-use rbd_world::{Event, Outcome};
+use rbd_world::{Event, Outcome, World};
 use std::alloc::Global;
 use std::process::Abort;
 
@@ -38,12 +38,7 @@ pub fn session_of(client: &str) -> SessionNo {
 }
 
 /// What the line says is begun, where it is a command.
-fn begin(
-    rt: &impl Abort,
-    alloc: Global,
-    world: &mut Clients,
-    line: &Line,
-) -> Result<bool, NoMemory> {
+fn begin(rt: &impl Abort, alloc: Global, world: &mut World, line: &Line) -> Result<bool, NoMemory> {
     let Said::Command {
         session,
         beside: _,
@@ -65,7 +60,7 @@ fn begin(
 fn begin_line(
     rt: &impl Abort,
     alloc: Global,
-    world: &mut Clients,
+    world: &mut World,
     lines: &[Line],
     wanted: u32,
 ) -> Result<bool, NoMemory> {
@@ -80,7 +75,7 @@ fn begin_line(
 fn poll(
     rt: &impl Abort,
     alloc: Global,
-    world: &mut Clients,
+    world: &mut World,
     at: &(SessionNo, Slot),
 ) -> Result<Outcome, NoMemory> {
     let event = Event::Poll {
@@ -93,7 +88,7 @@ fn poll(
 fn poll_times(
     rt: &impl Abort,
     alloc: Global,
-    world: &mut Clients,
+    world: &mut World,
     at: &(SessionNo, Slot),
     times: u32,
 ) -> Result<bool, NoMemory> {
@@ -120,7 +115,7 @@ fn has_replied(outcome: Outcome) -> bool {
 fn poll_to(
     rt: &impl Abort,
     alloc: Global,
-    world: &mut Clients,
+    world: &mut World,
     at: &(SessionNo, Slot),
     kind: &str,
 ) -> Result<bool, NoMemory> {
@@ -139,7 +134,7 @@ fn poll_to(
 fn slot_goes(
     rt: &impl Abort,
     alloc: Global,
-    world: &mut Clients,
+    world: &mut World,
     client: &str,
     rest: &str,
 ) -> Result<bool, NoMemory> {
@@ -164,7 +159,7 @@ fn slot_goes(
 fn goes(
     rt: &impl Abort,
     alloc: Global,
-    world: &mut Clients,
+    world: &mut World,
     lines: &[Line],
     word: &str,
 ) -> Result<bool, NoMemory> {
@@ -181,7 +176,7 @@ fn goes(
 fn goes_or_not(
     rt: &impl Abort,
     alloc: Global,
-    world: &mut Clients,
+    world: &mut World,
     lines: &[Line],
     word: &str,
 ) -> Result<bool, NoMemory> {
@@ -195,7 +190,7 @@ fn goes_or_not(
 pub fn play(
     rt: &impl Abort,
     alloc: Global,
-    world: &mut Clients,
+    world: &mut World,
     lines: &[Line],
     row: &str,
     schedule: &str,

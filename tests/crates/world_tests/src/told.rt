@@ -1,6 +1,5 @@
 //! What is told of a world, as a text for each part of a row.
 use super::begins::begin_of;
-use super::drive::Clients;
 use super::mail::push_mail;
 use super::map_texts::{push_bits, push_maps};
 use super::numbers::numbers_are_of_logs;
@@ -9,7 +8,7 @@ use rbd_flat::Entry;
 use rbd_kinds::{NoMemory, SiteId};
 use rbd_script::Declared;
 use rbd_text::{push_line, push_log};
-use rbd_world::Call;
+use rbd_world::{Call, World};
 use std::alloc::Global;
 
 /// Appends an event, or else what came of it.
@@ -73,7 +72,7 @@ fn push_history(
 }
 
 /// Appends the replies, and a `?` where an operation of the history isn't in the log of its site.
-fn push_replies(alloc: Global, text: &mut Vec<u8>, world: &Clients) -> Result<(), NoMemory> {
+fn push_replies(alloc: Global, text: &mut Vec<u8>, world: &World) -> Result<(), NoMemory> {
     let (a, b) = (world.operations(SiteId::A), world.operations(SiteId::B));
     push_entries(alloc, text, "replies", world.history())?;
     if !numbers_are_of_logs(world.history(), a, b) {
@@ -85,7 +84,7 @@ fn push_replies(alloc: Global, text: &mut Vec<u8>, world: &Clients) -> Result<()
 fn push_told(
     alloc: Global,
     text: &mut Vec<u8>,
-    world: &Clients,
+    world: &World,
     sessions: &[Declared],
     kind: &str,
 ) -> Result<(), NoMemory> {
@@ -119,7 +118,7 @@ fn end(text: &mut Vec<u8>) -> Result<(), NoMemory> {
 /// Whether what a part says is told of a world.
 pub fn is_told(
     alloc: Global,
-    world: &Clients,
+    world: &World,
     sessions: &[Declared],
     part: &str,
 ) -> Result<bool, NoMemory> {

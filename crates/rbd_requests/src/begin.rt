@@ -1,0 +1,122 @@
+//! How the request of a command is made.
+ghost use Rattle.std.specs.Prelude.{◌≡◌, true, IfOk};
+ghost use Rattle.rbd_course.specs.Begun.{IsBegun};
+ghost use Rattle.rbd_admin.specs.Create.{is_create};
+ghost use Rattle.rbd_meaning.specs.Meant.{IsMeantBy};
+ghost use Rattle.rbd_requests.specs.CommandsLawful.{command_is_lawful};
+ghost use Rattle.rbd_requests.specs.CommandsMeant.{command_is_meant};
+ghost use Rattle.rbd_requests.specs.CommandsOrderly.{command_is_orderly};
+ghost use Rattle.rbd_requests.specs.Served.{is_built as is_one_built, IsPlanFor};
+ghost use Rattle.rbd_requests.specs.Session.{stands_of};
+ghost use Rattle.rbd_requests.specs.Touched.{extent_of};
+
+use crate::kind::{Kind, kind_of};
+use crate::request::SessionRequest;
+use rbd_admin::{CreateRequest, ListRequest, SnapRequest};
+use rbd_close::CloseRequest;
+use rbd_course::{Begun, Request};
+use rbd_discard::discard_request;
+use rbd_kinds::{Command, Extent, NoMemory};
+use rbd_machine::{Boxed, Seat};
+use rbd_remove::RemoveRequest;
+use rbd_request::{ReadRequest, write_request};
+use rbd_resize::{ResizeRequest, RollbackRequest};
+use std::alloc::Global;
+
+impl Request for SessionRequest {
+    type Work = Command;
+
+    ghost serves = { λ command. is_one_built command ≡ true };
+
+    ghost stands_for = { IsPlanFor };
+
+    ghost extent_for = { extent_of };
+
+    ghost means = { IsMeantBy };
+
+    /// Only a `create` outside the limits is refused before any operation.
+    fn begin(alloc: Global, seat: &Seat, command: Command) -> Result<Begun<Self>, NoMemory> {
+        let home = seat.home;
+        match kind_of(&command) {
+            Kind::Write => {
+                let request = Boxed::new(alloc, write_request(alloc, home, command)?)?;
+                Ok(Begun::Asks(SessionRequest::Write(request)))
+            }
+            Kind::Discard => {
+                let request = Boxed::new(alloc, discard_request(alloc, home, command))?;
+                Ok(Begun::Asks(SessionRequest::Discard(request)))
+            }
+            Kind::Read => {
+                let request = Boxed::new(alloc, ReadRequest::new(home, command))?;
+                Ok(Begun::Asks(SessionRequest::Read(request)))
+            }
+            Kind::Create => begin_create(alloc, seat, command),
+            Kind::List => {
+                let request = Boxed::new(alloc, ListRequest::new(home, command))?;
+                Ok(Begun::Asks(SessionRequest::List(request)))
+            }
+            Kind::Snap => {
+                let request = Boxed::new(alloc, SnapRequest::new(home, command))?;
+                Ok(Begun::Asks(SessionRequest::Snap(request)))
+            }
+            Kind::Resize => {
+                let request = Boxed::new(alloc, ResizeRequest::new(home, command))?;
+                Ok(Begun::Asks(SessionRequest::Resize(request)))
+            }
+            Kind::Rollback => {
+                let request = Boxed::new(alloc, RollbackRequest::new(home, command))?;
+                Ok(Begun::Asks(SessionRequest::Rollback(request)))
+            }
+            Kind::Remove => {
+                let request = Boxed::new(alloc, RemoveRequest::new(seat.session, home, command))?;
+                Ok(Begun::Asks(SessionRequest::Remove(request)))
+            }
+            Kind::Close => {
+                let request = Boxed::new(alloc, CloseRequest::new(home, command))?;
+                Ok(Begun::Asks(SessionRequest::Close(request)))
+            }
+            Kind::Unserved => unreachable!(),
+        }
+    }
+
+    /// A write's, a fill's and a discard's.
+    fn extent(command: &Command) -> Option<Extent> {
+        match command {
+            Command::Write { at, bytes, .. } => Some(Extent {
+                at: at.get(),
+                len: bytes.as_bytes().len() as u64,
+            }),
+            Command::Fill { at, len, .. } => Some(Extent {
+                at: at.get(),
+                len: len.get(),
+            }),
+            Command::Discard { at, len, .. } => Some(Extent {
+                at: at.get(),
+                len: len.get(),
+            }),
+            _ => None,
+        }
+    }
+
+    ghost orderly = { λ seat command s _ stands _. command_is_orderly seat command s stands };
+
+    ghost lawful = { λ seat command s _ stands. command_is_lawful seat command s stands };
+
+    ghost meant = { λ seat command s feds steps reply _ stands given standalone walk. command_is_meant seat command s feds steps reply stands given standalone walk };
+}
+
+/// The request of a `create`, or BadShape where its shape is outside the limits.
+fn begin_create(
+    alloc: Global,
+    seat: &Seat,
+    command: Command,
+) -> Result<Begun<SessionRequest>, NoMemory>
+    requires { is_create command ≡ true }
+    ensures { IfOk result (IsBegun (IsPlanFor seat.now command) stands_of) }
+{
+    let request = Boxed::new(alloc, CreateRequest::new(seat.home, command))?;
+    match request.get().refusal() {
+        Some(refusal) => Ok(Begun::Refused(refusal)),
+        None => Ok(Begun::Asks(SessionRequest::Create(request))),
+    }
+}
