@@ -107,6 +107,13 @@ grown items new s used sound pushed room one =
 pub changed_grown : (items now new : List Sheet) (s : Sheet) (i : ℕ) → items ≡ now → i ≡ length items → new ≡ items ++ s ∷ [] → Changed i now new
 changed_grown items now new s i is at pushed = rw (at, pushed) (subst (λ sheets. Changed (length items) sheets (items ++ s ∷ [])) is (changed_push items s))
 
+-- past the last page none is named, and there the next one comes
+pub none_past : (items now : List Sheet) (i : ℕ) → items ≡ now → i ≡ length items → count_at now i ≡ 0
+none_past items now i is at = subst (λ sheets. count_at sheets i ≡ 0) is (ap (λ (s : Sheet). s.count) (get_or_past items i free_sheet (omega (arith, at))))
+
+pub sheet_grown : (items new : List Sheet) (s : Sheet) (i : ℕ) → i ≡ length items → new ≡ items ++ s ∷ [] → get_or new i free_sheet ≡ s
+sheet_grown items new s i at pushed = ap (λ sheets. get_or sheets i free_sheet) pushed ∙ get_or_push items s free_sheet i (sym at)
+
 -- ---- one page's bytes
 
 pub put_byte : (old new bytes : List ℕ) (at len k : ℕ) → new ≡ overwritten old at bytes → len ≡ length old → at + length bytes ≤ length old

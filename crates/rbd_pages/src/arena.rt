@@ -160,7 +160,9 @@ impl Arena {
         if index >= u32::MAX as usize {
             return Err(NoMemory);
         }
-        self.pages.reserve(1)?;
+        let Ok(()) = self.pages.reserve(1) else {
+            return Err(NoMemory);
+        };
         self.pages.push_reserved(page);
         self.used += 1;
         Ok(index as u32)

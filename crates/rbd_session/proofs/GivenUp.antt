@@ -17,6 +17,15 @@ use Rattle.rbd_session.proofs.Others.{ended_leaves, left_elsewhere}
 use Rattle.rbd_session.proofs.Sound.{held_range, set_sound}
 
 module _ {R : Type 0} (stands : R → Standing) (s : SessionView R) (sound : IsSoundSession stands s) (slot : ℕ) (r : Running R) (runs : running_at slot s ≡ Some r) where
+  -- its slot
+  pub within : (1 ≤ slot) × (slot ≤ 64)
+  within = range (held_in slot s.slots) refl runs
+    where
+      range : (o : Option (Occupant R)) → held_in slot s.slots ≡ o → running_in o ≡ Some r → (1 ≤ slot) × (slot ≤ 64)
+      range (Some (occupant.Running q)) at is = held_range stands s sound slot (occupant.Running q) at
+      range (Some (occupant.Refused line refusal)) at is = absurd (none-some r is)
+      range None at is = absurd (none-some r is)
+
   -- what it leaves of the lines
   module _ (after : LinesView) (left : lines_of after ≡ changed_at r.place (without slot) (lines_of s.lines)) where
     pub leaves_others : LeavesOthers slot (lines_of s.lines) (lines_of after)
@@ -32,11 +41,5 @@ module _ {R : Type 0} (stands : R → Standing) (s : SessionView R) (sound : IsS
     pub given_up : (slots : List (Option (Occupant R))) (lowest : ℕ) → slots ≡ slice_set s.slots slot None → IsLowest lowest slots
         → IsSoundSession stands (record { instance = s.instance; home = s.home; slots = slots; lowest = lowest; lines = after })
     given_up slots lowest are is_lowest =
-        let within = range (held_in slot s.slots) refl runs in
         subst (λ xs. IsSoundSession stands (record { instance = s.instance; home = s.home; slots = xs; lowest = lowest; lines = after })) (sym are)
         (set_sound stands s sound slot within.0 within.1 None lowest after leaves_others fair (subst (IsLowest lowest) are is_lowest) in_no_line)
-      where
-        range : (o : Option (Occupant R)) → held_in slot s.slots ≡ o → running_in o ≡ Some r → (1 ≤ slot) × (slot ≤ 64)
-        range (Some (occupant.Running q)) at is = held_range stands s sound slot (occupant.Running q) at
-        range (Some (occupant.Refused line refusal)) at is = absurd (none-some r is)
-        range None at is = absurd (none-some r is)

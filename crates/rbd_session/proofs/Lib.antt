@@ -13,6 +13,7 @@ pub mod OwnLooks
 pub mod OwnLooksStay
 pub mod Others
 pub mod Readied
+pub mod Shown
 pub mod Sound
 pub mod Tables
 pub mod Track

@@ -191,17 +191,22 @@ refused_is (Some (occupant.Refused line refusal)) x is = (refl, refl)
 refused_is (Some (occupant.Running r)) x is = absurd (none-some x is)
 refused_is None x is = absurd (none-some x is)
 
+-- the slot of a request that is refused
+pub refused_range : {R : Type 0} (stands : R → Standing) (s : SessionView R) → IsSoundSession stands s → (slot : ℕ) (x : Refusal) → refusal_in (held_in slot s.slots) ≡ Some x → (1 ≤ slot) × (slot ≤ 64)
+refused_range {R} stands s sound slot x is = range (held_in slot s.slots) refl
+  where
+    range : (o : Option (Occupant R)) → held_in slot s.slots ≡ o → (1 ≤ slot) × (slot ≤ 64)
+    range (Some o) at = held_range stands s sound slot o at
+    range None at = absurd (none-some x (sym (ap refusal_in at) ∙ is))
+
 pub refused_goes : {R : Type 0} (stands : R → Standing) (s : SessionView R) → IsSoundSession stands s → (slot : ℕ) (x : Refusal) → refusal_in (held_in slot s.slots) ≡ Some x
     → (slots : List (Option (Occupant R))) (lowest : ℕ) → slots ≡ slice_set s.slots slot None → IsLowest lowest slots
     → IsSoundSession stands (record { instance = s.instance; home = s.home; slots = slots; lowest = lowest; lines = s.lines })
 refused_goes {R} stands s sound slot x is slots lowest are is_lowest =
     subst (λ xs. IsSoundSession stands (record { instance = s.instance; home = s.home; slots = xs; lowest = lowest; lines = s.lines })) (sym are)
-    (set_sound stands s sound slot (range (held_in slot s.slots) refl).0 (range (held_in slot s.slots) refl).1 None lowest s.lines (λ other differ site image. refl) sound.fair
+    (let within = refused_range stands s sound slot x is in
+    set_sound stands s sound slot within.0 within.1 None lowest s.lines (λ other differ site image. refl) sound.fair
     (subst (IsLowest lowest) are is_lowest) (sound.others slot (refused_is (held_in slot s.slots) x is).1))
-  where
-    range : (o : Option (Occupant R)) → held_in slot s.slots ≡ o → (1 ≤ slot) × (slot ≤ 64)
-    range (Some o) at = held_range stands s sound slot o at
-    range None at = absurd (none-some x (sym (ap refusal_in at) ∙ is))
 
 -- what stands at a place within
 pub stands_at : {T : Type 0} (slots : List (Option T)) (slot : ℕ) (held : Option T) → slot < length slots → held ≡ slice_index_or slots slot held → held_in slot slots ≡ held

@@ -13,7 +13,7 @@ use crate::feeding::{feed_in, prepare_in};
 use crate::lines::Lines;
 use crate::running::{Occupant, Running};
 use crate::slots::{empty_slots, free_up, held_at, hold, next_free};
-use crate::wanted::{going, own_look, running_in, wanted_kind, wanted_op};
+use crate::wanted::{kind_in, op_in, own_look, running_in};
 use rbd_course::{Begun, Request};
 use rbd_kinds::{Fed, ImageAt, Instance, NoMemory, Op, OpKind, Refusal, Reply, SiteId, Slot};
 use rbd_machine::Seat;
@@ -118,10 +118,7 @@ impl<R: Request> Session<R> {
         ensures line { result ≡ script_line (held_in slot self.now.slots) }
         ensures sound { IsSoundSession R.stands self.now }
     {
-        match held_at(self.slots.as_slice(), slot)? {
-            Occupant::Refused { line, .. } => Some(*line),
-            Occupant::Running(running) => Some(running.line),
-        }
+        line_at(self.slots.as_slice(), slot)
     }
 
     /// The site and the kind of the operation that the request in a slot wants: `None` exactly
@@ -131,8 +128,7 @@ impl<R: Request> Session<R> {
         ensures kind { result ≡ kind_at R.stands slot self.now }
         ensures sound { IsSoundSession R.stands self.now }
     {
-        let running = going(self.slots.as_slice(), &self.lines, slot)?;
-        wanted_kind(&running.request)
+        kind_in(self.slots.as_slice(), &self.lines, slot)
     }
 
     /// The operation that the request in a slot wants, and its site: `None` as by
@@ -141,10 +137,7 @@ impl<R: Request> Session<R> {
         ensures op { IfOk result (λ told. told ≡ op_at R.stands slot self.now) }
         ensures sound { IsSoundSession R.stands self.now }
     {
-        match going(self.slots.as_slice(), &self.lines, slot) {
-            Some(running) => wanted_op(alloc, &running.request),
-            None => Ok(None),
-        }
+        op_in(alloc, self.slots.as_slice(), &self.lines, slot)
     }
 
     /// The image at whose look under the lock the request in a slot stands, where it may go on: it
@@ -178,7 +171,9 @@ impl<R: Request> Session<R> {
         ensures who { (self.new.instance ≡ self.old.instance) × (self.new.home ≡ self.old.home) }
         ensures sound { IsSoundSession R.stands self.new }
     {
-        let refusal = refusal_at(self.slots.as_slice(), slot)?;
+        let Some(refusal) = refusal_at(self.slots.as_slice(), slot) else {
+            return None;
+        };
         free_up(&mut self.slots, &mut self.lowest, slot);
         Some(Reply::Refused(refusal))
     }
@@ -245,6 +240,17 @@ fn lowest_behind(lowest: u8, slot: Slot, is_free: bool) -> u8
         return slot.0;
     }
     lowest
+}
+
+/// The script's line of the request in a slot.
+fn line_at<R>(slots: &[Option<Occupant<R>>], slot: Slot) -> Option<u32>
+    ensures { result ≡ script_line (held_in slot slots.now) }
+{
+    match held_at(slots, slot) {
+        Some(Occupant::Refused { line, .. }) => Some(*line),
+        Some(Occupant::Running(running)) => Some(running.line),
+        None => None,
+    }
 }
 
 /// Why the request in a slot is refused before any operation.

@@ -4,7 +4,7 @@ ghost use Rattle.std.specs.Option.{option_map};
 ghost use Rattle.rbd_machine.specs.Plan.{IsAsking};
 ghost use Rattle.rbd_session.specs.Advance.{track_of};
 ghost use Rattle.rbd_session.specs.OnTrack.{HasNext};
-ghost use Rattle.rbd_session.specs.Session.{held_in, running_in, going_in, kind_asked, op_asked, is_look_at, own_look_in, own_look_of};
+ghost use Rattle.rbd_session.specs.Session.{held_in, running_in, going_in, of_going, kind_asked, op_asked, is_look_at, own_look_in, own_look_of};
 
 use crate::lines::Lines;
 use crate::prepare::is_at_own;
@@ -26,7 +26,7 @@ pub fn running_in<R>(slots: &[Option<Occupant<R>>], slot: Slot) -> Option<&Runni
 }
 
 /// The request that runs in a slot, where it doesn't wait.
-pub fn going<'a, R: Request>(
+fn going<'a, R: Request>(
     slots: &'a [Option<Occupant<R>>],
     lines: &Lines,
     slot: Slot,
@@ -48,7 +48,7 @@ pub fn going<'a, R: Request>(
 }
 
 /// The site and the kind of the operation that a request wants.
-pub fn wanted_kind<R: Request>(request: &R) -> Option<(SiteId, OpKind)>
+fn wanted_kind<R: Request>(request: &R) -> Option<(SiteId, OpKind)>
     requires { IsAsking (R.stands request.now).plan }
     ensures { result ≡ kind_asked (R.stands request.now).plan }
 {
@@ -60,7 +60,7 @@ pub fn wanted_kind<R: Request>(request: &R) -> Option<(SiteId, OpKind)>
 
 /// The operation that a request wants, and its site. (By a match, and not by `?`, which would move
 /// the operation four times more.)
-pub fn wanted_op<R: Request>(alloc: Global, request: &R) -> Result<Option<(SiteId, Op)>, NoMemory>
+fn wanted_op<R: Request>(alloc: Global, request: &R) -> Result<Option<(SiteId, Op)>, NoMemory>
     requires { IsAsking (R.stands request.now).plan }
     ensures { IfOk result (λ told. told ≡ op_asked (R.stands request.now).plan) }
 {
@@ -70,6 +70,39 @@ pub fn wanted_op<R: Request>(alloc: Global, request: &R) -> Result<Option<(SiteI
     match request.next(alloc) {
         Ok(op) => Ok(Some((site, op))),
         Err(fault) => Err(fault),
+    }
+}
+
+/// The site and the kind of the operation that the request in a slot wants, where it doesn't wait.
+pub fn kind_in<R: Request>(
+    slots: &[Option<Occupant<R>>],
+    lines: &Lines,
+    slot: Slot,
+) -> Option<(SiteId, OpKind)>
+    requires next { (r : _) → running_in (held_in slot slots.now) ≡ Some r → HasNext slot (track_of r lines.now) }
+    requires asks { (r : _) → running_in (held_in slot slots.now) ≡ Some r → IsAsking (R.stands r.request).plan }
+    ensures { result ≡ of_going R.stands kind_asked (going_in slot (held_in slot slots.now) lines.now) }
+{
+    match going(slots, lines, slot) {
+        Some(running) => wanted_kind(&running.request),
+        None => None,
+    }
+}
+
+/// The operation that the request in a slot wants, and its site, where it doesn't wait.
+pub fn op_in<R: Request>(
+    alloc: Global,
+    slots: &[Option<Occupant<R>>],
+    lines: &Lines,
+    slot: Slot,
+) -> Result<Option<(SiteId, Op)>, NoMemory>
+    requires next { (r : _) → running_in (held_in slot slots.now) ≡ Some r → HasNext slot (track_of r lines.now) }
+    requires asks { (r : _) → running_in (held_in slot slots.now) ≡ Some r → IsAsking (R.stands r.request).plan }
+    ensures { IfOk result (λ told. told ≡ of_going R.stands op_asked (going_in slot (held_in slot slots.now) lines.now)) }
+{
+    match going(slots, lines, slot) {
+        Some(running) => wanted_op(alloc, &running.request),
+        None => Ok(None),
     }
 }
 

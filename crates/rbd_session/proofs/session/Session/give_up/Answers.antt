@@ -1,13 +1,15 @@
-use Rattle.std.proofs.Common.{◌≡◌, Some, sym, ap, ◌∙◌}
+use Rattle.std.proofs.Common.{◌≡◌, Some, None, IsSome, refl, sym, ap, subst, ◌∙◌}
+use Rattle.std.proofs.lemmas.Bool.{true≢false}
 use Rattle.std.specs.Option.{option_map}
-use Rattle.std.proofs.lemmas.Option.{same_Some}
+use Rattle.std.proofs.lemmas.Option.{none-some, same_Some}
 use Rattle.rbd_line.specs.Line.{member_of, without}
 use Rattle.rbd_session.specs.declared.running.Running.{Running}
 use Rattle.rbd_session.specs.Lines.{lines_of}
-use Rattle.rbd_session.specs.Session.{SessionView, held_in, running_in, running_at}
+use Rattle.rbd_session.specs.Session.{SessionView, IsSoundSession, held_in, running_in, running_at}
 use Rattle.rbd_session.specs.Track.{changed_at}
 use Rattle.rbd_session.proofs.Alike.{changes_lines}
-use Rattle.rbd_session.proofs.GivenUp.{leaves_others, given_up}
+use Rattle.rbd_session.proofs.GivenUp.{within, leaves_others, given_up}
+use Rattle.rbd_session.proofs.Shown.{freed_in, kept_in}
 use Rattle.rbd_session.proofs.session.Session.give_up.Goals as goal
 
 -- the session before, the request that runs there, and the lines that it left
@@ -40,3 +42,39 @@ returns-clause-lines g c = λ other differ site image.
 
 pub returns-clause-sound : goal.returns-clause-sound
 returns-clause-sound g c = invariant_of-self g c
+
+pub free_up-requires : goal.free_up-requires
+free_up-requires g c =
+    let s : SessionView _ = record { instance = c.self.inside.instance; home = c.self.inside.home; slots = c.self.inside.slots.items; lowest = c.self.inside.lowest; lines = c.self.inside.lines } in
+    let is : running_at c.args.slot s ≡ Some c.in-Some.running.now =
+    ap (λ xs. running_in (held_in c.args.slot xs)) (sym c.as_slice.ensures.value) ∙ sym c.running_in.ensures ∙ ap (option_map (λ (r : _). r.now)) c.in-Some.is in
+    let range = within g.R.Machine.stands s c.self.invariant c.args.slot c.in-Some.running.now is in
+    record { from = range.0; to = range.1; length = c.self.invariant.slots; lowest = c.self.invariant.lowest }
+
+pub returns-clause-free : goal.returns-clause-free
+returns-clause-free g c = λ some. freed_in c.self.inside.slots.items c.free_up.new.slots.items c.args.slot c.free_up.ensures.slots
+
+pub returns-clause-none : goal.returns-clause-none
+returns-clause-none g c = λ none. absurd (none-some c.in-Some.running.now (sym none ∙ sym (ap (running_at c.args.slot) c.self.view_is) ∙ runs g c))
+
+pub returns-clause-others : goal.returns-clause-others
+returns-clause-others g c = λ other differ.
+    kept_in c.self.inside.slots.items c.free_up.new.slots.items c.args.slot _ c.free_up.ensures.slots other differ ∙ ap (λ (v : SessionView _). held_in other v.slots) c.self.view_is
+
+pub returns-clause-who : goal.returns-clause-who
+returns-clause-who g c = (ap (λ (v : SessionView _). v.instance) c.self.view_is, ap (λ (v : SessionView _). v.home) c.self.view_is)
+
+pub returns-in_default : goal.returns-in_default
+returns-in_default g c =
+    let is : running_at c.args.slot c.args.self.now ≡ None =
+    sym (ap (running_at c.args.slot) c.self.view_is) ∙ ap (λ xs. running_in (held_in c.args.slot xs)) (sym c.as_slice.ensures.value) ∙ sym c.running_in.ensures
+    ∙ ap (option_map (λ (r : _). r.now)) c.in_default.is in
+    record {
+      free = λ some. absurd (true≢false (sym (subst IsSome is some)));
+      none = λ none. refl;
+      others = λ other differ. refl;
+      left = λ r at. absurd (none-some r (sym is ∙ at));
+      lines = λ other differ site image. refl;
+      who = (refl, refl);
+      sound = subst (IsSoundSession g.R.Machine.stands) c.self.view_is c.self.invariant;
+    }

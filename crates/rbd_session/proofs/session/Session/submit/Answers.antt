@@ -1,6 +1,7 @@
-use Rattle.std.proofs.Common.{◌∙◌, ◌+◌, ◌<◌, ◌≤◌, ℕ, None, Some, IsSome, refl, sym, ap, subst, arith}
-use Rattle.std.proofs.lemmas.List.{get_or-set_same}
+use Rattle.std.proofs.Common.{◌∙◌, ◌+◌, ◌<◌, ◌≤◌, ℕ, length, None, Some, IsSome, refl, sym, ap, subst, arith}
+use Rattle.std.proofs.lemmas.List.{get_or-set_same, length-set}
 use Rattle.rbd_session.specs.Session.{SessionView, IsNewcomer, IsSoundSession, held_in, running_in}
+use Rattle.rbd_session.proofs.Shown.{kept_in}
 use Rattle.rbd_session.proofs.Sound.{set_sound, taken, newcomer_well}
 use Rattle.rbd_session.proofs.session.Session.submit.Goals as goal
 
@@ -31,3 +32,43 @@ returns-in-Ok-clause-held g c =
 
 pub returns-in-Ok-clause-sound : goal.returns-in-Ok-clause-sound
 returns-in-Ok-clause-sound g c = invariant_of-self g c
+
+pub newcomer-requires : goal.newcomer-requires
+newcomer-requires g c = c.requires.serves
+
+pub hold-requires : goal.hold-requires
+hold-requires g c = record { to = subst (λ (s : SessionView _). s.lowest ≤ 64) (sym c.self.view_is) c.requires.free; length = c.self.invariant.slots }
+
+pub next_free-self-inside-requires : goal.next_free-self-inside-requires
+next_free-self-inside-requires g c =
+    let few : c.self.inside.lowest ≤ 64 = subst (λ (s : SessionView _). s.lowest ≤ 64) (sym c.self.view_is) c.requires.free in
+    record {
+      length =
+          ap length (c.as_slice.ensures.value ∙ c.hold.ensures) ∙ length-set c.self.inside.slots.items c.self.inside.lowest (Some c.in-Ok.occupant) ∙ c.self.invariant.slots;
+      from = omega (arith, few);
+    }
+
+pub returns-in-Ok-clause-slot : goal.returns-in-Ok-clause-slot
+returns-in-Ok-clause-slot g c = ap (λ (v : SessionView _). v.lowest) c.self.view_is
+
+pub returns-in-Ok-clause-others : goal.returns-in-Ok-clause-others
+returns-in-Ok-clause-others g c = λ slot differ.
+    kept_in c.self.inside.slots.items c.hold.new.slots.items c.self.inside.lowest _ c.hold.ensures slot (λ same. differ (same ∙ ap (λ (v : SessionView _). v.lowest) c.self.view_is))
+    ∙ ap (λ (v : SessionView _). held_in slot v.slots) c.self.view_is
+
+pub returns-in-Ok-clause-lines : goal.returns-in-Ok-clause-lines
+returns-in-Ok-clause-lines g c = ap (λ (v : SessionView _). v.lines) c.self.view_is
+
+pub returns-in-Ok-clause-who : goal.returns-in-Ok-clause-who
+returns-in-Ok-clause-who g c = (ap (λ (v : SessionView _). v.instance) c.self.view_is, ap (λ (v : SessionView _). v.home) c.self.view_is)
+
+pub returns-in-Err : goal.returns-in-Err
+returns-in-Err g c = record {
+  slot = tt;
+  held = tt;
+  others = λ slot differ. refl;
+  lines = refl;
+  who = (refl, refl);
+  err = refl;
+  sound = subst (IsSoundSession g.R.Machine.stands) c.self.view_is c.self.invariant;
+}
