@@ -44,8 +44,8 @@ pub enum Stage {
 }
 
 impl RemoveSnap {
-    /// The removal of a snapshot that the image's header lists; the header is there so that no
-    /// other can be. It takes no memory.
+    /// The removal of a snapshot. The header is passed to prove that `listed` is in it. It takes
+    /// no memory.
     pub fn new(site: SiteId, image: ImageId, header: &HeaderView, listed: &SnapView) -> Self
         requires { Contains header.now.snaps listed.now }
         ensures { (next : Plan) → rest_of_removing result next ≡ removing site image listed.now.id next }

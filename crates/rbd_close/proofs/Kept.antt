@@ -7,12 +7,13 @@ use Rattle.rbd_kinds.specs.declared.header.HeaderView.{HeaderView}
 use Rattle.rbd_kinds.specs.declared.id.SiteId.{SiteId}
 use Rattle.rbd_kinds.specs.declared.machine.Fed.{Fed}
 use Rattle.rbd_kinds.specs.declared.machine.Fed.TheVariants as fed
+use Rattle.rbd_locks.specs.Comings.{owns_after}
 use Rattle.rbd_machine.specs.Path.{Answered, IsWalk}
 use Rattle.rbd_machine.specs.Plan.{Plan, Ask, Await, Note, Return, Goto, settled}
 use Rattle.rbd_machine.specs.Refused.{refuses_none}
 use Rattle.rbd_machine.specs.Steps.{not_there, on_id, on_header, on_done, looked, owned as looked_own, joining as change_joining}
 use Rattle.rbd_machine.proofs.Settled.{settled_goto}
-use Rattle.rbd_owner.specs.Waiting.{owned_by, owns_after}
+use Rattle.rbd_owner.specs.Waiting.{owned_by}
 use Rattle.rbd_close.specs.Close.{done, quiesced, quiesce, resumed, resume, saying, tell}
 
 -- no operation changes whether the session counts the lock as its own

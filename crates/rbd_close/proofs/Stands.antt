@@ -8,6 +8,7 @@ use Rattle.rbd_kinds.specs.declared.machine.Fed.{Fed}
 use Rattle.rbd_kinds.specs.declared.machine.Fed.TheVariants as fed
 use Rattle.rbd_kinds.specs.declared.operation.Op.{Op}
 use Rattle.rbd_kinds.specs.declared.reply.Reply.TheVariants as reply
+use Rattle.rbd_locks.specs.Comings.{owns_after}
 use Rattle.rbd_machine.specs.About.{look_up}
 use Rattle.rbd_machine.specs.Path.{Answered, IsWalk}
 use Rattle.rbd_machine.specs.Plan.{Plan, Await, Goto}
@@ -17,7 +18,7 @@ use Rattle.rbd_machine.specs.Wait as wait
 use Rattle.rbd_machine.proofs.Settled.{settled_goto}
 use Rattle.rbd_machine.proofs.Walked.{WentOn, Passed, ended, absent_ends}
 use Rattle.rbd_owner.specs.Steps.{lock_drop, released_lock}
-use Rattle.rbd_owner.specs.Waiting.{owned_by, owns_after}
+use Rattle.rbd_owner.specs.Waiting.{owned_by}
 use Rattle.rbd_close.specs.Close.{done, unwatch, unwatching, on_dropped, dropping, holding, joining, close}
 use Rattle.rbd_close.specs.Meaning.{answered, IsDropBehind}
 

@@ -1,16 +1,11 @@
 -- `close`, `quiesce`, `resume` and `tell`: the plans.
 use Rattle.std.specs.Prelude.{ℕ, List, Bool, true, false}
 use Rattle.rbd_kinds.specs.declared.sharing.Sharing.TheVariants as sharing
-use Rattle.rbd_close.specs.declared.close.Close.{Close}
-use Rattle.rbd_close.specs.declared.close.Stage.{Stage as CloseStage}
-use Rattle.rbd_close.specs.declared.close.Stage.TheVariants as closing
-use Rattle.rbd_close.specs.declared.quiesce.Quiesce.{Quiesce}
 use Rattle.rbd_close.specs.declared.request.CloseRequest.{CloseRequest}
-use Rattle.rbd_close.specs.declared.request.CloseRequest.TheVariants as request
-use Rattle.rbd_close.specs.declared.resume.Resume.{Resume}
-use Rattle.rbd_close.specs.declared.tell.Stage.{Stage as TellStage}
-use Rattle.rbd_close.specs.declared.tell.Stage.TheVariants as telling
-use Rattle.rbd_close.specs.declared.tell.Tell.{Tell}
+use Rattle.rbd_close.specs.declared.request.Purpose.{Purpose}
+use Rattle.rbd_close.specs.declared.request.Purpose.TheVariants as purpose
+use Rattle.rbd_close.specs.declared.request.Stage.{Stage}
+use Rattle.rbd_close.specs.declared.request.Stage.TheVariants as stage
 use Rattle.rbd_kinds.specs.declared.answer.Answer.{Answer}
 use Rattle.rbd_kinds.specs.declared.answer.Answer.TheVariants as answer
 use Rattle.rbd_commands.specs.declared.command.Command.{Command}
@@ -125,33 +120,36 @@ close_plan site _ = refused refusal.NoImage
 
 -- ---- where a request stands
 
-abbrev pub close_at : CloseStage → SiteId → (name : List ℕ) → Plan
-close_at closing.Finding site name = close site name
-close_at (closing.Joining image) site name = joining site image
-close_at (closing.Holding image) site name = holding site image
-close_at (closing.Dropping image) site name = dropping site image
-close_at (closing.Releasing image) site name = releasing site image
-close_at (closing.Unwatching image) site name = unwatching site image
+-- what is done with the image that is found
+abbrev pub on_image : Purpose → SiteId → (image : ℕ) → Plan
+on_image purpose.Close site = joining site
+on_image purpose.Resume site = resumed
+on_image (purpose.Tell bytes) site = saying site bytes
 
-abbrev pub rest_of_close : Close → Plan
-rest_of_close c = close_at c.stage c.site c.name
+abbrev pub IsFinding : Stage → Type 0
+IsFinding (stage.Finding name why) = Unit {0}
+IsFinding _ = ⊥
 
-abbrev pub rest_of_quiesce : Quiesce → Plan
-rest_of_quiesce q = rest_of q.way refuses_none quiesced
+-- it isn't on its way to a look under the lock
+abbrev pub IsStraight : Stage → Type 0
+IsStraight (stage.Quiescing way) = ⊥
+IsStraight _ = Unit {0}
 
-abbrev pub rest_of_resume : Resume → Plan
-rest_of_resume r = resume r.site r.name
-
-abbrev pub tell_at : TellStage → SiteId → (name bytes : List ℕ) → Plan
-tell_at telling.Finding site name bytes = tell site name bytes
-tell_at (telling.Saying image) site name bytes = saying site bytes image
-
-abbrev pub rest_of_tell : Tell → Plan
-rest_of_tell t = tell_at t.stage t.site t.name t.bytes
+abbrev pub rest_at : Stage → SiteId → Plan
+rest_at (stage.Finding name why) site = find site name (on_image why site)
+rest_at (stage.Joining image) site = joining site image
+rest_at (stage.Holding image) site = holding site image
+rest_at (stage.Dropping image) site = dropping site image
+rest_at (stage.Releasing image) site = releasing site image
+rest_at (stage.Unwatching image) site = unwatching site image
+rest_at (stage.Saying image bytes) site = saying site bytes image
+rest_at (stage.Quiescing way) site = rest_of way refuses_none quiesced
 
 -- what is left of one
 abbrev pub rest_of_request : CloseRequest → Plan
-rest_of_request (request.Close c) = rest_of_close c
-rest_of_request (request.Quiesce q) = rest_of_quiesce q
-rest_of_request (request.Resume r) = rest_of_resume r
-rest_of_request (request.Tell t) = rest_of_tell t
+rest_of_request r = rest_at r.stage r.site
+
+-- what is left of one that finds, once its image is found
+abbrev pub on_found : Stage → SiteId → (image : ℕ) → Plan
+on_found (stage.Finding name why) site = on_image why site
+on_found _ site = resumed

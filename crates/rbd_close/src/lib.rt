@@ -28,18 +28,21 @@
 //!
 //! - An operation that is answered `none` ends a request with NoImage, and one that is answered
 //!   `fenced` with Fenced.
-//! - **`close`** ([`Close`]) takes no lock and makes no look under the lock. It gives up what the
-//!   session has, or may have: where its `lock-drop` is answered `changed`, the lock is another's
-//!   or nobody's, and then there is nothing to tell, but the watch still ends. Whatever the
-//!   `lock-drop` is answered, the session counts the lock as let go from then on (`rbd_owner`), an
-//!   asking as answered, and a quiesce as ended (own).
-//! - **`quiesce`** ([`Quiesce`]) goes the way of a change to its look under the lock
-//!   ([`Approach`](rbd_machine::Approach)), and refuses nothing by the header: a secondary may be
-//!   quiesced. The session counts the image as quiesced from that look on.
-//! - **`resume`** ([`Resume`]) joins no line, since the requests in it wait for it. It ends the
-//!   quiesce of its own session, and is done without one, too.
-//! - **`tell`** ([`Tell`]) needs neither lock nor line. The notice goes to each watcher but the
-//!   sender, and may come late, never, or several times.
+//! - **`close`** (Ceph: closing an image releases its exclusive lock, by librbd's `ReleaseRequest`,
+//!   and unregisters its watch; the order of the operations is own) takes no lock and makes no look
+//!   under the lock. It gives up what the session has, or may have: where its `lock-drop` is
+//!   answered `changed`, the lock is another's or nobody's, and then there is nothing to tell, but
+//!   the watch still ends. Whatever the `lock-drop` is answered, the session counts the lock as let
+//!   go from then on (`rbd_owner`), an asking as answered, and a quiesce as ended (own).
+//! - **`quiesce`** (Ceph: a client of librbd quiesces its writes for a snapshot; that a session does
+//!   so by a command, for its own requests alone, is own) goes the way of a change to its look under
+//!   the lock ([`Approach`](rbd_machine::Approach)), and refuses nothing by the header: a secondary
+//!   may be quiesced. The session counts the image as quiesced from that look on.
+//! - **`resume`** joins no line, since the requests in it wait for it. It ends the
+//!   quiesce of its own session alone, and is done without one, too (own).
+//! - **`tell`** needs neither lock nor line (Ceph: a notification on the header object, as librbd
+//!   sends them; what it says is the client's own). The notice goes to each watcher but the sender,
+//!   and may come late, never, or several times.
 //!
 //! # What a session makes of the waits
 //!
@@ -77,19 +80,12 @@
 //!
 //! # How it works
 //!
-//! Each command has a small machine of its own, which holds the step at which it stands. A
-//! [`CloseRequest`] is one of the four.
+//! The four commands are one machine: a [`CloseRequest`] holds the stage at which it stands, with
+//! what the stages behind it need. Where an image is found, it also holds what for.
 #![tactic(auto)]
 
-mod close;
 pub mod laws;
-mod quiesce;
+mod operations;
 mod request;
-mod resume;
-mod tell;
 
-pub use close::Close;
-pub use quiesce::Quiesce;
 pub use request::CloseRequest;
-pub use resume::Resume;
-pub use tell::Tell;

@@ -1,18 +1,17 @@
 //! Reading the pieces of a view.
 ghost use Rattle.std.specs.Prelude.{◌≡◌, ℕ, ◌+◌, ◌<◌, ◌≤◌, ◌^◌, None, ◌++◌, replicate, List, [], length, vec_capacity, vec_len, IfOk, IfSome, OnOk};
 ghost use Rattle.rbd_kinds.specs.declared.machine.Fed.TheVariants as fed_with;
-ghost use Rattle.rbd_kinds.specs.declared.reply.Reply.TheVariants.{Done};
 ghost use Rattle.rbd_kinds.specs.Parts.{parts_len};
-ghost use Rattle.rbd_machine.specs.Plan.{Plan, Return, Wants, Asks, plan_after, without_labels};
+ghost use Rattle.rbd_machine.specs.Plan.{Plan, Wants, Asks, plan_after};
 ghost use Rattle.rbd_machine.specs.Steps.{going};
 ghost use Rattle.rbd_piece.specs.Gather.{gather, rest_of_gather, Gathers, HasRoom, IsRoomFor, TellsBytes, on_bytes};
 
 use rbd_kinds::{
-    Answer, Bytes, DataOp, Event, Fed, ImageId, NoMemory, Op, OpKind, Part, Refusal, Reply, SiteId,
-    SnapId, TryClone, Turn, Want,
+    Answer, Bytes, DataOp, ImageId, NoMemory, Op, OpKind, Part, Refusal, SiteId, SnapId, TryClone,
+    Want,
 };
 use rbd_layout::Piece;
-use rbd_machine::{Machine, Progress, Reason, refusal_of};
+use rbd_machine::{Progress, refusal_of};
 use std::alloc::Global;
 use std::collections::VecDeque;
 use std::mem::replace;
@@ -193,45 +192,4 @@ fn add_zeros(bytes: &mut Vec<u8>, parts: &[Part])
     };
     let len = bytes.len() + added;
     bytes.resize(len, 0).unwrap();
-}
-
-impl Machine for Gather {
-    ghost stands = { λ g. without_labels (rest_of_gather g (λ bytes. Return Done)) };
-
-    ghost is_ready = { HasRoom };
-
-    fn wants(&self) -> Want {
-        Gather::wants(self)
-    }
-
-    fn next(&self, alloc: Global) -> Result<Op, NoMemory> {
-        Gather::next(self, alloc)
-    }
-
-    fn reason(&self) -> Reason {
-        Reason::Own
-    }
-
-    fn event(&self, _alloc: Global) -> Result<Option<Event>, NoMemory> {
-        Ok(None)
-    }
-
-    fn ready(&mut self, _alloc: Global, fed: &Fed) -> Result<(), NoMemory> {
-        let Fed::Answer(answer) = fed else {
-            unreachable!()
-        };
-        Gather::ready(self, answer)
-    }
-
-    #[tactic(auto, using(crate::proofs::Tells::read_tells))]
-    fn feed(&mut self, fed: &Fed) -> Turn {
-        let Fed::Answer(answer) = fed else {
-            unreachable!()
-        };
-        match Gather::feed(self, answer) {
-            Progress::More => Turn::More,
-            Progress::Ended(()) => Turn::Done(Reply::Done),
-            Progress::Refused(refusal) => Turn::Done(Reply::Refused(refusal)),
-        }
-    }
 }

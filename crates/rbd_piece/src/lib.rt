@@ -43,8 +43,7 @@
 //!
 //! Both are parts of a request: their clauses hold for every plan that comes next, and a step tells
 //! a [`Progress`](rbd_machine::Progress). They are fed what their operation can be answered, and
-//! nothing else. Each is also a request of its own that ends with Done
-//! ([`Machine`](rbd_machine::Machine)).
+//! nothing else.
 //!
 //! The definitions are read after those of `rbd_machine`. `specs/Write.antt`: `write_piece` is the
 //! plan of a piece of a write (`raising`, and then `writing`), and `rest_of_write` what is left of

@@ -1,20 +1,19 @@
 //! One piece of a write.
 ghost use Rattle.std.specs.Prelude.{◌≡◌, IfOk};
 ghost use Rattle.rbd_kinds.specs.declared.machine.Fed.TheVariants as fed_with;
-ghost use Rattle.rbd_kinds.specs.declared.reply.Reply.TheVariants.{Done};
 ghost use Rattle.rbd_machine.specs.Objects.{data_write, map_exists};
-ghost use Rattle.rbd_machine.specs.Plan.{Plan, Return, Wants, Asks, plan_after, without_labels};
+ghost use Rattle.rbd_machine.specs.Plan.{Plan, Wants, Asks, plan_after};
 ghost use Rattle.rbd_machine.specs.Steps.{Progresses, TellsDone};
 ghost use Rattle.rbd_kinds.specs.declared.header.HeaderView.{HeaderView};
 ghost use Rattle.rbd_header.specs.Header.{context_of};
 ghost use Rattle.rbd_piece.specs.Write.{write_piece, rest_of_write};
 
 use rbd_kinds::{
-    Answer, Bytes, DataOp, Event, Fed, ImageId, MapOp, NoMemory, Op, OpKind, Reply, SiteId,
-    SnapContext, TryClone, Turn, Want,
+    Answer, Bytes, DataOp, ImageId, MapOp, NoMemory, Op, OpKind, SiteId, SnapContext, TryClone,
+    Want,
 };
 use rbd_layout::Piece;
-use rbd_machine::{Machine, Progress, Reason, told_done};
+use rbd_machine::{Progress, told_done};
 use std::alloc::Global;
 
 /// One piece of a write: those of its bytes that go to one object. Before they do, the object's
@@ -143,44 +142,6 @@ impl WritePiece {
                 Stage::Writing => Progress::Ended(()),
             },
             Err(refusal) => Progress::Refused(refusal),
-        }
-    }
-}
-
-impl Machine for WritePiece {
-    ghost stands = { λ w. without_labels (rest_of_write w (Return Done)) };
-
-    ghost is_ready = { λ w answer. Unit {0} };
-
-    fn wants(&self) -> Want {
-        WritePiece::wants(self)
-    }
-
-    fn next(&self, alloc: Global) -> Result<Op, NoMemory> {
-        WritePiece::next(self, alloc)
-    }
-
-    fn reason(&self) -> Reason {
-        Reason::Own
-    }
-
-    fn event(&self, _alloc: Global) -> Result<Option<Event>, NoMemory> {
-        Ok(None)
-    }
-
-    fn ready(&mut self, _alloc: Global, _fed: &Fed) -> Result<(), NoMemory> {
-        Ok(())
-    }
-
-    #[tactic(auto, using(crate::proofs::Tells::write_tells))]
-    fn feed(&mut self, fed: &Fed) -> Turn {
-        let Fed::Answer(answer) = fed else {
-            unreachable!()
-        };
-        match WritePiece::feed(self, answer) {
-            Progress::More => Turn::More,
-            Progress::Ended(()) => Turn::Done(Reply::Done),
-            Progress::Refused(refusal) => Turn::Done(Reply::Refused(refusal)),
         }
     }
 }

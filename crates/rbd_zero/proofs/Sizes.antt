@@ -1,4 +1,4 @@
--- Where a new size stands, and the pieces that it zeros.
+-- The pieces that a new size zeros.
 use Rattle.std.proofs.Common.{◌≡◌, ℕ, suc, ◌+◌, ◌≤◌, ◌<◌, true, false, cond, List, [], ◌∷◌, ◌++◌, All, length, get_or, Option, Some, None, refl, ap, ◌∙◌, sym, subst, arith}
 use Rattle.std.specs.Prelude.{filter}
 use Rattle.std.proofs.lemmas.Bool.{le-leb, lt-leb}
@@ -6,109 +6,16 @@ use Rattle.rbd_kinds.specs.declared.header.HeaderView.{HeaderView}
 use Rattle.rbd_kinds.specs.declared.id.SiteId.{SiteId}
 use Rattle.rbd_kinds.specs.declared.layout.Extent.{Extent}
 use Rattle.rbd_kinds.specs.declared.layout.Part.{Part}
-use Rattle.rbd_kinds.specs.declared.machine.Fed.TheVariants as fed
 use Rattle.rbd_kinds.specs.Striping.{IsLayout, byte_at, object_of}
 use Rattle.rbd_layout.specs.declared.types.Piece.{Piece}
 use Rattle.rbd_layout.specs.Pieces.{IsPart, IsPieces}
 use Rattle.rbd_layout.proofs.Places.{first_below}
 use Rattle.rbd_layout.proofs.Within.{lies_in}
-use Rattle.rbd_machine.specs.Answers.{CanBeFed}
-use Rattle.rbd_machine.specs.Plan.{Plan, AsksBy, IsLive, Notes}
-use Rattle.rbd_machine.specs.declared.reason.Reason.TheVariants as reason
-use Rattle.rbd_zero.specs.Full as full
+use Rattle.rbd_machine.specs.Plan.{Plan}
 use Rattle.rbd_zero.specs.Shrink.{has_bytes}
-use Rattle.rbd_zero.specs.Size.{growing, resize, resize_by, rest_from, rest_of_some, rest_of_zeros, shrinking, sizing, zero_pieces}
+use Rattle.rbd_zero.specs.Size.{growing, resize, resize_by, rest_of_some, rest_of_zeros, shrinking, zero_pieces}
 use Rattle.rbd_zero.specs.Zero as zeros
-use Rattle.rbd_zero.specs.declared.full_piece.Way.{Way}
-use Rattle.rbd_zero.specs.declared.full_piece.Way.TheVariants as way
-use Rattle.rbd_zero.specs.declared.replace.Replace.{Replace}
-use Rattle.rbd_zero.specs.declared.replace.Stage as of_replace
-use Rattle.rbd_zero.specs.declared.replace.Stage.TheVariants as replace_stage
-use Rattle.rbd_zero.specs.declared.size.Size.{Size}
-use Rattle.rbd_zero.specs.declared.size.Stage.{Stage}
-use Rattle.rbd_zero.specs.declared.size.Stage.TheVariants as stage
-use Rattle.rbd_zero.specs.declared.zero_piece.Stage as of_zero
-use Rattle.rbd_zero.specs.declared.zero_piece.Stage.TheVariants as zero_stage
 use Rattle.rbd_zero.specs.declared.zero_piece.ZeroPiece.{ZeroPiece}
-
--- ---- where it stands
-
-zero_is_live : (s : of_zero.Stage) (z : ZeroPiece) (next : Plan) → IsLive (zeros.rest_from s z next)
-zero_is_live zero_stage.Zeroing z next = tt
-zero_is_live zero_stage.RaisingToZero z next = tt
-zero_is_live zero_stage.ZeroingThere z next = tt
-zero_is_live zero_stage.RaisingToEmpty z next = tt
-zero_is_live zero_stage.Emptying z next = tt
-zero_is_live zero_stage.Marking z next = tt
-zero_is_live zero_stage.Removing z next = tt
-zero_is_live zero_stage.Lowering z next = tt
-
-zero_is_answered : (s : of_zero.Stage) (z : ZeroPiece) (next : Plan) → CanBeFed (zeros.rest_from s z next) fed.Passed → ⊥
-zero_is_answered zero_stage.Zeroing z next can = can
-zero_is_answered zero_stage.RaisingToZero z next can = can
-zero_is_answered zero_stage.ZeroingThere z next can = can
-zero_is_answered zero_stage.RaisingToEmpty z next can = can
-zero_is_answered zero_stage.Emptying z next can = can
-zero_is_answered zero_stage.Marking z next can = can
-zero_is_answered zero_stage.Removing z next can = can
-zero_is_answered zero_stage.Lowering z next can = can
-
-zero_asks_by_itself : (s : of_zero.Stage) (z : ZeroPiece) (next : Plan) → AsksBy (zeros.rest_from s z next) reason.Own
-zero_asks_by_itself zero_stage.Zeroing z next = refl
-zero_asks_by_itself zero_stage.RaisingToZero z next = refl
-zero_asks_by_itself zero_stage.ZeroingThere z next = refl
-zero_asks_by_itself zero_stage.RaisingToEmpty z next = refl
-zero_asks_by_itself zero_stage.Emptying z next = refl
-zero_asks_by_itself zero_stage.Marking z next = refl
-zero_asks_by_itself zero_stage.Removing z next = refl
-zero_asks_by_itself zero_stage.Lowering z next = refl
-
-zero_notes_nothing : (s : of_zero.Stage) (z : ZeroPiece) (next : Plan) → Notes (zeros.rest_from s z next) None
-zero_notes_nothing zero_stage.Zeroing z next = refl
-zero_notes_nothing zero_stage.RaisingToZero z next = refl
-zero_notes_nothing zero_stage.ZeroingThere z next = refl
-zero_notes_nothing zero_stage.RaisingToEmpty z next = refl
-zero_notes_nothing zero_stage.Emptying z next = refl
-zero_notes_nothing zero_stage.Marking z next = refl
-zero_notes_nothing zero_stage.Removing z next = refl
-zero_notes_nothing zero_stage.Lowering z next = refl
-
-pub piece_is_live : (z : ZeroPiece) (next : Plan) → IsLive (zeros.rest_of_zero z next)
-piece_is_live z next = zero_is_live z.stage z next
-
-pub size_is_live : (s : Stage) (z : Size) (next : Plan) → IsLive (rest_from s z next)
-size_is_live (stage.Growing objects to) z next = tt
-size_is_live (stage.Looking shrink) z next = tt
-size_is_live (stage.Zeroing piece to) z next = piece_is_live piece (rest_of_zeros z.pieces.items (sizing z.site z.image to next))
-size_is_live (stage.Sizing to) z next = tt
-
-replace_is_live : (s : of_replace.Stage) (r : Replace) (next : Plan) → IsLive (full.replace_from s r next)
-replace_is_live replace_stage.Raising r next = tt
-replace_is_live replace_stage.Writing r next = tt
-
-pub full_is_live : (w : Way) (next : Plan) → IsLive (full.rest_from w next)
-full_is_live (way.Replacing r) next = replace_is_live r.stage r next
-full_is_live (way.Zeroing z) next = piece_is_live z next
-
-pub is_answered : (s : Stage) (z : Size) (next : Plan) → CanBeFed (rest_from s z next) fed.Passed → ⊥
-is_answered (stage.Growing objects to) z next can = can
-is_answered (stage.Looking shrink) z next can = can
-is_answered (stage.Zeroing piece to) z next can = zero_is_answered piece.stage piece (rest_of_zeros z.pieces.items (sizing z.site z.image to next)) can
-is_answered (stage.Sizing to) z next can = can
-
-pub asks_by_itself : (s : Stage) (z : Size) (next : Plan) → AsksBy (rest_from s z next) reason.Own
-asks_by_itself (stage.Growing objects to) z next = refl
-asks_by_itself (stage.Looking shrink) z next = refl
-asks_by_itself (stage.Zeroing piece to) z next = zero_asks_by_itself piece.stage piece (rest_of_zeros z.pieces.items (sizing z.site z.image to next))
-asks_by_itself (stage.Sizing to) z next = refl
-
-pub notes_nothing : (s : Stage) (z : Size) (next : Plan) → Notes (rest_from s z next) None
-notes_nothing (stage.Growing objects to) z next = refl
-notes_nothing (stage.Looking shrink) z next = refl
-notes_nothing (stage.Zeroing piece to) z next = zero_notes_nothing piece.stage piece (rest_of_zeros z.pieces.items (sizing z.site z.image to next))
-notes_nothing (stage.Sizing to) z next = refl
-
--- ---- objects of a size
 
 -- ---- pieces that are made
 

@@ -1,10 +1,9 @@
 //! One piece that replaces its object.
 ghost use Rattle.std.specs.Prelude.{◌≡◌, true, IfOk};
 ghost use Rattle.rbd_kinds.specs.declared.machine.Fed.TheVariants as fed_with;
-ghost use Rattle.rbd_kinds.specs.declared.reply.Reply.TheVariants.{Done};
 ghost use Rattle.rbd_kinds.specs.Form.{IsHeaderInForm};
 ghost use Rattle.rbd_header.specs.Header as of_header;
-ghost use Rattle.rbd_machine.specs.Plan.{Plan, Return, Wants, Asks, plan_after, without_labels};
+ghost use Rattle.rbd_machine.specs.Plan.{Plan, Wants, Asks, plan_after};
 ghost use Rattle.rbd_machine.specs.Steps.{Progresses, TellsDone};
 ghost use Rattle.rbd_zero.specs.Full as of_full;
 ghost use Rattle.rbd_zero.specs.Full.{rest_of_full};
@@ -15,12 +14,9 @@ use crate::replace::Replace;
 use crate::whole::is_inside;
 use crate::zero_piece::ZeroPiece;
 use rbd_header::context_of;
-use rbd_kinds::{
-    Answer, Bytes, Event, Fed, HeaderView, ImageId, NoMemory, Op, Reply, SiteId, SnapContext, Turn,
-    Want,
-};
+use rbd_kinds::{Answer, Bytes, HeaderView, ImageId, NoMemory, Op, SiteId, SnapContext, Want};
 use rbd_layout::Piece;
-use rbd_machine::{Machine, Progress, Reason};
+use rbd_machine::Progress;
 use std::alloc::Global;
 
 /// One piece of an image that has all bytes of its object, and bytes that take their place. Zeros
@@ -128,44 +124,6 @@ impl FullPiece {
         match &mut self.way {
             Way::Replacing(replace) => replace.feed(answer),
             Way::Zeroing(zeros) => zeros.feed(answer),
-        }
-    }
-}
-
-impl Machine for FullPiece {
-    ghost stands = { λ f. without_labels (rest_of_full f (Return Done)) };
-
-    ghost is_ready = { λ f answer. Unit {0} };
-
-    fn wants(&self) -> Want {
-        FullPiece::wants(self)
-    }
-
-    fn next(&self, alloc: Global) -> Result<Op, NoMemory> {
-        FullPiece::next(self, alloc)
-    }
-
-    fn reason(&self) -> Reason {
-        Reason::Own
-    }
-
-    fn event(&self, _alloc: Global) -> Result<Option<Event>, NoMemory> {
-        Ok(None)
-    }
-
-    fn ready(&mut self, _alloc: Global, _fed: &Fed) -> Result<(), NoMemory> {
-        Ok(())
-    }
-
-    #[tactic(auto, using(crate::proofs::Tells::full_tells))]
-    fn feed(&mut self, fed: &Fed) -> Turn {
-        let Fed::Answer(answer) = fed else {
-            unreachable!()
-        };
-        match FullPiece::feed(self, answer) {
-            Progress::More => Turn::More,
-            Progress::Ended(()) => Turn::Done(Reply::Done),
-            Progress::Refused(refusal) => Turn::Done(Reply::Refused(refusal)),
         }
     }
 }

@@ -73,9 +73,8 @@ pub fn words_are_meant()
 
 /// A part is lawful wherever the image is its own by a header, given that what comes next is lawful
 /// by what is known behind the part. A piece is one of the head, and the image its own alone or at
-/// the turn at its object. Bytes that replace are no more than the piece has. For a size the image
-/// is its own alone: where it shrinks, each byte that goes is zero by a state that the map told, or
-/// by this request's own change.
+/// the turn at its object. Bytes that replace are no more than the piece has. A resize
+/// holds the lock alone; each byte that it cuts is zero, as the map says or by its own zeroing.
 pub fn parts_are_lawful()
     ensures zero { (at : Label → Knowledge) (k : Knowledge) (site : SiteId) (image : ℕ) (h : HeaderView) (piece : Piece) (next : Plan)
         → OwnsObject k site image h piece.object → IsPieceOf h piece

@@ -54,8 +54,7 @@
 //!
 //! All are parts of a request, in the form of those of `rbd_piece`: their clauses hold for every
 //! plan that comes next, and a step tells a [`Progress`](rbd_machine::Progress). They are fed what
-//! their operation can be answered, and nothing else. Each is also a request of its own that ends
-//! with Done ([`Machine`](rbd_machine::Machine)).
+//! their operation can be answered, and nothing else.
 //!
 //! They are made by a header in form, for pieces of its head ([`laws::pieces_are_of_the_head`]).
 //! A `FullPiece` is of a whole one ([`is_whole`] tells).

@@ -1,10 +1,9 @@
 //! The size of an image's head.
 ghost use Rattle.std.specs.Prelude.{◌≡◌, ℕ, IfOk, OnOk};
 ghost use Rattle.rbd_kinds.specs.declared.machine.Fed.TheVariants as fed_with;
-ghost use Rattle.rbd_kinds.specs.declared.reply.Reply.TheVariants.{Done};
 ghost use Rattle.rbd_kinds.specs.Form.{HasFewObjects, IsHeaderInForm};
 ghost use Rattle.rbd_kinds.specs.Striping.{IsObjectCount};
-ghost use Rattle.rbd_machine.specs.Plan.{Plan, Return, Wants, Asks, plan_after, without_labels};
+ghost use Rattle.rbd_machine.specs.Plan.{Plan, Wants, Asks, plan_after};
 ghost use Rattle.rbd_machine.specs.Steps.{Progresses};
 ghost use Rattle.rbd_zero.specs.Size as of_size;
 ghost use Rattle.rbd_zero.specs.Size.{rest_of_size};
@@ -13,12 +12,9 @@ ghost use Rattle.rbd_zero.specs.declared.size.Size as of_struct;
 use crate::operations::{header_set_size, map_get, map_resize};
 use crate::shrink::Shrink;
 use crate::zero_piece::ZeroPiece;
-use rbd_kinds::{
-    Answer, Event, Fed, HeaderView, ImageAt, ImageId, NoMemory, Op, OpKind, Reply, SiteId, Turn,
-    Want,
-};
+use rbd_kinds::{Answer, HeaderView, ImageAt, ImageId, NoMemory, Op, OpKind, SiteId, Want};
 use rbd_layout::objects;
-use rbd_machine::{Machine, Progress, Reason, refusal_of, told_done};
+use rbd_machine::{Progress, refusal_of, told_done};
 use std::alloc::Global;
 use std::collections::VecDeque;
 
@@ -202,47 +198,4 @@ fn first_stage(header: &HeaderView, to: u64) -> Result<Stage, NoMemory>
         return Ok(Stage::Growing { objects, to });
     }
     Ok(Stage::Looking(Shrink::new(header, to)?))
-}
-
-impl Machine for Size {
-    ghost stands = { λ s. without_labels (rest_of_size s (Return Done)) };
-
-    ghost is_ready = { of_size.IsReady };
-
-    fn wants(&self) -> Want {
-        Size::wants(self)
-    }
-
-    fn next(&self, alloc: Global) -> Result<Op, NoMemory> {
-        Size::next(self, alloc)
-    }
-
-    #[tactic(auto, using(crate::proofs::Sizes::asks_by_itself))]
-    fn reason(&self) -> Reason {
-        Reason::Own
-    }
-
-    #[tactic(auto, using(crate::proofs::Sizes::notes_nothing))]
-    fn event(&self, _alloc: Global) -> Result<Option<Event>, NoMemory> {
-        Ok(None)
-    }
-
-    fn ready(&mut self, alloc: Global, fed: &Fed) -> Result<(), NoMemory> {
-        let Fed::Answer(answer) = fed else {
-            return Ok(());
-        };
-        Size::ready(self, alloc, answer)
-    }
-
-    #[tactic(auto, using(crate::proofs::Tells::size_tells, crate::proofs::Sizes::is_answered))]
-    fn feed(&mut self, fed: &Fed) -> Turn {
-        let Fed::Answer(answer) = fed else {
-            unreachable!()
-        };
-        match Size::feed(self, answer) {
-            Progress::More => Turn::More,
-            Progress::Ended(()) => Turn::Done(Reply::Done),
-            Progress::Refused(refusal) => Turn::Done(Reply::Refused(refusal)),
-        }
-    }
 }

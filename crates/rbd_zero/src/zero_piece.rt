@@ -1,13 +1,12 @@
 //! One piece that becomes zeros.
 ghost use Rattle.std.specs.Prelude.{◌≡◌, IfOk};
 ghost use Rattle.rbd_kinds.specs.declared.machine.Fed.TheVariants as fed_with;
-ghost use Rattle.rbd_kinds.specs.declared.reply.Reply.TheVariants.{Done};
 ghost use Rattle.rbd_kinds.specs.declared.answer.Answer.TheVariants as of_answer;
 ghost use Rattle.rbd_kinds.specs.declared.machine.Want.TheVariants as want;
 ghost use Rattle.rbd_kinds.specs.declared.operation.Op.TheVariants as op_of;
 ghost use Rattle.rbd_kinds.specs.Form.{IsHeaderInForm};
 ghost use Rattle.rbd_header.specs.Header as of_header;
-ghost use Rattle.rbd_machine.specs.Plan.{Plan, Return, Wants, Asks, plan_after, without_labels};
+ghost use Rattle.rbd_machine.specs.Plan.{Plan, Wants, Asks, plan_after};
 ghost use Rattle.rbd_machine.specs.Steps.{Progresses, TellsDone};
 ghost use Rattle.rbd_zero.specs.Operations as operations;
 ghost use Rattle.rbd_zero.specs.Zero as of_zero;
@@ -19,11 +18,10 @@ use crate::operations::map_set;
 use crate::whole::{is_inside, is_whole};
 use rbd_header::context_of;
 use rbd_kinds::{
-    Answer, DataOp, Event, Fed, HeaderView, ImageId, NoMemory, Op, OpKind, Reply, SiteId,
-    SnapContext, TryClone, Turn, Want,
+    Answer, DataOp, HeaderView, ImageId, NoMemory, Op, OpKind, SiteId, SnapContext, TryClone, Want,
 };
 use rbd_layout::Piece;
-use rbd_machine::{Machine, Progress, Reason, told_done};
+use rbd_machine::{Progress, told_done};
 use std::alloc::Global;
 
 /// One piece of an image that becomes zeros: the bytes of its parts, which lie in one object.
@@ -276,43 +274,5 @@ fn kind_at(stage: Stage) -> OpKind
         Stage::Marking => OpKind::MapSet,
         Stage::Removing => OpKind::DataRemove,
         Stage::Lowering => OpKind::MapSet,
-    }
-}
-
-impl Machine for ZeroPiece {
-    ghost stands = { λ z. without_labels (rest_of_zero z (Return Done)) };
-
-    ghost is_ready = { λ z answer. Unit {0} };
-
-    fn wants(&self) -> Want {
-        ZeroPiece::wants(self)
-    }
-
-    fn next(&self, alloc: Global) -> Result<Op, NoMemory> {
-        ZeroPiece::next(self, alloc)
-    }
-
-    fn reason(&self) -> Reason {
-        Reason::Own
-    }
-
-    fn event(&self, _alloc: Global) -> Result<Option<Event>, NoMemory> {
-        Ok(None)
-    }
-
-    fn ready(&mut self, _alloc: Global, _fed: &Fed) -> Result<(), NoMemory> {
-        Ok(())
-    }
-
-    #[tactic(auto, using(crate::proofs::Tells::zero_tells))]
-    fn feed(&mut self, fed: &Fed) -> Turn {
-        let Fed::Answer(answer) = fed else {
-            unreachable!()
-        };
-        match ZeroPiece::feed(self, answer) {
-            Progress::More => Turn::More,
-            Progress::Ended(()) => Turn::Done(Reply::Done),
-            Progress::Refused(refusal) => Turn::Done(Reply::Refused(refusal)),
-        }
     }
 }

@@ -12,6 +12,7 @@
 //! | `words` | operations, and what else a machine wants, in words |
 //! | `replies` | replies in words |
 //! | `drive` | what takes a machine from step to step, whoever answers it |
+//! | `alone` | a part of a request as a machine |
 //! | `rows` | rows of a text that answer a machine |
 //! | `scene` | what answers a machine by looks, and writes down what it wants |
 //! | `slots` | what has requests in slots, a session or a client |
@@ -19,6 +20,7 @@
 //! | `player` | a text of cases, each of rows one after another, whoever plays them |
 //! | `errors` | why a row, or a text of rows, isn't so |
 //! | `text` | words and numbers of a row |
+mod alone;
 mod answers;
 mod cases;
 mod commands;
@@ -36,7 +38,8 @@ mod slots;
 mod text;
 mod words;
 
-pub use commands::{asked, fill_length, hello, name, payload, read_length, work};
+pub use alone::Alone;
+pub use commands::{asked, fill_length, hello, name, payload, read_length, served};
 pub use drive::{Answers, Played, play};
 pub use errors::{CaseError, RowError};
 pub use giving::can_give;

@@ -1,7 +1,7 @@
 //! Tests of the parts of requests that zero or replace an object, or set a size, through the public
 //! calls of `rbd_zero`: tables of images and extents against the operations that are done, in
 //! order. They were worked out by hand, from the rules in words.
-use crate::fixtures::{IMAGE, Played, Scene, bytes, header, holds, number, play};
+use crate::fixtures::{Alone, IMAGE, Played, Scene, bytes, header, holds, number, play};
 use rbd_kinds::{Bytes, Extent, HeaderView, NoMemory, SiteId};
 use rbd_layout::{Piece, keeps_limits, pieces, place};
 use rbd_machine::Machine;
@@ -60,8 +60,8 @@ fn zeros_into(
     if !is_of_head(header, &piece) {
         return Ok(false);
     }
-    let mut zeros = ZeroPiece::new(alloc, SiteId::A, IMAGE, header, piece)?;
-    is_done(alloc, &mut zeros, scene)
+    let part = ZeroPiece::new(alloc, SiteId::A, IMAGE, header, piece)?;
+    is_done(alloc, &mut Alone { part }, scene)
 }
 
 /// The operations that zero an extent, of an image by a row: its size, its overlap, and where the
@@ -119,8 +119,8 @@ fn full_into(
     if !is_of_head(header, &piece) || !is_whole(alloc, header, &piece)? {
         return Ok(false);
     }
-    let mut full = FullPiece::new(alloc, SiteId::A, IMAGE, header, piece, bytes)?;
-    is_done(alloc, &mut full, scene)
+    let part = FullPiece::new(alloc, SiteId::A, IMAGE, header, piece, bytes)?;
+    is_done(alloc, &mut Alone { part }, scene)
 }
 
 /// The operations that replace each object of an image by a row: its size, its overlap, and the
@@ -187,8 +187,8 @@ fn resize(
     if !keeps_limits(&header.layout, to) {
         return Ok(false);
     }
-    let mut size = Size::new(alloc, SiteId::A, IMAGE, header, to)?;
-    is_done(alloc, &mut size, scene)
+    let part = Size::new(alloc, SiteId::A, IMAGE, header, to)?;
+    is_done(alloc, &mut Alone { part }, scene)
 }
 
 const RESIZED: &str = "\

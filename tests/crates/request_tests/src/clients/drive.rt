@@ -16,9 +16,8 @@
 //! at before it is fed: nothing proves that the rows of a test keep to that.
 use super::notices::{hears, was_told};
 use super::operations::is_operation;
-use crate::fixtures::{ME, Slots, can_give, number, work};
+use crate::fixtures::{ME, Slots, can_give, number, served};
 use rbd_client::Client;
-use rbd_close::CloseRequest;
 use rbd_kinds::{
     Answer, Command, Fed, HeaderOp, ImageAt, ImageId, Instance, NoMemory, Op, Reply, SiteId, Slot,
     Turn,
@@ -31,9 +30,8 @@ pub const OWNS: &str =
     "1 takes write-0, dir-find id-7, header-get header, watch done, lock-take done, header-get header
 1 map-set done, data-write done done";
 
-/// Who has requests of all commands. No machine is brought, so any type may stand where its type
-/// would.
-type Inner = Client<SessionRequest<CloseRequest>>;
+/// Who has requests of all commands.
+type Inner = Client<SessionRequest>;
 
 /// What plays rows.
 #[derive(Drop)]
@@ -56,8 +54,8 @@ fn submit(alloc: Global, client: &mut Inner, command: Command) -> Result<Option<
         return Ok(None);
     };
     let quiescing = command.quiescing();
-    match work(command) {
-        Some(work) => Ok(Some(client.submit(alloc, u32::from(line), work, quiescing)?)),
+    match served(command) {
+        Some(command) => Ok(Some(client.submit(alloc, u32::from(line), command, quiescing)?)),
         None => Ok(None),
     }
 }

@@ -5,7 +5,7 @@
 use super::asked::table_holds;
 use crate::fixtures::{IMAGE, OWNER};
 use rbd_kinds::{Answer, HeaderOp, Op};
-use rbd_owner::owns_lock_after;
+use rbd_locks::owns_lock_after;
 
 const ROWS: &str = "\
 release|owned|done waits 0|lock-drop: done, notify ReleasedLock: done
@@ -34,7 +34,7 @@ fn owns(owned: bool, op: HeaderOp, answer: Answer) -> bool {
 }
 
 #[test]
-fn a_lock_is_counted_from_its_take_to_its_drop(rt: HostRuntime) {
+fn a_lock_is_counted_from_its_take_to_its_end(rt: HostRuntime) {
     assert!(rt; owns(false, HeaderOp::LockTake, Answer::Done));
     assert!(rt; !owns(false, HeaderOp::LockTake, Answer::Held(OWNER)));
     assert!(rt; !owns(false, HeaderOp::Get, Answer::Done));
@@ -43,4 +43,6 @@ fn a_lock_is_counted_from_its_take_to_its_drop(rt: HostRuntime) {
     assert!(rt; !owns(true, HeaderOp::LockDrop, Answer::Changed));
     assert!(rt; !owns(true, HeaderOp::LockDrop, Answer::Absent));
     assert!(rt; !owns(true, HeaderOp::LockDrop, Answer::Fenced));
+    assert!(rt; !owns(true, HeaderOp::Remove, Answer::Done));
+    assert!(rt; owns(true, HeaderOp::Remove, Answer::Changed));
 }

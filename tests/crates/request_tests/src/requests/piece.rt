@@ -1,7 +1,7 @@
 //! A piece of a write and the pieces of a view, to their end and to a refusal. What they have to
 //! want was worked out from their diagrams.
 use super::commands::first_row;
-use crate::fixtures::{IMAGE, header, holds, plays};
+use crate::fixtures::{Alone, IMAGE, header, holds, plays};
 use rbd_header::context_of;
 use rbd_kinds::{
     Answer, Bytes, NoMemory, OpKind, Part, Parts, Refusal, SiteId, SnapContext, SnapId, Want,
@@ -44,10 +44,11 @@ fn piece_in(alloc: Global, context: SnapContext) -> Result<WritePiece, NoMemory>
 
 /// Whether the piece wants these rows.
 fn writes(alloc: Global, rows: &str) -> Result<bool, NoMemory> {
-    let Some(mut write) = write_piece(alloc)? else {
+    let Some(part) = write_piece(alloc)? else {
         return Ok(false);
     };
-    let is_third = write.object() == 3;
+    let is_third = part.object() == 3;
+    let mut write = Alone { part };
     let played = plays(alloc, &mut write, rows);
     drop(write);
     Ok(is_third && played?)
@@ -112,33 +113,36 @@ fn a_write_where_nothing_is_there_is_no_image(rt: HostRuntime) {
 // ---- the pieces of a view
 
 /// Three bytes of object 1, and then two of object 4, at a snapshot.
-fn two_pieces(alloc: Global) -> Result<Gather, NoMemory> {
+fn two_pieces(alloc: Global) -> Result<Alone<Gather>, NoMemory> {
     let mut pieces = Vec::new(alloc);
     let second = piece(alloc, 4, 2)?;
     pieces.push(piece(alloc, 1, 3)?)?;
     pieces.push(second)?;
-    Ok(Gather::new(alloc, SiteId::B, IMAGE, Some(SnapId(1)), pieces))
+    let part = Gather::new(alloc, SiteId::B, IMAGE, Some(SnapId(1)), pieces);
+    Ok(Alone { part })
 }
 
 /// Three bytes of object 1, at the head.
-fn one_piece(alloc: Global) -> Result<Gather, NoMemory> {
+fn one_piece(alloc: Global) -> Result<Alone<Gather>, NoMemory> {
     let mut pieces = Vec::new(alloc);
     pieces.push(piece(alloc, 1, 3)?)?;
-    Ok(Gather::new(alloc, SiteId::B, IMAGE, None, pieces))
+    let part = Gather::new(alloc, SiteId::B, IMAGE, None, pieces);
+    Ok(Alone { part })
 }
 
 /// Whether the pieces want these rows, and then have these bytes, which are taken out of them.
 fn gathers(
     alloc: Global,
-    gather: &mut Gather,
+    gather: &mut Alone<Gather>,
     rows: &str,
     expected: &[u8],
 ) -> Result<bool, NoMemory> {
     if !plays(alloc, gather, rows)? {
         return Ok(false);
     }
-    let shown = gather.bytes() == expected;
-    Ok(shown && gather.take_bytes().as_slice() == expected && gather.bytes().is_empty())
+    let part = &mut gather.part;
+    let shown = part.bytes() == expected;
+    Ok(shown && part.take_bytes().as_slice() == expected && part.bytes().is_empty())
 }
 
 const ABSENT: &str = "at-b data-read 1 snap 1 at 0 3 of 0 => bytes abc

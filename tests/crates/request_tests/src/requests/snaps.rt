@@ -1,64 +1,15 @@
 //! A snapshot is taken, and one removed, by the parts of a request that come behind its event: each
 //! as a request of its own, to its end. What it has to want was worked out from its diagram.
-use crate::fixtures::{IMAGE, header, holds, plays};
+use crate::fixtures::{Alone, IMAGE, header, holds, plays};
 use rbd_admin::{RemoveSnap, TakeSnap};
 use rbd_header::is_full;
-use rbd_kinds::{
-    Bytes, Event, Fed, HeaderView, Name, NoMemory, Op, Reply, SiteId, SnapView, Turn, Want,
-};
-use rbd_machine::{Machine, Progress, Reason};
+use rbd_kinds::{Bytes, HeaderView, Name, NoMemory, SiteId, SnapView};
 use std::alloc::Global;
 
 // ---- a snapshot is taken
 
-/// The taking of a snapshot, and nothing behind it.
-#[derive(Drop)]
-struct Taking {
-    part: TakeSnap,
-}
-
-impl Machine for Taking {
-    ghost stands = { ? };
-
-    ghost is_ready = { ? };
-
-    fn wants(&self) -> Want {
-        self.part.wants()
-    }
-
-    fn next(&self, _alloc: Global) -> Result<Op, NoMemory> {
-        self.part.next()
-    }
-
-    fn reason(&self) -> Reason {
-        Reason::Own
-    }
-
-    fn event(&self, _alloc: Global) -> Result<Option<Event>, NoMemory> {
-        Ok(None)
-    }
-
-    fn ready(&mut self, _alloc: Global, fed: &Fed) -> Result<(), NoMemory> {
-        match fed {
-            Fed::Answer(answer) => self.part.ready(answer),
-            Fed::Passed => Ok(()),
-        }
-    }
-
-    fn feed(&mut self, fed: &Fed) -> Turn {
-        let Fed::Answer(answer) = fed else {
-            unreachable!()
-        };
-        match self.part.feed(answer) {
-            Progress::More => Turn::More,
-            Progress::Ended(()) => Turn::Done(Reply::Done),
-            Progress::Refused(refusal) => Turn::Done(Reply::Refused(refusal)),
-        }
-    }
-}
-
 /// The taking of a snapshot of a name, by a header that has room for one.
-fn take_first(alloc: Global, header: &HeaderView) -> Result<Option<Taking>, NoMemory> {
+fn take_first(alloc: Global, header: &HeaderView) -> Result<Option<Alone<TakeSnap>>, NoMemory> {
     if is_full(header) {
         return Ok(None);
     }
@@ -66,7 +17,7 @@ fn take_first(alloc: Global, header: &HeaderView) -> Result<Option<Taking>, NoMe
         return Ok(None);
     };
     let part = TakeSnap::new(SiteId::A, IMAGE, header, name);
-    Ok(Some(Taking { part }))
+    Ok(Some(Alone { part }))
 }
 
 /// Whether it wants these rows.
@@ -101,49 +52,6 @@ fn a_snapshot_is_taken_behind_its_map(rt: HostRuntime) {
 
 // ---- a snapshot is removed
 
-/// The removal of a snapshot, and nothing behind it.
-#[derive(Drop)]
-struct Removing {
-    part: RemoveSnap,
-}
-
-impl Machine for Removing {
-    ghost stands = { ? };
-
-    ghost is_ready = { ? };
-
-    fn wants(&self) -> Want {
-        self.part.wants()
-    }
-
-    fn next(&self, _alloc: Global) -> Result<Op, NoMemory> {
-        self.part.next()
-    }
-
-    fn reason(&self) -> Reason {
-        Reason::Own
-    }
-
-    fn event(&self, _alloc: Global) -> Result<Option<Event>, NoMemory> {
-        Ok(None)
-    }
-
-    fn ready(&mut self, _alloc: Global, _fed: &Fed) -> Result<(), NoMemory> {
-        Ok(())
-    }
-
-    fn feed(&mut self, fed: &Fed) -> Turn {
-        let Fed::Answer(answer) = fed else {
-            unreachable!()
-        };
-        match self.part.feed(answer) {
-            Progress::More => Turn::More,
-            Progress::Ended(()) => Turn::Done(Reply::Done),
-            Progress::Refused(refusal) => Turn::Done(Reply::Refused(refusal)),
-        }
-    }
-}
-
 /// Whether the removal of a snapshot that a header lists wants these rows.
 fn goes(
     alloc: Global,
@@ -152,7 +60,7 @@ fn goes(
     rows: &str,
 ) -> Result<bool, NoMemory> {
     let part = RemoveSnap::new(SiteId::A, IMAGE, header, listed);
-    let mut removing = Removing { part };
+    let mut removing = Alone { part };
     let played = plays(alloc, &mut removing, rows);
     drop(removing);
     played

@@ -8,16 +8,14 @@
 //!
 //! Whether a request may go on, and wants an operation that can give an answer, is looked at before
 //! it is fed: nothing proves that the rows of a test keep to that.
-use crate::fixtures::{ME, Slots, can_give, number, work};
-use rbd_admin::CreateRequest;
+use crate::fixtures::{ME, Slots, can_give, number, served};
 use rbd_kinds::{Answer, Command, Fed, ImageAt, ImageId, NoMemory, Op, Reply, SiteId, Slot, Turn};
 use rbd_requests::SessionRequest;
 use rbd_session::Session;
 use std::alloc::Global;
 
-/// Who has requests of all commands. No machine is brought, so any type may stand where its type
-/// would.
-type Inner = Session<SessionRequest<CreateRequest>>;
+/// Who has requests of all commands.
+type Inner = Session<SessionRequest>;
 
 /// What plays rows.
 #[derive(Drop)]
@@ -31,8 +29,8 @@ fn submit(alloc: Global, session: &mut Inner, command: Command) -> Result<Option
         drop(command);
         return Ok(None);
     }
-    match work(command) {
-        Some(work) => Ok(Some(session.submit(alloc, 1, work)?)),
+    match served(command) {
+        Some(command) => Ok(Some(session.submit(alloc, 1, command)?)),
         None => Ok(None),
     }
 }
