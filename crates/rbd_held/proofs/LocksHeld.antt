@@ -51,7 +51,7 @@ abbrev pub owned_then : SiteId → SiteId → (image : ℕ) → Op → Answer �
 owned_then s t image (op.Header on o) a b = cond (is_at s on t image) (owns_after b (op.Header on o) a) b
 owned_then s t image o a b = b
 
-counted_since : (q : Quiescing) (look : Option ImageAt) (s t : SiteId) (o : Op) (a : Answer) (image : ℕ) (b : Bool)
+pub counted_since : (q : Quiescing) (look : Option ImageAt) (s t : SiteId) (o : Op) (a : Answer) (image : ℕ) (b : Bool)
     → owned_since t image b (comings_of q look s o (fed.Answer a)) ≡ owned_then s t image o a b
 counted_since q look s t (op.Header on o) a image b = quiet_rest q look s t (op.Header on o) a image (cond (is_at s on t image) (owns_after b (op.Header on o) a) b)
 counted_since q look s t o a image b = quiet_rest q look s t o a image b

@@ -66,10 +66,10 @@
 //!
 //! [`laws`] says, of whatever comes: that a lock counts as owned exactly from a `lock-take` that is
 //! done to the next answer of a `lock-drop` or `header-remove` that is done, by the operations of
-//! the session on that image alone (`owns_after`); that only a lock that counts as owned is asked
-//! for; how long an asking stays; and that other images stay as they were. That `next_asked` tells
-//! the least. And that two lists in order with the same images are one, so that the states of all
-//! images say which were asked for, and in which order.
+//! the session on that image alone (`owns_after`; in code [`owns_lock_after`]); that only a lock that
+//! counts as owned is asked for; how long an asking stays; and that other images stay as they were.
+//! That `next_asked` tells the least. And that two lists in order with the same images are one, so
+//! that the states of all images say which were asked for, and in which order.
 //!
 //! # Cost
 //!
@@ -92,5 +92,5 @@ mod lock_state;
 mod locks;
 mod noted;
 
-pub use lock_state::LockState;
+pub use lock_state::{LockState, owns_lock_after};
 pub use locks::Locks;

@@ -1,8 +1,9 @@
 //! What a session counts of the lock of one image.
 ghost use Rattle.std.specs.Prelude.{◌≡◌};
+ghost use Rattle.rbd_locks.specs.Comings.{owns_after};
 ghost use Rattle.rbd_locks.specs.States.{answered, blank, is_counted as counts, let_go, quieted, resumed};
 
-use rbd_kinds::{Answer, HeaderOp};
+use rbd_kinds::{Answer, HeaderOp, Op};
 
 /// What a session counts of the lock of an image at a site.
 #[derive(Clone, Copy, PartialEq, Eq)]
@@ -28,6 +29,23 @@ pub fn is_counted(op: &HeaderOp) -> bool
         HeaderOp::Watch => true,
         HeaderOp::Unwatch => true,
         _ => false,
+    }
+}
+
+/// Whether a session counts the lock of an image as its own behind one more operation of its own on
+/// that image: from a `lock-take` that is done up to the next answer of a `lock-drop`, whatever that
+/// is, or up to a `header-remove` that is done, with which the lock goes (own).
+pub fn owns_lock_after(owned: bool, op: &Op, answer: &Answer) -> bool
+    ensures { result ≡ owns_after owned op.now answer.now }
+{
+    let Op::Header { image: _, op } = op else {
+        return owned;
+    };
+    match (op, answer) {
+        (HeaderOp::LockTake, Answer::Done) => true,
+        (HeaderOp::LockDrop, _) => false,
+        (HeaderOp::Remove, Answer::Done) => false,
+        _ => owned,
     }
 }
 

@@ -74,10 +74,9 @@ pub fn changes_look_twice()
         → ((image : ℕ) (h : HeaderView) → IsBounded (act image h) n) → IsBounded (change site name sharing refuses act) (n + 3) }
 {}
 
-/// What a request doesn't own by a look of its own it may not change, whatever was told before: no
-/// bytes are written, cleared or replaced, no size is set, no snapshot is taken or removed, no name
-/// is freed and no header removed, before the look behind the lock. An object is removed with its
-/// image, or by who owns that.
+/// A request changes an image only after it read the header under the lock: before, no bytes are
+/// written, cleared or replaced, no size is set, no snapshot is taken or removed, no name is freed
+/// and no header removed. An object is removed with its image, or by who owns that.
 pub fn what_is_not_owned_is_left()
     ensures bytes { (k : Knowledge) (site : SiteId) (image number : ℕ) (context : SnapContext) (must : Bool) (parts : List Part) (bytes : List ℕ)
         → own_of k.owns site image ≡ None → Permits k site (Data image number (Write context must parts bytes)) → ⊥ }
@@ -113,9 +112,8 @@ pub fn the_own_look_decides()
         → Permits k site (Header image (SnapRemove snap)) → ⊥ }
 {}
 
-/// Maps come first: bytes are written, and an object emptied or replaced, behind the state of their
-/// object, a snapshot is taken behind its map, an image is made behind its own, and it grows behind
-/// a longer one. Only a state goes down behind its object.
+/// The object map is updated before the data, the snapshot, the image or the larger size that it
+/// covers. A state goes down only after its object is gone.
 pub fn maps_come_first()
     ensures bytes { (k : Knowledge) (site : SiteId) (image number : ℕ) (context : SnapContext) (must : Bool) (parts : List Part) (bytes : List ℕ)
         → is_raised None number (maps_of k.maps site image).raised ≡ false → Permits k site (Data image number (Write context must parts bytes)) → ⊥ }

@@ -2,11 +2,9 @@
 use Rattle.std.specs.Prelude.{Bool, true, false, List, [], ◌∷◌}
 use Rattle.rbd_kinds.specs.declared.answer.Answer.{Answer}
 use Rattle.rbd_kinds.specs.declared.answer.Answer.TheVariants as answer
-use Rattle.rbd_kinds.specs.declared.header_op.HeaderOp.TheVariants as header
-use Rattle.rbd_kinds.specs.declared.operation.Op.{Op}
-use Rattle.rbd_kinds.specs.declared.operation.Op.TheVariants as op
 use Rattle.rbd_kinds.specs.declared.operation_kind.OpKind.{OpKind}
 use Rattle.rbd_kinds.specs.declared.operation_kind.OpKind.TheVariants as kind
+use Rattle.rbd_locks.specs.Comings.{owns_after}
 use Rattle.rbd_machine.specs.Path.{Answered}
 use Rattle.rbd_machine.specs.declared.reason.Reason.{Reason}
 use Rattle.rbd_machine.specs.declared.reason.Reason.TheVariants as reason
@@ -28,13 +26,7 @@ is_waiting why k a = false
 
 -- ---- what a session counts
 
--- A lock is its own from a take that is done up to a drop, whatever the drop is answered.
-abbrev pub owns_after : (owned : Bool) → Op → Answer → Bool
-owns_after owned (op.Header image header.LockTake) answer.Done = true
-owns_after owned (op.Header image header.LockDrop) a = false
-owns_after owned o a = owned
-
--- behind steps that are all of one image
+-- whether it counts a lock as its own behind steps that are all of the lock's image
 abbrev pub owned_by : (owned : Bool) → List Answered → Bool
 owned_by owned [] = owned
 owned_by owned (s ∷ steps) = owned_by (owns_after owned s.op s.answer) steps

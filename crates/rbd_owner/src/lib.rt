@@ -58,8 +58,8 @@
 //! ```
 //!
 //! - Whatever its `lock-drop` is answered, the session doesn't count the lock as its own any more
-//!   ([`owns_lock_after`]): it was dropped, or is another's, or the image is gone, or nothing of
-//!   this instance counts there. Only a drop that was done is told of.
+//!   ([`owns_lock_after`](rbd_locks::owns_lock_after)): it was dropped, or is another's, or the
+//!   image is gone, or nothing of this instance counts there. Only a drop that was done is told of.
 //! - When a session may let go is its own rule: it was asked, and none of its requests of this
 //!   image is on its way. What a new owner does of the journal's events comes behind this way, and
 //!   is no part of it.
@@ -116,4 +116,4 @@ mod waiting;
 
 pub use acquire::{Acquire, Stage};
 pub use release::Release;
-pub use waiting::{is_waiting, owns_lock_after};
+pub use waiting::is_waiting;

@@ -1,8 +1,8 @@
-//! Which steps ask again, and whether a session counts a lock as its own.
+//! Which steps ask again.
 ghost use Rattle.std.specs.Prelude.{◌≡◌};
-ghost use Rattle.rbd_owner.specs.Waiting.{asks_again, is_waiting as waits, owns_after};
+ghost use Rattle.rbd_owner.specs.Waiting.{asks_again, is_waiting as waits};
 
-use rbd_kinds::{Answer, HeaderOp, Op, OpKind};
+use rbd_kinds::{Answer, OpKind};
 use rbd_machine::Reason;
 
 /// Whether a step is marked as waiting: on its way to a lock a request was told that the lock is
@@ -25,21 +25,5 @@ fn asks_again(kind: OpKind, answer: &Answer) -> bool
         (OpKind::WatchersGet, Answer::Instances(_)) => true,
         (OpKind::Notify, Answer::Done) => true,
         _ => false,
-    }
-}
-
-/// Whether a session counts the lock of an image as its own behind one more operation of its own on
-/// that image: from a `lock-take` that is done up to a `lock-drop`, whatever that is answered
-/// (own).
-pub fn owns_lock_after(owned: bool, op: &Op, answer: &Answer) -> bool
-    ensures { result ≡ owns_after owned op.now answer.now }
-{
-    let Op::Header { image: _, op } = op else {
-        return owned;
-    };
-    match (op, answer) {
-        (HeaderOp::LockTake, Answer::Done) => true,
-        (HeaderOp::LockDrop, _) => false,
-        _ => owned,
     }
 }
