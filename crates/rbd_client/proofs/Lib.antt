@@ -7,3 +7,5 @@ pub mod OnWay
 pub mod Calls
 pub mod Wanted
 pub mod Follows
+pub mod SeenSession
+pub mod SeenClient

@@ -3,3 +3,4 @@ pub mod Actor
 pub mod Feeding
 pub mod Sound
 pub mod Laws
+pub mod Seen

@@ -200,8 +200,7 @@ impl<R: Request> Client<R> {
         )
     }
 
-    /// The operation that is wanted at a slot by who acts there, and its site: `None` as by
-    /// [`Client::kind`].
+    /// The next operation of a slot, and its site: `None` as by [`Client::kind`].
     pub fn next(
         &self,
         alloc: Global,

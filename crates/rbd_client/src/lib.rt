@@ -2,7 +2,7 @@
 //! (`rbd_locks`), and the ways by which it takes them and lets them go (`rbd_owner`).
 //!
 //! ```text
-//! let mut client: Client<SessionRequest<Follower>> = Client::new(alloc, c1, SiteId::A)?;
+//! let mut client: Client<SessionRequest> = Client::new(alloc, c1, SiteId::A)?;
 //! let one = client.submit(alloc, 3, write, Quiescing::Leaves)?;  // slot 1
 //! ..                              // dir-find, header-get: it waits for its look under the lock
 //! client.kind(one)                          // site A, watch: the lock isn't this client's yet
@@ -69,6 +69,7 @@
 //! | `specs/Feeding.antt` | what is ready before an answer (`IsReadiedFor`), and what it comes to by who acted (`IsFedBy`) |
 //! | `specs/Sound.antt` | what holds of each client |
 //! | `specs/Laws.antt` | what the laws speak of |
+//! | `specs/Seen.antt` | a client as its plans tell it (`seen`): each slot holds where its request stands, in place of the machine. What is said of a client by its machines is so of it as seen (`proofs/SeenClient.antt`), so crates above needn't know a machine |
 //!
 //! [`laws`] says that nobody is asked for a look under the lock without the lock, that a lock lasts
 //! while a request relies on it, that a quiesced image and a wanted lock hold requests back, and

@@ -16,7 +16,7 @@ pub fn blank_slots(alloc: Global) -> Result<Vec<SlotState>, NoMemory>
     Ok(slots)
 }
 
-/// What is kept of a slot: nothing of one that is no slot.
+/// The state of a slot; blank above 64.
 pub fn state_of(slots: &[SlotState], slot: Slot) -> SlotState
     ensures { result ≡ state_in slot slots.now }
 {

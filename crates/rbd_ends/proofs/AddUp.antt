@@ -398,6 +398,6 @@ pub play_adds_up : {R : Type 0} (stands : R → Standing) (script : Script) (w :
 play_adds_up stands script w in_order play =
     let begun = kept_by_parts stands (BeginsGiven stands script.lines) (given_by_event stands script.lines) script (given_by_start stands script.lines) play.first w play.plays
     (λ line begun. absurd (false≢true (sym (ap (is_begun line) play.new.history) ∙ begun))) in
-    subst (AddUp script.lines) (sym play.sound.history)
-    (run_adds play.sound.homes (commands_of script.lines) (ascending 0 script.lines in_order) play.sound.run play.sound.right
-    (λ line is. begun line (ap (is_begun line) play.sound.history ∙ is)))
+    subst (AddUp script.lines) (sym play.told.history)
+    (run_adds play.told.homes (commands_of script.lines) (ascending 0 script.lines in_order) play.told.run play.told.right
+    (λ line is. begun line (ap (is_begun line) play.told.history ∙ is)))

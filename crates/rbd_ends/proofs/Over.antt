@@ -16,24 +16,28 @@ use Rattle.rbd_script.specs.declared.script.Said.TheVariants as said
 use Rattle.rbd_script.specs.declared.script.Script.{Script}
 use Rattle.rbd_session.specs.Session.{held_in, running_in}
 use Rattle.rbd_session.specs.declared.running.Running.{Running}
-use Rattle.rbd_session.proofs.Sound.{held_range}
+use Rattle.rbd_world.specs.declared.event.Event.{Event}
 use Rattle.rbd_world.specs.declared.event.Event.TheVariants as event
-use Rattle.rbd_world.specs.Step.{is_begun}
+use Rattle.rbd_world.specs.declared.event.Outcome.{Outcome}
+use Rattle.rbd_world.specs.Step.{IsStep, is_begun}
 use Rattle.rbd_world.specs.World.{LivesView, WorldView, client_in, lives_in, running_of}
+use Rattle.rbd_world.proofs.Beginning.{new_world_is_sound}
 use Rattle.rbd_schedule.specs.declared.given.Given.{Given}
-use Rattle.rbd_schedule.specs.Ends.{AreOver, IsLockedOut, SomebodyIsHeldUp}
+use Rattle.rbd_schedule.specs.Ends.{AreOver, HasCalmed, IsLockedOut, SomebodyIsHeldUp}
 use Rattle.rbd_schedule.specs.Given.{commands_of, given_by, given_in, is_lost_by, of_session}
 use Rattle.rbd_schedule.specs.InOrder.{AreDeclared, NamesDeclared}
 use Rattle.rbd_schedule.specs.Notices.{runs}
 use Rattle.rbd_schedule.specs.Playing.{IsPlay, IsPlayable}
 use Rattle.rbd_schedule.specs.Schedule.{Calm, Pace, Submits, most_idle}
+use Rattle.rbd_schedule.specs.Slots.{AreCounted}
 use Rattle.rbd_schedule.specs.Starts.{is_ended}
-use Rattle.rbd_schedule.proofs.Calmed.{IsAtRest, IsLastRound, last_round, plays_rest, runs_below, sessions_there}
+use Rattle.rbd_schedule.proofs.Calmed.{IsAtRest, IsLastRound, last_round, runs_below, sessions_there}
 use Rattle.rbd_schedule.proofs.Counted.{ends_idle}
 use Rattle.rbd_schedule.proofs.Ended.{holds_turns, none_still}
 use Rattle.rbd_schedule.proofs.Entries.{start_is_earliest}
-use Rattle.rbd_schedule.proofs.Kept.{MayComeBy, kept_by_deeds, kept_by_lines, kept_by_rounds, kept_to_closing}
+use Rattle.rbd_schedule.proofs.Kept.{MayComeBy, ends_counted, kept_by_deeds, kept_by_lines, kept_by_rounds, kept_to_closing}
 use Rattle.rbd_schedule.proofs.Goes.{earliest_is_given}
+use Rattle.rbd_schedule.proofs.Slots.{counted_range, world_counted}
 use Rattle.rbd_ends.specs.OneChanger.{AreAllReplied, HasOneChanger, LeavesChangesTo, is_replied}
 use Rattle.rbd_ends.proofs.Counts.{IsFree}
 use Rattle.rbd_ends.proofs.Idling.{ActsItself, idle_acts, idle_keeps, polls_act}
@@ -156,19 +160,25 @@ module _ {R : Type 0} (stands : R → Standing) (script : Script) (w : WorldView
       (start_is_earliest (given_in lines session) old session submits.command submits.may) in
       step_keeps stands changer submits.command.submission submits.result old new begins submits.step was
 
+  event_keeps : (e : Event) (result : Outcome) (old new : WorldView R) → MayCome changer e → IsStep stands e old result new → AreCounted new → Unhindered old → Unhindered new
+  event_keeps e result old new may step counted was = step_keeps stands changer e result old new may step was
+
   at_closing : Unhindered play.plays.between
   at_closing =
-      kept_to_closing stands Unhindered (MayCome changer) (λ session slot. tt) (λ number. tt) (step_keeps stands changer) script may start play.first w play.plays (begins_unhindered stands changer play.first play.new)
+      kept_to_closing stands Unhindered (MayCome changer) (λ session slot. tt) (λ number. tt) event_keeps script may start play.first w play.plays (begins_unhindered stands changer play.first play.new)
 
   at_end : Unhindered w
   at_end =
-      kept_by_lines stands Unhindered (MayCome changer) (λ session slot. tt) (λ number. tt) (step_keeps stands changer) script may start play.first w play.plays (begins_unhindered stands changer play.first play.new)
+      kept_by_lines stands Unhindered (MayCome changer) (λ session slot. tt) (λ number. tt) event_keeps script may start play.first w play.plays (begins_unhindered stands changer play.first play.new)
 
   at_last : (last : IsLastRound stands given lost count (record { world = play.plays.between; idle = 0 }) w) → Unhindered last.before.world
   at_last last =
       kept_by_deeds (λ (c : Calm R). Unhindered c.world) _
-      (λ k old new rounds was. kept_by_rounds stands Unhindered (MayCome changer) (λ session slot. tt) (λ number. tt) (step_keeps stands changer) given (start script.lines [] (sym (append-nil script.lines))) lost count k old new rounds was)
+      (λ k old new rounds was. kept_by_rounds stands Unhindered (MayCome changer) (λ session slot. tt) (λ number. tt) event_keeps given (start script.lines [] (sym (append-nil script.lines))) lost count k old new rounds was)
       last.count (record { world = play.plays.between; idle = 0 }) last.before last.first at_closing
+
+  counted : AreCounted w
+  counted = ends_counted stands script play.first w play.plays (world_counted stands play.first (new_world_is_sound stands play.first play.new))
 
   -- ---- nobody is held up
 
@@ -203,7 +213,7 @@ module _ {R : Type 0} (stands : R → Standing) (script : Script) (w : WorldView
               let each = holds_turns stands given (IsUnhindered stands one.changer) (idle_keeps stands one.changer) (ActsItself stands) (idle_acts stands one.changer)
               (polls_act stands one.changer) (λ slot c free r runs. absurd (none-some r (sym (ap running_in free) ∙ runs)))
               lost count (record { world = last.before.world; went_on = false }) (record { world = w; went_on = false }) last.round refl quiet (at_last last) up.session below in
-              let range = held_range stands up.client.session (play.sound.clients up.session up.client up.runs).sound.session up.slot _ (running_held (held_in up.slot up.client.session.slots) up.held.request up.held.runs) in
+              let range = counted_range up.client (counted up.session up.client up.runs) up.slot _ (running_held (held_in up.slot up.client.session.slots) up.held.request up.held.runs) in
               locked_out up.client up.slot up.held.request up.held.image ((at_end.tame up.session up.client up.runs).locks up.held.image.site up.held.image.image) (actor_at stands up.slot up.client)
               (acts up.slot range.0 range.1 each up.held.request up.held.runs) up.held.out
           go (inr none) =
@@ -225,8 +235,8 @@ module _ {R : Type 0} (stands : R → Standing) (script : Script) (w : WorldView
       (by_session (λ (c : Given). is_ended c.line w.history ≡ true) (λ s. s < count) (commands_of script.lines) (λ s below. over.given s (running_there s below))
       (commands_declared count script.lines playable.declared))
 
-  pub changes_are_over : length w.calls < 2 ^ 59 → AreOver script w × AreAllReplied script w
-  changes_are_over few = by (plays_rest stands script w play few).all
+  pub changes_are_over : HasCalmed stands script w → length w.calls < 2 ^ 59 → AreOver script w × AreAllReplied script w
+  changes_are_over calmed few = by calmed.all
     where
       by : AreOver script w ⊎ SomebodyIsHeldUp stands lost w → AreOver script w × AreAllReplied script w
       by (inl over) = (over, all_replied over)

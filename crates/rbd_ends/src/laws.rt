@@ -1,28 +1,29 @@
 //! How many commands have a reply at the end of a play, and how a play ends in which nobody has to
 //! wait for a lock: each law is the contract of a function that does nothing.
 ghost use Rattle.std.specs.Prelude.{◌<◌, ◌^◌, length};
+ghost use Rattle.rbd_client.specs.Seen.{as_is};
 ghost use Rattle.rbd_ends.specs.AddUp.{AddUp};
 ghost use Rattle.rbd_ends.specs.OneChanger.{AreAllReplied, HasOneChanger};
-ghost use Rattle.rbd_schedule.specs.Ends.{AreOver};
+ghost use Rattle.rbd_machine.specs.Plan.{Standing};
+ghost use Rattle.rbd_schedule.specs.Ends.{AreOver, HasCalmed};
 ghost use Rattle.rbd_schedule.specs.InOrder.{AreInOrder};
 ghost use Rattle.rbd_schedule.specs.Playing.{IsPlay, IsPlayable};
 ghost use Rattle.rbd_script.specs.declared.script.Script.{Script};
 ghost use Rattle.rbd_world.specs.World.{WorldView};
 
-use rbd_course::Request;
-
 /// Where one session alone has commands that take locks, no image is quiesced and no session is
 /// stopped, nobody is held up at a lock: at the end of a play each command of the script has its
-/// reply. (A world in memory has had fewer than `2^59` events: `play` of `rbd_schedule` tells so.)
-pub fn plays_of_one_changer_are_over<R: Request>()
-    ensures { (script : Script) (w : WorldView R) → IsPlayable script → HasOneChanger script → IsPlay R.stands script w
-        → length w.calls < 2 ^ 59 → AreOver script w × AreAllReplied script w }
+/// reply. (`play` of `rbd_schedule` tells of its world that nothing goes on any more, and that it has
+/// had fewer than `2^59` events.)
+pub fn plays_of_one_changer_are_over()
+    ensures { (script : Script) (w : WorldView Standing) → IsPlayable script → HasOneChanger script → IsPlay as_is script w
+        → HasCalmed as_is script w → length w.calls < 2 ^ 59 → AreOver script w × AreAllReplied script w }
 {}
 
 /// In each play a command has one reply, or none, and each reply is one of a command of the script:
 /// so the commands are as many as the replies and the commands without one, together. The script's
 /// lines have to be in order, as those of each script that was read are: a history tells commands by
 /// their lines.
-pub fn commands_add_up<R: Request>()
-    ensures { (script : Script) (w : WorldView R) → AreInOrder script.lines → IsPlay R.stands script w → AddUp script.lines w.history }
+pub fn commands_add_up()
+    ensures { (script : Script) (w : WorldView Standing) → AreInOrder script.lines → IsPlay as_is script w → AddUp script.lines w.history }
 {}

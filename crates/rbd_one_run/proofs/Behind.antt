@@ -5,7 +5,6 @@ use Rattle.rbd_client.proofs.Alike.{actor_alike}
 use Rattle.rbd_client.specs.Actor.{actor_at}
 use Rattle.rbd_client.specs.Client.{ClientView, heard_with, newcomer, state_in}
 use Rattle.rbd_client.specs.Feeding.{IsClientAlike, IsFedBy}
-use Rattle.rbd_client.specs.Sound.{IsSoundClient}
 use Rattle.rbd_commands.specs.Quiescing.{quiescing_of}
 use Rattle.rbd_commands.specs.declared.command.Command.{Command}
 use Rattle.rbd_kinds.specs.declared.machine.Fed.TheVariants as fed
@@ -20,9 +19,10 @@ use Rattle.rbd_session.specs.Lines.{lines_of}
 use Rattle.rbd_session.specs.Session.{IsAlikeIn, IsNewcomer, SessionView, held_in, seat_of}
 use Rattle.rbd_world.specs.Run.{Operation}
 use Rattle.rbd_world.specs.Step.{AreSlotsBut, AreStatesBut, BeginsIn, Goes, Hears, IsSameClient, Serves}
+use Rattle.rbd_schedule.specs.Slots.{IsCounted}
 use Rattle.rbd_one_run.proofs.FedAlike.{EndsAlike, RunsOnWay, acts_alike}
 use Rattle.rbd_one_run.proofs.Newcomers.{newcomers_alike}
-use Rattle.rbd_one_run.proofs.Seen.{sound_and_alike}
+use Rattle.rbd_one_run.proofs.Seen.{counted_and_alike}
 
 module _ {R : Type 0} (stands : R → Standing) where
   -- nothing but a slot changes
@@ -31,7 +31,7 @@ module _ {R : Type 0} (stands : R → Standing) where
     pub states : AreStatesBut slot old new
     pub client : IsSameClient old.session new.session
 
-  module _ (c d x y : ClientView R) (alike : IsClientAlike stands c d) (sound : IsSoundClient stands x) (also : IsSoundClient stands y) where
+  module _ (c d x y : ClientView R) (alike : IsClientAlike stands c d) (counted : IsCounted x) (also : IsCounted y) where
     -- ---- one slot
 
     other_held : (slot : ℕ) → ChangesAt slot c x → ChangesAt slot d y → (other : ℕ) → other ≢ slot → IsAlikeIn stands (held_in other x.session.slots) (held_in other y.session.slots)
@@ -41,7 +41,7 @@ module _ {R : Type 0} (stands : R → Standing) where
 
     at_slot : (slot : ℕ) → ChangesAt slot c x → ChangesAt slot d y → y.heard ≡ x.heard → EndsAlike stands slot x y → IsClientAlike stands x y
     at_slot slot at there heard ends =
-        sound_and_alike stands x y sound also (
+        counted_and_alike stands x y counted also (
         record {
           instance = there.client.instance ∙ alike.session.instance ∙ sym at.client.instance;
           home = there.client.home ∙ alike.session.home ∙ sym at.client.home;
@@ -110,7 +110,7 @@ module _ {R : Type 0} (stands : R → Standing) where
           held = subst (λ o. IsAlikeIn stands o (held_in slot y.session.slots)) (sym is.held) other.held;
           lines = ap lines_of other.lines ∙ alike.session.lines ∙ sym (ap lines_of is.lines);
           locks = λ s image. ap (state_at s image) other.house.locks ∙ alike.locks s image ∙ sym (ap (state_at s image) is.house.locks);
-          state = also.free slot other.held ∙ sym (sound.free slot is.held);
+          state = also.free slot other.held ∙ sym (counted.free slot is.held);
           release = other.house.release ∙ alike.release ∙ sym is.house.release;
         }
         )
@@ -119,7 +119,7 @@ module _ {R : Type 0} (stands : R → Standing) where
 
     pub hears_alike : (notice : Notice) → Hears stands notice c x → Hears stands notice d y → IsClientAlike stands x y
     hears_alike notice is other =
-        sound_and_alike stands x y sound also (
+        counted_and_alike stands x y counted also (
         record {
           instance = ap (λ (s : SessionView R). s.instance) other.session ∙ alike.session.instance ∙ sym (ap (λ (s : SessionView R). s.instance) is.session);
           home = ap (λ (s : SessionView R). s.home) other.session ∙ alike.session.home ∙ sym (ap (λ (s : SessionView R). s.home) is.session);

@@ -12,7 +12,8 @@ use Rattle.rbd_machine.specs.Plan.{Standing}
 use Rattle.rbd_session.specs.Lines.{lines_of}
 use Rattle.rbd_session.specs.Session.{IsAlikeIn, held_in, running_in}
 use Rattle.rbd_world.specs.Step.{IsFresh}
-use Rattle.rbd_one_run.proofs.Seen.{sound_and_alike}
+use Rattle.rbd_schedule.proofs.Slots.{client_counted}
+use Rattle.rbd_one_run.proofs.Seen.{counted_and_alike}
 
 -- nobody is in a line in which no slot is
 nobody_in : (members : List Member) → ((slot : ℕ) → member_of slot members ≡ None) → members ≡ []
@@ -27,7 +28,7 @@ module _ {R : Type 0} (stands : R → Standing) where
 
   pub fresh_alike : (who : Instance) (home there : SiteId) (c d : ClientView R) → there ≡ home → IsFresh stands who home c → IsFresh stands who there d → IsClientAlike stands c d
   fresh_alike who home there c d same fresh also =
-      sound_and_alike stands c d fresh.sound also.sound (
+      counted_and_alike stands c d (client_counted stands c fresh.sound) (client_counted stands d also.sound) (
       record {
         instance = also.instance ∙ sym fresh.instance;
         home = also.at_home ∙ same ∙ sym fresh.at_home;

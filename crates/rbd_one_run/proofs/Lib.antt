@@ -10,8 +10,6 @@ pub mod Fresh
 pub mod Stepping
 pub mod TwinSteps
 pub mod NewTwins
-pub mod Served
-pub mod SoundTwins
 pub mod ReadAlike
 pub mod ScheduleLoops
 pub mod ScheduleLooks

@@ -11,14 +11,14 @@ use Rattle.rbd_script.specs.declared.script.Script.{Script}
 use Rattle.rbd_world.specs.declared.event.Event.{Event}
 use Rattle.rbd_world.specs.declared.event.Event.TheVariants as event
 use Rattle.rbd_world.specs.declared.event.Outcome.{Outcome}
-use Rattle.rbd_world.specs.Sound.{IsSoundWorld}
-use Rattle.rbd_world.specs.Step.{IsStep}
+use Rattle.rbd_world.specs.Step.{IsBuiltEvent, IsStep}
 use Rattle.rbd_world.specs.World.{WorldView}
 use Rattle.rbd_schedule.specs.declared.given.Given.{Given}
 use Rattle.rbd_schedule.specs.Deeds.{Deeds}
 use Rattle.rbd_schedule.specs.Given.{commands_of, given_in, is_lost_by}
 use Rattle.rbd_schedule.specs.Notices.{is_due, runs}
 use Rattle.rbd_schedule.specs.Schedule.{Calm, Comes, DeliversWhere, Happens, Pace, Plays, PlaysLine, PlaysScript, Polls, PollsAll, PollsBefore, PollsIn, PollsUntil, PollsWhere, Round, RoundsOn, Settles, Starts, StartsAll, Submits, Turn, TurnOf, TurnWhere, Wants, closing_rounds, goes_on, is_held, most_idle, most_polls}
+use Rattle.rbd_schedule.specs.Slots.{AreCounted}
 use Rattle.rbd_schedule.specs.Starts.{IsIdle, IsQuiet}
 use Rattle.rbd_one_run.proofs.ScheduleLooks.{LooksAlike}
 use Rattle.rbd_one_run.proofs.ScheduleLoops.{alike_behind, alike_behind_loops}
@@ -30,9 +30,9 @@ past_few : (most a b : ℕ) → a ≡ b → a ≡ most → b < most → ⊥
 past_few most a b same last few = omega (arith, same, last, few)
 
 -- `Twins` are worlds that show a schedule the same. A step of both by the same event leads to such
--- again, with the same outcome, where it leaves both sound.
+-- again, with the same outcome, where it leaves clients that are counted.
 module _ {R : Type 0} (stands : R → Standing) (Twins : (v w : WorldView R) → Type 0) (looks : (v w : WorldView R) → Twins v w → LooksAlike stands v w)
-    (steps : (e : Event) (a b : Outcome) (v w v' w' : WorldView R) → Twins v w → IsStep stands e v a v' → IsSoundWorld stands v' → IsStep stands e w b w' → IsSoundWorld stands w' → (a ≡ b) × Twins v' w') where
+    (steps : (e : Event) (v w v' w' : WorldView R) (a b : Outcome) → IsBuiltEvent e → Twins v w → IsStep stands e v a v' → IsStep stands e w b w' → AreCounted v' → AreCounted w' → (a ≡ b) × Twins v' w') where
   -- a world in a round, and one between two
   record TwinPaces (p q : Pace R) : Type 0 where
     world : Twins p.world q.world
@@ -65,8 +65,8 @@ module _ {R : Type 0} (stands : R → Standing) (Twins : (v w : WorldView R) →
     submitted_alike : (session : ℕ) (v w v' w' : WorldView R) → Twins v w → Submits stands given session v v' → Submits stands given session w w' → Twins v' w'
     submitted_alike session v w v' w' twins one other =
         let same : one.command ≡ other.command = same_Some one.command other.command (sym one.may ∙ (looks v w twins).starts (given session) session ∙ other.may) in
-        (steps one.command.submission one.result other.result v w v' w' twins one.step one.sound
-        (subst (λ (c : Given). IsStep stands c.submission w other.result w') (sym same) other.step) other.sound).1
+        (steps one.command.submission v w v' w' one.result other.result one.built twins one.step
+        (subst (λ (c : Given). IsStep stands c.submission w other.result w') (sym same) other.step) one.counted other.counted).1
 
     -- the command that starts next is of the same session
     started_alike : (k : ℕ) (v w v' w' : WorldView R) → Twins v w → Starts stands given v v' → Starts stands given w w' → Twins v' w'
@@ -88,19 +88,19 @@ module _ {R : Type 0} (stands : R → Standing) (Twins : (v w : WorldView R) →
 
     -- ---- events
 
-    come_alike : (e : Event) (a b : Outcome) (v w v' w' : WorldView R) → Twins v w → Comes stands given e a v v' → Comes stands given e b w w' → (a ≡ b) × Twins v' w'
-    come_alike e a b v w v' w' twins one other =
-        let it = steps e a b v w one.between other.between twins one.step one.sound other.step other.sound in
+    come_alike : (e : Event) (a b : Outcome) (v w v' w' : WorldView R) → IsBuiltEvent e → Twins v w → Comes stands given e a v v' → Comes stands given e b w w' → (a ≡ b) × Twins v' w'
+    come_alike e a b v w v' w' built twins one other =
+        let it = steps e v w one.between other.between a b built twins one.step other.step one.counted other.counted in
         (it.0, all_started_alike one.between other.between v' w' it.1 one.starts other.starts)
 
-    happened_alike : (e : Event) (v w v' w' : WorldView R) → Twins v w → Happens stands given e v v' → Happens stands given e w w' → Twins v' w'
-    happened_alike e v w v' w' twins one other = (come_alike e one.result other.result v w v' w' twins one.comes other.comes).1
+    happened_alike : (e : Event) (v w v' w' : WorldView R) → IsBuiltEvent e → Twins v w → Happens stands given e v v' → Happens stands given e w w' → Twins v' w'
+    happened_alike e v w v' w' built twins one other = (come_alike e one.result other.result v w v' w' built twins one.comes other.comes).1
 
     -- ---- polls
 
     polled_until_alike : (session slot : ℕ) (kind : OpKind) (v w v' w' : WorldView R) → Twins v w → PollsUntil stands given session slot kind v v' → PollsUntil stands given session slot kind w w' → Twins v' w'
     polled_until_alike session slot kind v w v' w' twins one other =
-        alike_behind_loops Twins (λ k. PollsBefore stands given session slot kind) (λ k a b a' b' alike x y. happened_alike (event.Poll session slot) a b a' b' alike x.polls y.polls)
+        alike_behind_loops Twins (λ k. PollsBefore stands given session slot kind) (λ k a b a' b' alike x y. happened_alike (event.Poll session slot) a b a' b' tt alike x.polls y.polls)
         (λ count. count ≤ most_polls) (λ count w. (count ≡ most_polls) ⊎ Wants stands session slot kind w)
         (λ k m a b a' alike less within ended polls. over k m a less within (λ wants. wants_here session slot kind a b alike wants) ended polls.not_yet)
         (λ k m a b b' alike less within ended polls. over k m b less within (λ wants. wants_there session slot kind a b alike wants) ended polls.not_yet)
@@ -113,7 +113,7 @@ module _ {R : Type 0} (stands : R → Standing) (Twins : (v w : WorldView R) →
 
     polled_in_alike : (session slot : ℕ) (p q p' q' : Pace R) → TwinPaces p q → PollsIn stands given session slot p p' → PollsIn stands given session slot q q' → TwinPaces p' q'
     polled_in_alike session slot p q p' q' twins one other =
-        let it = come_alike (event.Poll session slot) one.result other.result p.world q.world p'.world q'.world twins.world one.comes other.comes in
+        let it = come_alike (event.Poll session slot) one.result other.result p.world q.world p'.world q'.world tt twins.world one.comes other.comes in
         record {
           world = it.1;
           went_on = one.pace ∙ ap (λ b. b || goes_on one.result) twins.went_on ∙ ap (λ result. q.went_on || goes_on result) it.0 ∙ sym other.pace;
@@ -133,7 +133,7 @@ module _ {R : Type 0} (stands : R → Standing) (Twins : (v w : WorldView R) →
         64 one.point other.point p' q' points one.held other.held
 
     delivered_where_alike : (due : Bool) (number : ℕ) (v w v' w' : WorldView R) → Twins v w → DeliversWhere stands given due number v v' → DeliversWhere stands given due number w w' → Twins v' w'
-    delivered_where_alike true number v w v' w' twins one other = happened_alike (event.Deliver number) v w v' w' twins one other
+    delivered_where_alike true number v w v' w' twins one other = happened_alike (event.Deliver number) v w v' w' tt twins one other
     delivered_where_alike false number v w v' w' twins one other = subst (λ x. Twins x w') (sym one) (subst (λ y. Twins v y) (sym other) twins)
 
     -- ---- rounds
@@ -190,16 +190,16 @@ module _ {R : Type 0} (stands : R → Standing) (Twins : (v w : WorldView R) →
       line_alike : (sessions : ℕ) (s : Said) (v w v' w' : WorldView R) → Twins v w → Plays stands given lost sessions s v v' → Plays stands given lost sessions s w w' → Twins v' w'
       line_alike sessions (said.Command session beside command) v w v' w' twins one other = all_started_alike v w v' w' twins one other
       line_alike sessions (said.Poll session slot times) v w v' w' twins one other =
-          alike_behind Twins (λ k. Polls stands given session slot) (λ k. Polls stands given session slot) (λ k. happened_alike (event.Poll session slot)) times v w v' w' twins one other
+          alike_behind Twins (λ k. Polls stands given session slot) (λ k. Polls stands given session slot) (λ k a b a' b' alike x y. happened_alike (event.Poll session slot) a b a' b' tt alike x y) times v w v' w' twins one other
       line_alike sessions (said.Until session slot kind) v w v' w' twins one other = polled_until_alike session slot kind v w v' w' twins one other
       line_alike sessions (said.Settle rounds) v w v' w' twins one other = settled_alike sessions rounds v w v' w' twins one other
-      line_alike sessions (said.Deliver number) v w v' w' twins one other = happened_alike (event.Deliver number) v w v' w' twins one other
+      line_alike sessions (said.Deliver number) v w v' w' twins one other = happened_alike (event.Deliver number) v w v' w' tt twins one other
       line_alike sessions (said.Lose number) v w v' w' twins one other = subst (λ x. Twins x w') (sym one) (subst (λ y. Twins v y) (sym other) twins)
-      line_alike sessions (said.Expire session site image) v w v' w' twins one other = happened_alike (event.Expire session site image) v w v' w' twins one other
-      line_alike sessions (said.Stop session) v w v' w' twins one other = happened_alike (event.Stop session) v w v' w' twins one other
-      line_alike sessions (said.Restart session) v w v' w' twins one other = happened_alike (event.Restart session) v w v' w' twins one other
-      line_alike sessions (said.Late session slot) v w v' w' twins one other = happened_alike (event.Late session slot) v w v' w' twins one other
-      line_alike sessions (said.Trim site image object) v w v' w' twins one other = happened_alike (event.Trim site image object) v w v' w' twins one other
+      line_alike sessions (said.Expire session site image) v w v' w' twins one other = happened_alike (event.Expire session site image) v w v' w' tt twins one other
+      line_alike sessions (said.Stop session) v w v' w' twins one other = happened_alike (event.Stop session) v w v' w' tt twins one other
+      line_alike sessions (said.Restart session) v w v' w' twins one other = happened_alike (event.Restart session) v w v' w' tt twins one other
+      line_alike sessions (said.Late session slot) v w v' w' twins one other = happened_alike (event.Late session slot) v w v' w' tt twins one other
+      line_alike sessions (said.Trim site image object) v w v' w' twins one other = happened_alike (event.Trim site image object) v w v' w' tt twins one other
 
   -- ---- a script
 

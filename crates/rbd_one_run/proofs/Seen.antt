@@ -1,12 +1,11 @@
--- A sound client is told by what is seen of it: its lowest free slot by its slots, and the images
--- that it was asked for by the states of all images.
+-- A client that is counted is told by what is seen of it: its lowest free slot by its slots, and the
+-- images that it was asked for by the states of all images.
 use Rattle.std.proofs.Common.{◌≡◌, ◌<◌, ◌≤◌, ℕ, leb, Bool, true, false, List, length, Option, Some, None, is_some, refl, sym, ap, ◌∙◌, subst, le_antisymm}
 use Rattle.std.proofs.lemmas.Bool.{leb-false, leb-true, true≢false}
 use Rattle.std.proofs.lemmas.List.{ext_get_or}
 use Rattle.std.proofs.lemmas.Option.{none-some}
 use Rattle.rbd_client.specs.Client.{ClientView, blank, state_in}
 use Rattle.rbd_client.specs.Feeding.{AreStatesAlike, IsClientAlike}
-use Rattle.rbd_client.specs.Sound.{IsSoundClient}
 use Rattle.rbd_client.specs.declared.slot_state.SlotState.{SlotState}
 use Rattle.rbd_locks.proofs.OneOrder.{one_in_order}
 use Rattle.rbd_locks.specs.declared.lock_state.LockState.{LockState}
@@ -15,6 +14,7 @@ use Rattle.rbd_session.specs.Lines.{lines_of}
 use Rattle.rbd_session.specs.Session.{IsAlikeIn, IsLowest, held_in}
 use Rattle.rbd_session.specs.declared.running.Occupant.{Occupant}
 use Rattle.rbd_session.specs.declared.running.Occupant.TheVariants as occupant
+use Rattle.rbd_schedule.specs.Slots.{IsCounted}
 
 -- ---- the states of slots
 
@@ -65,20 +65,20 @@ module _ {R : Type 0} (stands : R → Standing) where
     pub release : new.release ≡ old.release
     pub heard : new.heard ≡ old.heard
 
-  pub sound_and_alike : (old new : ClientView R) → IsSoundClient stands old → IsSoundClient stands new → LooksLike old new → IsClientAlike stands old new
-  sound_and_alike old new sound also looks = record {
+  pub counted_and_alike : (old new : ClientView R) → IsCounted old → IsCounted new → LooksLike old new → IsClientAlike stands old new
+  counted_and_alike old new counted also looks = record {
     session = record {
       instance = looks.instance;
       home = looks.home;
-      lowest = one_lowest old.session.lowest new.session.lowest old.session.slots new.session.slots sound.session.lowest also.session.lowest looks.held;
+      lowest = one_lowest old.session.lowest new.session.lowest old.session.slots new.session.slots counted.lowest also.lowest looks.held;
       slots = looks.held;
       lines = looks.lines;
     };
     locks = looks.locks;
     asked =
-        one_in_order new.locks.asked old.locks.asked also.locks.order sound.locks.order
+        one_in_order new.locks.asked old.locks.asked also.asked counted.asked
         (λ s image. ap (λ (state : LockState). state.asked) (looks.locks s image));
-    slots = same_states old.slots new.slots sound.slots also.slots looks.states;
+    slots = same_states old.slots new.slots counted.states also.states looks.states;
     release = looks.release;
     heard = looks.heard;
   }

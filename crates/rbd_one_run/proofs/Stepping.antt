@@ -5,7 +5,6 @@ use Rattle.std.proofs.lemmas.Bool.{eqb-true, true≢false}
 use Rattle.rbd_client.specs.Actor.{actor_at}
 use Rattle.rbd_client.specs.Client.{ClientView}
 use Rattle.rbd_client.specs.Feeding.{IsClientAlike}
-use Rattle.rbd_client.specs.Sound.{IsSoundClient}
 use Rattle.rbd_client.specs.declared.actor.Actor.TheVariants as actor
 use Rattle.rbd_kinds.specs.declared.id.SiteId.{SiteId}
 use Rattle.rbd_kinds.specs.declared.reply.Reply.{Reply}
@@ -16,11 +15,12 @@ use Rattle.rbd_session.specs.Session.{held_in, running_in}
 use Rattle.rbd_session.specs.declared.running.Occupant.{Occupant}
 use Rattle.rbd_session.specs.declared.running.Occupant.TheVariants as occupant
 use Rattle.rbd_world.specs.Run.{Happening, Nothing, Began, Did, Refused, Heard, Stopped, Restarted, Operation}
-use Rattle.rbd_world.specs.Step.{AreLivesAlike, Becomes, BecomesOf, IsAlikeOf, IsBuiltEvent, IsClientAlikeIf, IsFreshIf, IsSoundIf, LivesOn, LivesOnIf, RunsOn, happening, late_behind, latest_behind, names_session, polled, polled_in, releases}
+use Rattle.rbd_world.specs.Step.{AreLivesAlike, Becomes, BecomesOf, IsAlikeOf, IsBuiltEvent, IsClientAlikeIf, IsFreshIf, LivesOn, LivesOnIf, RunsOn, happening, late_behind, latest_behind, names_session, polled, polled_in, releases}
 use Rattle.rbd_world.specs.World.{LivesView, WorldView, client_in, lives_in, running_of}
 use Rattle.rbd_world.specs.declared.event.Event.{Event}
 use Rattle.rbd_world.specs.declared.event.Event.TheVariants as event
 use Rattle.rbd_world.specs.declared.sites.Sites.{Sites}
+use Rattle.rbd_schedule.specs.Slots.{IsCounted}
 use Rattle.rbd_one_run.proofs.Behind.{begins_alike, goes_alike, hears_alike, serves_alike, stays_alike}
 use Rattle.rbd_one_run.proofs.FedAlike.{RunsOnWay}
 use Rattle.rbd_one_run.proofs.Fresh.{fresh_alike}
@@ -39,6 +39,11 @@ pub begins_built : (e : Event) (h : Happening) → IsBuiltEvent e → BeginsBuil
 begins_built (event.Submit session line k) (Began asked slot) built = built
 begins_built (event.Submit session line k) _ built = tt
 begins_built e h built = tt
+
+-- the client is counted, where one runs
+abbrev pub IsCountedIf : {R : Type 0} → Option (ClientView R) → Type 0
+IsCountedIf None = Unit {0}
+IsCountedIf (Some c) = IsCounted c
 
 module _ {R : Type 0} (stands : R → Standing) where
   -- ---- who goes on its way runs
@@ -63,24 +68,24 @@ module _ {R : Type 0} (stands : R → Standing) where
 
   -- ---- a client
 
-  module _ (sites : Sites) (c d x y : ClientView R) (alike : IsClientAlike stands c d) (sound : IsSoundClient stands x) (also : IsSoundClient stands y) where
+  module _ (sites : Sites) (c d x y : ClientView R) (alike : IsClientAlike stands c d) (counted : IsCounted x) (also : IsCounted y) where
     becomes_alike : (e : Event) (h : Happening) → BeginsBuilt e h → IsPollOf e h sites (Some c) → Becomes stands e h c x → Becomes stands e h d y → IsClientAlike stands x y
-    becomes_alike (event.Submit session line k) (Began asked slot) built is becomes other = begins_alike stands c d x y alike sound also line k built becomes other
-    becomes_alike (event.Poll session slot) (Did o reply) built is becomes other = goes_alike stands c d x y alike sound also slot o reply (runs_on_way sites slot c o reply is) becomes other
-    becomes_alike (event.Poll session slot) (Refused s line reply) built is becomes other = serves_alike stands c d x y alike sound also slot becomes other
-    becomes_alike (event.Deliver number) (Heard notice) built is becomes other = hears_alike stands c d x y alike sound also notice becomes other
-    becomes_alike e h built is becomes other = stays_alike stands c d x y alike sound also becomes other
+    becomes_alike (event.Submit session line k) (Began asked slot) built is becomes other = begins_alike stands c d x y alike counted also line k built becomes other
+    becomes_alike (event.Poll session slot) (Did o reply) built is becomes other = goes_alike stands c d x y alike counted also slot o reply (runs_on_way sites slot c o reply is) becomes other
+    becomes_alike (event.Poll session slot) (Refused s line reply) built is becomes other = serves_alike stands c d x y alike counted also slot becomes other
+    becomes_alike (event.Deliver number) (Heard notice) built is becomes other = hears_alike stands c d x y alike counted also notice becomes other
+    becomes_alike e h built is becomes other = stays_alike stands c d x y alike counted also becomes other
 
   -- of one that runs, or of none
   module _ (sites : Sites) (e : Event) (h : Happening) (built : BeginsBuilt e h) where
-    becomes_if : (o n p q : Option (ClientView R)) → IsClientAlikeIf stands o n → IsPollOf e h sites o → IsSoundIf stands p → IsSoundIf stands q
+    becomes_if : (o n p q : Option (ClientView R)) → IsClientAlikeIf stands o n → IsPollOf e h sites o → IsCountedIf p → IsCountedIf q
         → BecomesOf stands e h o p → BecomesOf stands e h n q → IsClientAlikeIf stands p q
-    becomes_if None n p q alike is sound also becomes other =
+    becomes_if None n p q alike is counted also becomes other =
         subst (λ z. IsClientAlikeIf stands z q) (sym becomes) (subst (λ z. BecomesOf stands e h z q) alike other)
-    becomes_if (Some c) None p q alike is sound also becomes other = absurd alike
-    becomes_if (Some c) (Some d) None q alike is sound also becomes other = absurd becomes
-    becomes_if (Some c) (Some d) (Some x) None alike is sound also becomes other = absurd other
-    becomes_if (Some c) (Some d) (Some x) (Some y) alike is sound also becomes other = becomes_alike sites c d x y alike sound also e h built is becomes other
+    becomes_if (Some c) None p q alike is counted also becomes other = absurd alike
+    becomes_if (Some c) (Some d) None q alike is counted also becomes other = absurd becomes
+    becomes_if (Some c) (Some d) (Some x) None alike is counted also becomes other = absurd other
+    becomes_if (Some c) (Some d) (Some x) (Some y) alike is counted also becomes other = becomes_alike sites c d x y alike counted also e h built is becomes other
 
   gone_alike : (p q : Option (ClientView R)) → p ≡ None → q ≡ None → IsClientAlikeIf stands p q
   gone_alike p q gone other = subst (λ z. IsClientAlikeIf stands z q) (sym gone) other
@@ -91,32 +96,32 @@ module _ {R : Type 0} (stands : R → Standing) where
   anew_alike who home there (Some x) (Some y) same fresh other = fresh_alike stands who home there x y same fresh other
 
   module _ (sites : Sites) (e : Event) (home there : SiteId) (same : there ≡ home) (o n p q : Option (ClientView R)) (alike : IsClientAlikeIf stands o n)
-      (sound : IsSoundIf stands p) (also : IsSoundIf stands q) where
+      (counted : IsCountedIf p) (also : IsCountedIf q) where
     runs_alike : (h : Happening) → BeginsBuilt e h → IsPollOf e h sites o → RunsOn stands e h home o p → RunsOn stands e h there n q → IsClientAlikeIf stands p q
     runs_alike (Stopped who wanted lost) built is runs other = gone_alike p q runs other
     runs_alike (Restarted who) built is runs other = anew_alike who home there p q same runs other
-    runs_alike h built is runs other = becomes_if sites e h built o n p q alike is sound also runs other
+    runs_alike h built is runs other = becomes_if sites e h built o n p q alike is counted also runs other
 
   -- ---- a session's lives
 
   module _ (sites : Sites) (e : Event) (h : Happening) (built : BeginsBuilt e h) where
-    lives_alike : (l m k j : LivesView R) → AreLivesAlike stands l m → IsPollOf e h sites l.running → IsSoundIf stands k.running → IsSoundIf stands j.running
+    lives_alike : (l m k j : LivesView R) → AreLivesAlike stands l m → IsPollOf e h sites l.running → IsCountedIf k.running → IsCountedIf j.running
         → LivesOn stands e h l k → LivesOn stands e h m j → AreLivesAlike stands k j
-    lives_alike l m k j alike is sound also lives other = record {
+    lives_alike l m k j alike is counted also lives other = record {
       home = other.home ∙ alike.home ∙ sym lives.home;
       latest = other.latest ∙ ap (latest_behind h) alike.latest ∙ sym lives.latest;
-      running = runs_alike sites e l.home m.home alike.home l.running m.running k.running j.running alike.running sound also h built is lives.running other.running;
+      running = runs_alike sites e l.home m.home alike.home l.running m.running k.running j.running alike.running counted also h built is lives.running other.running;
       late = other.late ∙ ap (late_behind e h) alike.late ∙ sym lives.late;
     }
 
-    lives_if : (o n p q : Option (LivesView R)) → IsAlikeOf stands o n → IsPollOf e h sites (running_of o) → IsSoundIf stands (running_of p) → IsSoundIf stands (running_of q)
+    lives_if : (o n p q : Option (LivesView R)) → IsAlikeOf stands o n → IsPollOf e h sites (running_of o) → IsCountedIf (running_of p) → IsCountedIf (running_of q)
         → LivesOnIf stands e h o p → LivesOnIf stands e h n q → IsAlikeOf stands p q
-    lives_if None n p q alike is sound also lives other =
+    lives_if None n p q alike is counted also lives other =
         subst (λ z. IsAlikeOf stands z q) (sym lives) (subst (λ z. LivesOnIf stands e h z q) alike other)
-    lives_if (Some l) None p q alike is sound also lives other = absurd alike
-    lives_if (Some l) (Some m) None q alike is sound also lives other = absurd lives
-    lives_if (Some l) (Some m) (Some k) None alike is sound also lives other = absurd other
-    lives_if (Some l) (Some m) (Some k) (Some j) alike is sound also lives other = lives_alike l m k j alike is sound also lives other
+    lives_if (Some l) None p q alike is counted also lives other = absurd alike
+    lives_if (Some l) (Some m) None q alike is counted also lives other = absurd lives
+    lives_if (Some l) (Some m) (Some k) None alike is counted also lives other = absurd other
+    lives_if (Some l) (Some m) (Some k) (Some j) alike is counted also lives other = lives_alike l m k j alike is counted also lives other
 
   -- ---- the session that an event names
 
@@ -125,7 +130,7 @@ module _ {R : Type 0} (stands : R → Standing) where
   poll_of e v session names = tt
 
   pub named_alike : (e : Event) (v : WorldView R) (session : ℕ) → BeginsBuilt e (happening stands e v) → names_session e (happening stands e v) session ≡ true → (n p q : Option (LivesView R))
-      → IsAlikeOf stands (lives_in session v.lives) n → IsSoundIf stands (running_of p) → IsSoundIf stands (running_of q)
+      → IsAlikeOf stands (lives_in session v.lives) n → IsCountedIf (running_of p) → IsCountedIf (running_of q)
       → LivesOnIf stands e (happening stands e v) (lives_in session v.lives) p → LivesOnIf stands e (happening stands e v) n q → IsAlikeOf stands p q
-  named_alike e v session built names n p q alike sound also lives other =
-      lives_if v.sites e (happening stands e v) built (lives_in session v.lives) n p q alike (poll_of e v session names) sound also lives other
+  named_alike e v session built names n p q alike counted also lives other =
+      lives_if v.sites e (happening stands e v) built (lives_in session v.lives) n p q alike (poll_of e v session names) counted also lives other

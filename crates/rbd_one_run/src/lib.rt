@@ -33,11 +33,12 @@
 //! # How it is shown
 //!
 //! New worlds with the same homes are twins. An event does the same to twins, and leaves twins where
-//! it leaves both sound (`proofs/Stepping.antt`): a step tells each part of a client but the lowest
-//! free slot and the order of the images that were asked for, and sound clients have these by their
-//! other parts. A schedule asks of a world only what twins answer alike (`proofs/ScheduleLooks.antt`),
-//! so each of its rules leads twins to twins (`proofs/ScheduleTwins.antt`). A loop that goes on as
-//! long as something holds goes on equally often on both sides (`proofs/ScheduleLoops.antt`).
+//! the clients that it leaves are counted (`proofs/Stepping.antt`): a step tells each part of a client
+//! but the lowest free slot and the order of the images that were asked for, and clients that are
+//! counted have these by their other parts. A schedule asks of a world only what twins answer alike
+//! (`proofs/ScheduleLooks.antt`), so each of its rules leads twins to twins
+//! (`proofs/ScheduleTwins.antt`). A loop that goes on as long as something holds goes on equally often
+//! on both sides (`proofs/ScheduleLoops.antt`).
 #![tactic(auto)]
 
 pub mod laws;

@@ -28,11 +28,11 @@ module _ (homes : ℕ → SiteId) where
   pub fences_hold : (run : List Happening) → IsRight homes run → AtEachOperation IsStoppedByTheFence run
   fences_hold = at_each IsStoppedByTheFence (λ o reply run right. fenced_here homes run o reply right)
 
-  pub locks_hold : (run : List Happening) → IsRight homes run → AtEachOperation IsTheOwners run
-  locks_hold = at_each IsTheOwners (λ o reply run right. record {
+  pub locks_hold : (run : List Happening) → IsRight homes run → AtEachOperation (IsTheOwners homes) run
+  locks_hold = at_each (IsTheOwners homes) (λ o reply run right. record {
     change = λ image. owner_changes homes run o reply image right;
     broken = λ image owner. owner_was_fenced homes run o reply image right owner;
   })
 
-  pub late_once : (run : List Happening) → IsRight homes run → AtEachOperation ComesOnce run
-  late_once = at_each ComesOnce (λ o reply run right. comes_once homes run o reply right)
+  pub late_once : (run : List Happening) → IsRight homes run → AtEachOperation (ComesOnce homes) run
+  late_once = at_each (ComesOnce homes) (λ o reply run right. comes_once homes run o reply right)

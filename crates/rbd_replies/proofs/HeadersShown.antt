@@ -15,13 +15,12 @@ use Rattle.rbd_kinds.specs.declared.reply.Reply.{Reply}
 use Rattle.rbd_kinds.specs.declared.reply.Reply.TheVariants as reply
 use Rattle.rbd_layout.proofs.Bounds.{few_bytes}
 use Rattle.rbd_machine.specs.Path.{Answered}
-use Rattle.rbd_machine.specs.Plan.{Standing}
 use Rattle.rbd_machine.specs.Refused.{AreGiven}
 use Rattle.rbd_machine.specs.declared.seat.Seat.{Seat}
 use Rattle.rbd_meaning.specs.Meant.{IsMeantBy}
 use Rattle.rbd_world.specs.Run.{Doer, Itself, OnWay, House, AfterStop, Happening, Nothing, Waited, Began, Did, Refused, Trimmed, Expired, Heard, Stopped, Restarted, Operation, cause_of, ending_entries, entries_of, entry_by, entry_of, entry_unfenced, fence_of, history_of, reply_entries}
 use Rattle.rbd_world.specs.Seats.{seat_at}
-use Rattle.rbd_world.specs.Sound.{EndsWith, IsDue, IsRefusedOnWay, IsReplyMeant, IsRight, IsSoundWorld}
+use Rattle.rbd_world.specs.Sound.{EndsWith, HasRun, IsDue, IsRefusedOnWay, IsReplyMeant, IsRight}
 use Rattle.rbd_world.specs.World.{WorldView}
 use Rattle.rbd_replies.proofs.OnWay.{refused_there}
 use Rattle.rbd_replies.specs.Shown.{AreHeadersInForm, IsEntryInForm, IsShownInForm, ShowsInForm}
@@ -104,6 +103,5 @@ run_in_form homes [] right = All-nil IsEntryInForm
 run_in_form homes (h ∷ run) right =
     All-append IsEntryInForm (history_of run) (entries_of h) (run_in_form homes run right.2) (entries_in_form homes h run right.1)
 
-module _ {R : Type 0} (stands : R → Standing) where
-  pub world_in_form : (w : WorldView R) (sound : IsSoundWorld stands w) → AreHeadersInForm w.history
-  world_in_form w sound = subst AreHeadersInForm (sym sound.history) (run_in_form sound.homes sound.run sound.right)
+pub world_in_form : {R : Type 0} (w : WorldView R) → HasRun w → AreHeadersInForm w.history
+world_in_form w told = subst AreHeadersInForm (sym told.history) (run_in_form told.homes told.run told.right)

@@ -131,22 +131,22 @@ module _ {R : Type 0} (stands : R → Standing) (homes : ℕ → SiteId) (sessio
       (record { start = held.start; plan = held.plan; feds = held.feds; walk = held.walk; given = held.given; standalone = held.standalone }) (ap (λ l. asked_by l run) same ∙ asks))
 
 module _ {R : Type 0} (stands : R → Standing) (w : WorldView R) (sound : IsSoundWorld stands w) (session slot line : ℕ) (asked : Asked) where
-  pub under_way_led : line_at session slot w.lives ≡ Some line → asked_by line sound.run ≡ Some asked → IsLed sound.homes line sound.run asked
+  pub under_way_led : line_at session slot w.lives ≡ Some line → asked_by line sound.told.run ≡ Some asked → IsLed sound.told.homes line sound.told.run asked
   under_way_led is asks = by (client_in session w.lives) refl is
     where
-      by : (o : Option (ClientView R)) → client_in session w.lives ≡ o → script_line (held_of slot (session_of o)) ≡ Some line → IsLed sound.homes line sound.run asked
+      by : (o : Option (ClientView R)) → client_in session w.lives ≡ o → script_line (held_of slot (session_of o)) ≡ Some line → IsLed sound.told.homes line sound.told.run asked
       by None there none = absurd (none-some line none)
       by (Some c) there at_line =
           let living = sound.clients session c there in
-          held_led stands sound.homes session c.session.instance living.whose sound.run asked line (held_in slot c.session.slots) at_line (living.held slot) asks
+          held_led stands sound.told.homes session c.session.instance living.whose sound.told.run asked line (held_in slot c.session.slots) at_line (living.held slot) asks
 
 -- any line that was begun, since it is in a slot until it ends
-pub begun_led : {R : Type 0} (stands : R → Standing) (w : WorldView R) (sound : IsSoundWorld stands w) (line : ℕ) (asked : Asked) → asked_by line sound.run ≡ Some asked
-    → IsLed sound.homes line sound.run asked
-begun_led stands w sound line asked asks = by (has_ended line sound.run) refl
+pub begun_led : {R : Type 0} (stands : R → Standing) (w : WorldView R) (sound : IsSoundWorld stands w) (line : ℕ) (asked : Asked) → asked_by line sound.told.run ≡ Some asked
+    → IsLed sound.told.homes line sound.told.run asked
+begun_led stands w sound line asked asks = by (has_ended line sound.told.run) refl
   where
-    by : (b : Bool) → has_ended line sound.run ≡ b → IsLed sound.homes line sound.run asked
-    by true ended = ended_led sound.homes line sound.run asked sound.right asks ended
+    by : (b : Bool) → has_ended line sound.told.run ≡ b → IsLed sound.told.homes line sound.told.run asked
+    by true ended = ended_led sound.told.homes line sound.told.run asked sound.told.right asks ended
     by false unended =
         let there = sound.slots line (record { asked = asked; is = asks; unended = unended }) in
         under_way_led stands w sound there.session there.slot line asked there.is asks

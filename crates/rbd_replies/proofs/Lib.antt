@@ -10,6 +10,7 @@ pub mod HomeReplies
 pub mod HomeSteps
 pub mod InLine
 pub mod KeepsOwn
+pub mod LateSteps
 pub mod Led
 pub mod LineBounds
 pub mod LinesBelow
@@ -46,6 +47,7 @@ pub mod ShownNothing
 pub mod Silent
 pub mod SilentPlans
 pub mod Taught
+pub mod TaughtHeader
 pub mod WatchesEnd
 pub mod Worlds
 pub mod WritePieces

@@ -54,9 +54,9 @@ module _ {R : Type 0} (stands : R → Standing) (homes : ℕ → SiteId) (sessio
       (of_begun r.line held.begun.asked (same_Some held.begun.asked asked (sym held.begun.is ∙ ap (λ l. asked_by l run) same ∙ by)) held.mine
       (λ fewer. walk_stays_below (seat_at homes session) held.begun.asked.command held.start held.plan most fewer held.feds (steps_of r.line run) (stands r.request).plan held.given (asks r refl) held.walk))
 
-module _ {R : Type 0} (stands : R → Standing) (w : WorldView R) (sound : IsSoundWorld stands w) (line : ℕ) (asked : Asked) (most : ℕ) (few : HasAtMost most (touched_by asked.command)) (is : asked_by line sound.run ≡ Some asked) where
+module _ {R : Type 0} (stands : R → Standing) (w : WorldView R) (sound : IsSoundWorld stands w) (line : ℕ) (asked : Asked) (most : ℕ) (few : HasAtMost most (touched_by asked.command)) (is : asked_by line sound.told.run ≡ Some asked) where
   abbrev IsBelowHere : Type 0
-  IsBelowHere = StaysBelow (sound.homes asked.who.session) asked.command (bound_of asked.command most) (steps_of line sound.run)
+  IsBelowHere = StaysBelow (sound.told.homes asked.who.session) asked.command (bound_of asked.command most) (steps_of line sound.told.run)
 
   pub below_in_slot : (session slot : ℕ) → line_at session slot w.lives ≡ Some line → IsBelowHere
   below_in_slot session slot at = by (client_in session w.lives) refl at
@@ -65,18 +65,18 @@ module _ {R : Type 0} (stands : R → Standing) (w : WorldView R) (sound : IsSou
       by None there none = absurd (none-some line none)
       by (Some c) there at_line =
           let living = sound.clients session c there in
-          held_below stands sound.homes session c.session.instance living.whose sound.run asked most few line (held_in slot c.session.slots) at_line (living.held slot)
+          held_below stands sound.told.homes session c.session.instance living.whose sound.told.run asked most few line (held_in slot c.session.slots) at_line (living.held slot)
           (λ r runs. living.sound.session.asks slot r runs) is
 
-  pub below_open : has_ended line sound.run ≡ false → IsBelowHere
+  pub below_open : has_ended line sound.told.run ≡ false → IsBelowHere
   below_open unended =
       let there = sound.slots line (record { asked = asked; is = is; unended = unended }) in
       below_in_slot there.session there.slot there.is
 
-  pub ended_at_bound : (IsBelowHere → ⊥) → has_ended line sound.run ≡ true
-  ended_at_bound reached = by (has_ended line sound.run) refl
+  pub ended_at_bound : (IsBelowHere → ⊥) → has_ended line sound.told.run ≡ true
+  ended_at_bound reached = by (has_ended line sound.told.run) refl
     where
-      by : (b : Bool) → has_ended line sound.run ≡ b → b ≡ true
+      by : (b : Bool) → has_ended line sound.told.run ≡ b → b ≡ true
       by true ended = refl
       by false unended = absurd (reached (below_open unended))
 

@@ -6,7 +6,6 @@ use Rattle.rbd_kinds.specs.declared.id.Instance.{Instance}
 use Rattle.rbd_kinds.specs.declared.id.SiteId.{SiteId}
 use Rattle.rbd_kinds.proofs.Images.{same_site_is}
 use Rattle.rbd_machine.specs.Knowledge.{same_site}
-use Rattle.rbd_machine.specs.Plan.{Standing}
 use Rattle.rbd_site.specs.Log.{AreAnswered, IsAnswer, after_all, after_op, expire_line, expired, line_of, trim_line, trimmed}
 use Rattle.rbd_site.specs.Records.{Records, no_records}
 use Rattle.rbd_site.specs.Step.{after, answer_to, is_fenced}
@@ -16,7 +15,7 @@ use Rattle.rbd_watch.specs.Watching.{oldest_of}
 use Rattle.rbd_stands.specs.Owned.{AreOwned, HasLock, IsLetGo, IsOwnedLine, IsOwnedStep, SomeLine}
 use Rattle.rbd_stands.proofs.LogSteps.{lock_claim, owned_more}
 use Rattle.rbd_world.specs.Run.{Happening, Nothing, Waited, Began, Did, Refused, Trimmed, Expired, Heard, Stopped, Restarted, Operation, lines_at, log_of, records_after, records_behind}
-use Rattle.rbd_world.specs.Sound.{IsDone, IsDue, IsRight, IsSoundWorld}
+use Rattle.rbd_world.specs.Sound.{HasRun, IsDone, IsDue, IsRight}
 use Rattle.rbd_world.specs.World.{WorldView, site_in}
 use Rattle.rbd_world.proofs.Runs.{done_of}
 use Rattle.rbd_replies.specs.Logs.{IsOwnedLog}
@@ -110,6 +109,5 @@ keeps_the_lock before since image me log lock =
 
 -- ---- of a world
 
-module _ {R : Type 0} (stands : R → Standing) (w : WorldView R) (sound : IsSoundWorld stands w) where
-  pub world_logs : (s : SiteId) → IsOwnedLog (site_in s w.sites).log
-  world_logs s = subst IsOwnedLog (sym (sound.logs s)) (log_is_owned sound.homes s sound.run sound.right)
+pub world_logs : {R : Type 0} (w : WorldView R) → HasRun w → (s : SiteId) → IsOwnedLog (site_in s w.sites).log
+world_logs w told s = subst IsOwnedLog (sym (told.logs s)) (log_is_owned told.homes s told.run told.right)

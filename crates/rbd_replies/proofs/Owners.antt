@@ -30,7 +30,8 @@ use Rattle.rbd_world.specs.Run.{Doer, Itself, OnWay, House, AfterStop, Happening
 use Rattle.rbd_world.specs.Sound.{IsDone, IsRight, Recalls, RecallsBy}
 use Rattle.rbd_world.proofs.Runs.{done_of}
 use Rattle.rbd_world.proofs.WaysOfLines.{asked_on_way, lets_go}
-use Rattle.rbd_replies.specs.Fenced.{DidBefore, DrewId, OwnsOrNone, RemovedHeader, SomeStep, removes_part}
+use Rattle.rbd_replies.specs.Fenced.{DidBefore, DidBeforeStop, DrewId, LetsItGo, OwnsOrNone, RemovedHeader, SomeStep, removes_part}
+use Rattle.rbd_replies.proofs.LateSteps.{drew_before_stop, let_go_before_stop}
 use Rattle.rbd_replies.proofs.OnWaysOnly.{release_leaves_images, way_leaves_images}
 use Rattle.rbd_replies.proofs.Taught.{drew_it, removed_it}
 
@@ -145,14 +146,16 @@ module _ (homes : ℕ → SiteId) (run : List Happening) (o : Operation) (reply 
   abbrev there : Records
   there = records_after o.site run
 
-  -- what it knows its command did, where it is a change
-  module _ (changes : changes_image image o.op ≡ true) (P : Answered → Type 0) where
-    by_its_command : (doer : Doer) → o.by ≡ doer → RecallsBy doer o.site o.op it.knows run → ((line : ℕ) → Recalls line o.site o.op it.knows run → SomeStep P (steps_of line run)) → DidBefore P doer run
+  -- what it knows its command did, where it is a change; and what one did that was lost
+  module _ (changes : changes_image image o.op ≡ true) (P : Doer → Answered → Type 0)
+      (late : (slot : ℕ) → o.by ≡ AfterStop slot → DidBeforeStop homes (P (AfterStop slot)) o run) where
+    by_its_command : (doer : Doer) → o.by ≡ doer → RecallsBy doer o.site o.op it.knows run → ((line : ℕ) → Recalls line o.site o.op it.knows run → SomeStep (P (Itself line)) (steps_of line run))
+        → DidBefore homes (P doer) doer o run
     by_its_command (Itself line) is recalls taught = taught line recalls
     by_its_command (OnWay line) is recalls taught =
         absurd (true≢false (sym changes ∙ way_leaves_images o.site o.op (way_of line run) (asked_on_way homes line o reply run right is) image))
     by_its_command House is recalls taught = absurd (true≢false (sym changes ∙ release_leaves_images o.op (lets_go homes 0 o reply run right is) image))
-    by_its_command (AfterStop slot) is recalls taught = tt
+    by_its_command (AfterStop slot) is recalls taught = late slot is
 
   drew : (line : ℕ) → is_drawn it.knows.drawn o.site image ≡ true → Recalls line o.site o.op it.knows run → SomeStep (DrewId o.site image) (steps_of line run)
   drew line drawn recalls =
@@ -164,12 +167,12 @@ module _ (homes : ℕ → SiteId) (run : List Happening) (o : Operation) (reply 
       removed_it recalls.start.labels recalls.feds recalls.start.plan _ (steps_of line run) o.site image recalls.walk
       (sym (ap (λ (k : Knowledge). is_gone k.gone o.site image) recalls.known) ∙ gone)
 
-  pub owner_changes : changes_image image o.op ≡ true → was_done o.answer ≡ true → OwnsOrNone image o run
+  pub owner_changes : changes_image image o.op ≡ true → was_done o.answer ≡ true → OwnsOrNone homes image o run
   owner_changes changes was =
       let free = free_by_change there o.instance o.op (sym (ap was_done it.answer) ∙ was) in
       by (image_here o.site there o.instance it.knows it.truth free image o.op it.permits changes)
     where
-      by : IsHere (there.headers image) ⊎ (MakesIt it.knows o.site image o.op ⊎ ClearsIt it.knows o.site image o.op) → OwnsOrNone image o run
+      by : IsHere (there.headers image) ⊎ (MakesIt it.knows o.site image o.op ⊎ ClearsIt it.knows o.site image o.op) → OwnsOrNone homes image o run
       by (inl here) =
           inl (record { header = here.view; there = here.is; owner = subst (λ there. IsOwner there o.instance) here.is (it.owned.change image changes was) })
       by (inr (inl makes)) = inr (inl (record {
@@ -177,12 +180,16 @@ module _ (homes : ℕ → SiteId) (run : List Happening) (o : Operation) (reply 
         is = makes.is;
         headless = (it.truth.drawn image makes.drawn).header;
         new = it.new image makes.drawn;
-        drew = by_its_command changes (DrewId o.site image) o.by refl it.recalls (λ line. drew line makes.drawn);
+        drew = by_its_command changes (λ doer. DrewId o.site image)
+            (λ slot late. drew_before_stop homes run o reply image slot right changes late makes.count makes.is (it.new image makes.drawn))
+            o.by refl it.recalls (λ line. drew line makes.drawn);
       }))
       by (inr (inr clears)) = inr (inr (record {
         is = clears.is;
         headless = (it.truth.gone image clears.gone).header;
-        removed = by_its_command changes (RemovedHeader o.site image) o.by refl it.recalls (λ line. removed line clears.gone);
+        removed = by_its_command changes (λ doer. LetsItGo doer o.op o.site image)
+            (λ slot late. let_go_before_stop homes run o reply image slot right changes late clears.is)
+            o.by refl it.recalls (λ line. removed line clears.gone);
       }))
 
   pub owner_was_fenced : (owner : Instance) → o.op ≡ op.Header image (header.LockBreak owner) → o.answer ≡ answer.Done → is_fenced (records_after o.site run) owner ≡ true

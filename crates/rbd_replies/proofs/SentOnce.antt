@@ -9,7 +9,7 @@ use Rattle.rbd_kinds.specs.declared.reply.Reply.{Reply}
 use Rattle.rbd_session.specs.Session.{held_in}
 use Rattle.rbd_world.specs.Late.{comes_among, comes_in, is_stopped_among, stops_in}
 use Rattle.rbd_world.specs.Run.{Doer, Itself, OnWay, House, AfterStop, Happening, Nothing, Waited, Began, Did, Refused, Trimmed, Expired, Heard, Stopped, Restarted, Operation, Sent, comes_of, sent_after, sent_of}
-use Rattle.rbd_world.specs.Sound.{EndsWith, IsDue, IsOf, IsRight}
+use Rattle.rbd_world.specs.Sound.{EndsWith, IsDue, IsOf, IsRight, IsStop}
 use Rattle.rbd_world.proofs.Runs.{done_of}
 use Rattle.rbd_replies.specs.Sent.{ComesOnce, WasSent, WasSentBy}
 
@@ -70,16 +70,22 @@ module _ (session slot : ℕ) (x : Sent) where
 
 -- ---- of a run that is right
 
+pub right_until : (homes : ℕ → SiteId) (since until : List Happening) → IsRight homes (since ++ until) → IsRight homes until
+right_until homes [] until right = right
+right_until homes (h ∷ since) until right = right_until homes since until right.2
+
 module _ (homes : ℕ → SiteId) (run : List Happening) (o : Operation) where
   -- it ends no line
   ends_none : (reply : Option Reply) (slot : ℕ) → IsDue homes (Did o reply) run → o.by ≡ AfterStop slot → reply ≡ None
   ends_none None slot due is = refl
   ends_none (Some told) slot due is = absurd (subst (EndsWith homes o told run) is due.1)
 
-  pub was_sent : (reply : Option Reply) (slot : ℕ) → IsRight homes (Did o reply ∷ run) → o.by ≡ AfterStop slot → WasSent slot o reply run
+  pub was_sent : (reply : Option Reply) (slot : ℕ) → IsRight homes (Did o reply ∷ run) → o.by ≡ AfterStop slot → WasSent homes slot o reply run
   was_sent reply slot right is =
       let whose : IsOf (AfterStop slot) o.instance o.site o.op run = subst (λ d. IsOf d o.instance o.site o.op run) is (done_of homes o reply run right.1).whose in
       let left = left_by o.instance.session slot (record { instance = o.instance; site = o.site; op = o.op }) run whose in
+      let stop : IsStop homes o.instance left.wanted left.lost left.until
+      = (right_until homes left.since (Stopped o.instance left.wanted left.lost ∷ left.until) (subst (IsRight homes) left.are right.2)).1 in
       record {
         wanted = left.wanted;
         lost = left.lost;
@@ -87,15 +93,17 @@ module _ (homes : ℕ → SiteId) (run : List Happening) (o : Operation) where
         since = left.since;
         are = left.are;
         is = left.is;
+        stop = stop;
+        left = stop.left slot (o.site, o.op) left.is;
         last = left.last;
         new = left.new;
         silent = ends_none reply slot right.1 is;
       }
 
-  pub comes_once : (reply : Option Reply) → IsRight homes (Did o reply ∷ run) → ComesOnce o reply run
+  pub comes_once : (reply : Option Reply) → IsRight homes (Did o reply ∷ run) → ComesOnce homes o reply run
   comes_once reply right = by o.by refl
     where
-      by : (doer : Doer) → o.by ≡ doer → WasSentBy doer o reply run
+      by : (doer : Doer) → o.by ≡ doer → WasSentBy homes doer o reply run
       by (Itself line) is = tt
       by (OnWay line) is = tt
       by House is = tt

@@ -36,7 +36,7 @@ use Rattle.rbd_replies.specs.Fenced.{DrewId, RemovedHeader, SomeStep}
 -- where it is such a step.
 module _ (Known : Knowledge → Type 0) (P : Answered → Type 0) (by_answer : (k : Knowledge) (s : SiteId) (o : Op) (a : Answer) → Known (learned k s o a) → Known k ⊎ P (record { site = s; op = o; answer = a }))
     (by_wait : (k : Knowledge) (w : Wait) → Known (passed k w) → Known k) (labels : Label → Plan) where
-  taught : (feds : List Fed) (plan : Plan) (k : Knowledge) (steps : List Answered) (last : Plan) → IsWalk labels plan feds steps last → Known (known_along labels k plan feds) → Known k ⊎ SomeStep P steps
+  pub taught : (feds : List Fed) (plan : Plan) (k : Knowledge) (steps : List Answered) (last : Plan) → IsWalk labels plan feds steps last → Known (known_along labels k plan feds) → Known k ⊎ SomeStep P steps
   taught [] plan k steps last walk known = inl known
   taught (fed.Answer a ∷ feds) (Ask s why o next) k steps last (first, walk) known = by (taught feds (settled labels (next a)) (learned k s o a) first.rest last walk known)
     where

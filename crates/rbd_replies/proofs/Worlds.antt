@@ -11,7 +11,7 @@ use Rattle.rbd_kinds.specs.declared.id.SiteId.{SiteId}
 use Rattle.rbd_kinds.specs.declared.reply.Reply.{Reply}
 use Rattle.rbd_machine.specs.Plan.{Standing}
 use Rattle.rbd_world.specs.Run.{Doer, Itself, OnWay, House, AfterStop, Happening, Nothing, Waited, Began, Did, Refused, Trimmed, Expired, Heard, Stopped, Restarted, Operation, cause_of, ending_entries, entries_of, entry_by, entry_of, entry_unfenced, fence_of, history_of, is_for, reply_entries}
-use Rattle.rbd_world.specs.Sound.{EndsWith, IsOpen, IsReplyMeant, IsRight, IsSoundWorld}
+use Rattle.rbd_world.specs.Sound.{EndsWith, HasRun, IsOpen, IsReplyMeant, IsRight}
 use Rattle.rbd_world.specs.World.{WorldView}
 use Rattle.rbd_world.specs.declared.event.Call.{Call}
 use Rattle.rbd_replies.proofs.RepliesOf.{reply_at_places, reply_behind}
@@ -153,12 +153,12 @@ pub replies_of_run : (homes : ℕ → SiteId) (run : List Happening) → IsRight
 replies_of_run homes run right entries after line reply is =
     at_cut (IsToldIn run) entries after (entry.Reply line reply) (subst (EachBehind (IsToldIn run)) is (told_in_run homes run right))
 
+pub told_in_world : {R : Type 0} (w : WorldView R) (told : HasRun w) → AreRepliesOf told.run w.history
+told_in_world w told = subst (AreRepliesOf told.run) (sym told.history) (replies_of_run told.homes told.run told.right)
+
 -- ---- events
 
 module _ {R : Type 0} (stands : R → Standing) where
-  pub told_in_world : (w : WorldView R) (sound : IsSoundWorld stands w) → AreRepliesOf sound.run w.history
-  told_in_world w sound = subst (AreRepliesOf sound.run) (sym sound.history) (replies_of_run sound.homes sound.run sound.right)
-
   pub calls_are_events : (calls : List Call) (old new : WorldView R) → AreSteps stands calls old new → new.calls ≡ old.calls ++ calls
   calls_are_events [] old new same = ap (λ (w : WorldView R). w.calls) same ∙ sym (append-nil old.calls)
   calls_are_events (c ∷ calls) old new (next, (came, does), steps) =

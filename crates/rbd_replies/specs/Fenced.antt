@@ -1,8 +1,9 @@
 -- What an operation of a fenced client does, which is nothing; and whose changes are.
-use Rattle.std.specs.Prelude.{◌≡◌, ◌⊎◌, ℕ, ◌==◌, Bool, true, false, List, [], ◌∷◌, Option, None}
+use Rattle.std.specs.Prelude.{◌≡◌, ◌⊎◌, ℕ, ◌==◌, Bool, true, false, List, [], ◌∷◌, ◌++◌, Option, Some, None}
 use Rattle.rbd_kinds.specs.declared.answer.Answer.TheVariants as answer
 use Rattle.rbd_kinds.specs.declared.data_op.DataOp.TheVariants as object
 use Rattle.rbd_kinds.specs.declared.directory_op.DirectoryOp.TheVariants as directory
+use Rattle.rbd_kinds.specs.declared.header.HeaderView.{HeaderView}
 use Rattle.rbd_kinds.specs.declared.header_op.HeaderOp.TheVariants as header
 use Rattle.rbd_kinds.specs.declared.id.Instance.{Instance}
 use Rattle.rbd_kinds.specs.declared.id.SiteId.{SiteId}
@@ -13,8 +14,10 @@ use Rattle.rbd_kinds.specs.declared.reply.Reply.{Reply}
 use Rattle.rbd_machine.specs.Path.{Answered}
 use Rattle.rbd_site.specs.Step.{is_fenced}
 use Rattle.rbd_stands.specs.Owned.{HasLock, changes_image, was_done}
+use Rattle.rbd_world.specs.Late.{is_stopped_among}
 use Rattle.rbd_world.specs.Past.{HadNoHeader}
-use Rattle.rbd_world.specs.Run.{Doer, Itself, AfterStop, Happening, Did, Operation, flat_after, mail_of, records_after, steps_of}
+use Rattle.rbd_world.specs.Run.{Doer, Itself, AfterStop, Happening, Did, Stopped, Operation, flat_after, is_among, mail_of, records_after, steps_of}
+use Rattle.rbd_world.specs.Sound.{StandsAt}
 
 -- It is answered so, has no effect, and leaves the flat sites, the records of both sites and the
 -- notices as they were.
@@ -36,12 +39,27 @@ abbrev pub SomeStep : (P : Answered → Type 0) → List Answered → Type 0
 SomeStep P [] = ⊥
 SomeStep P (step ∷ steps) = P step ⊎ SomeStep P steps
 
--- The command that the operation is done for did such a one itself, before. An operation that a
--- stopped life had sent may come without: for which line it is, a run doesn't say.
-abbrev pub DidBefore : (P : Answered → Type 0) → Doer → (before : List Happening) → Type 0
-DidBefore P (Itself line) before = SomeStep P (steps_of line before)
-DidBefore P (AfterStop slot) before = Unit {0}
-DidBefore P by before = ⊥
+-- The operation was sent by a line that was lost when its instance's session was stopped last: there
+-- the line's command stood at it, and had done such a one itself before.
+pub record DidBeforeStop (homes : ℕ → SiteId) (P : Answered → Type 0) (o : Operation) (before : List Happening) : Type 0 where
+  -- what the slots wanted, which lines were lost, what was until the stop, and what came since
+  pub wanted : List (Option (SiteId × Op))
+  pub lost : List ℕ
+  pub until : List Happening
+  pub since : List Happening
+  pub are : before ≡ since ++ Stopped o.instance wanted lost ∷ until
+  pub last : is_stopped_among o.instance.session since ≡ false
+  pub line : ℕ
+  pub among : is_among line lost ≡ true
+  pub stands : StandsAt homes line o.site o.op until
+  pub mine : stands.begun.asked.who ≡ o.instance
+  pub did : SomeStep P (steps_of line until)
+
+-- The command that the operation is done for did such a one itself, before.
+abbrev pub DidBefore : (homes : ℕ → SiteId) (P : Answered → Type 0) → Doer → Operation → (before : List Happening) → Type 0
+DidBefore homes P (Itself line) o before = SomeStep P (steps_of line before)
+DidBefore homes P (AfterStop slot) o before = DidBeforeStop homes P o before
+DidBefore homes P by o before = ⊥
 
 -- the id of a new image was drawn, with its name
 pub record DrewId (s : SiteId) (image : ℕ) (step : Answered) : Type 0 where
@@ -56,14 +74,21 @@ pub record RemovedHeader (s : SiteId) (image : ℕ) (step : Answered) : Type 0 w
   pub removes : step.op ≡ op.Header image header.Remove
   pub done : step.answer ≡ answer.Done
 
+-- the header of an image was told
+pub record ToldHeader (s : SiteId) (image : ℕ) (step : Answered) : Type 0 where
+  pub site : step.site ≡ s
+  pub looks : step.op ≡ op.Header image header.Get
+  pub header : HeaderView
+  pub told : step.answer ≡ answer.Header header
+
 -- The map of an image is made, which has no header and never had one: so nobody can own it. Its
 -- maker drew the image's id.
-pub record MakesMap (image : ℕ) (o : Operation) (before : List Happening) : Type 0 where
+pub record MakesMap (homes : ℕ → SiteId) (image : ℕ) (o : Operation) (before : List Happening) : Type 0 where
   pub count : ℕ
   pub is : o.op ≡ op.Map image (states.Resize count)
   pub headless : (records_after o.site before).headers image ≡ None
   pub new : HadNoHeader o.site image before
-  pub drew : DidBefore (DrewId o.site image) o.by before
+  pub drew : DidBefore homes (DrewId o.site image) o.by o before
 
 -- whether it removes an object of an image, or an object map
 abbrev pub removes_part : (image : ℕ) → Op → Bool
@@ -71,23 +96,33 @@ removes_part image (op.Data other number (object.Remove context)) = other == ima
 removes_part image (op.Map other (states.Remove view)) = other == image
 removes_part image _ = false
 
+-- What the command had done that removes a part of an image without a header: it had removed the
+-- header. The command of a lost line may have been told the header instead, which went since: but
+-- not where it removes the head's map.
+abbrev pub LetsItGo : Doer → Op → SiteId → (image : ℕ) → Answered → Type 0
+LetsItGo (AfterStop slot) (op.Data other number o) s image step = RemovedHeader s image step ⊎ ToldHeader s image step
+LetsItGo (AfterStop slot) (op.Map other (states.Remove (Some snap))) s image step = RemovedHeader s image step ⊎ ToldHeader s image step
+LetsItGo by o s image step = RemovedHeader s image step
+
 -- What is left of an image goes, whose header is gone: so nobody owns it any more. Who removes it
--- removed the header.
-pub record RemovesRest (image : ℕ) (o : Operation) (before : List Happening) : Type 0 where
+-- removed the header, or came late to an image that he knew.
+pub record RemovesRest (homes : ℕ → SiteId) (image : ℕ) (o : Operation) (before : List Happening) : Type 0 where
   pub is : removes_part image o.op ≡ true
   pub headless : (records_after o.site before).headers image ≡ None
-  pub removed : DidBefore (RemovedHeader o.site image) o.by before
+  pub removed : DidBefore homes (LetsItGo o.by o.op o.site image) o.by o before
 
 -- Who changes an image has its lock, by its header; or makes the map of one whose id he drew, and
--- that has no header yet; or removes what is left of one whose header he removed.
-abbrev pub OwnsOrNone : (image : ℕ) → Operation → (before : List Happening) → Type 0
-OwnsOrNone image o before = HasLock image o.instance (records_after o.site before) ⊎ (MakesMap image o before ⊎ RemovesRest image o before)
+-- that has no header yet; or removes what is left of one whose header he removed. That of who comes
+-- late is said of the line that was lost.
+abbrev pub OwnsOrNone : (homes : ℕ → SiteId) (image : ℕ) → Operation → (before : List Happening) → Type 0
+OwnsOrNone homes image o before =
+    HasLock image o.instance (records_after o.site before) ⊎ (MakesMap homes image o before ⊎ RemovesRest homes image o before)
 
 -- ---- all of it
 
 -- Whoever changes an image may do so; and a lock is broken only where its owner is fenced.
-pub record IsTheOwners (o : Operation) (reply : Option Reply) (before : List Happening) : Type 0 where
-  pub change : (image : ℕ) → changes_image image o.op ≡ true → was_done o.answer ≡ true → OwnsOrNone image o before
+pub record IsTheOwners (homes : ℕ → SiteId) (o : Operation) (reply : Option Reply) (before : List Happening) : Type 0 where
+  pub change : (image : ℕ) → changes_image image o.op ≡ true → was_done o.answer ≡ true → OwnsOrNone homes image o before
   pub broken : (image : ℕ) (owner : Instance) → o.op ≡ op.Header image (header.LockBreak owner) → o.answer ≡ answer.Done
       → is_fenced (records_after o.site before) owner ≡ true
 

@@ -1,6 +1,7 @@
 //! What replies say of the flat-copy machine, and what fenced clients can't do: each law is the
 //! contract of a function that does nothing.
 ghost use Rattle.std.specs.Prelude.{◌≡◌, ◌⊎◌, ℕ, false, true, [], ◌∷◌, ◌++◌, IsTrue, List, Option, Some, map};
+ghost use Rattle.rbd_client.specs.Seen.{as_is};
 ghost use Rattle.rbd_kinds.specs.declared.answer.Answer.TheVariants as answer;
 ghost use Rattle.rbd_kinds.specs.declared.header_op.HeaderOp.TheVariants as header;
 ghost use Rattle.rbd_kinds.specs.declared.id.Instance.{Instance as Who};
@@ -9,6 +10,7 @@ ghost use Rattle.rbd_kinds.specs.declared.notice.NoticeKind.{NoticeKind};
 ghost use Rattle.rbd_kinds.specs.declared.operation.Op.{Op};
 ghost use Rattle.rbd_kinds.specs.declared.operation.Op.TheVariants as op;
 ghost use Rattle.rbd_kinds.specs.declared.reply.Reply.{Reply};
+ghost use Rattle.rbd_machine.specs.Plan.{Standing};
 ghost use Rattle.rbd_requests.specs.Touched.{HasAtMost, bound_of, touched_by};
 ghost use Rattle.rbd_site.specs.declared.done.Done.{Done};
 ghost use Rattle.rbd_site.specs.Log.{after_all};
@@ -16,8 +18,9 @@ ghost use Rattle.rbd_site.specs.Records.{no_records};
 ghost use Rattle.rbd_site.specs.Step.{is_fenced};
 ghost use Rattle.rbd_stands.specs.Owned.{HasLock, IsLetGo, SomeLine, changes_image, was_done};
 ghost use Rattle.rbd_world.specs.Run.{AfterStop, Asked, Happening, Operation, Did, Refused, Stopped, Waited, asked_by, fence_of, is_among, is_on_way, log_of, records_after, replies_to, step_of, steps_of};
-ghost use Rattle.rbd_world.specs.Sound.{IsRight, IsSoundWorld, has_ended, line_at};
+ghost use Rattle.rbd_world.specs.Sound.{HasRun, IsRight, IsSoundWorld, has_ended, line_at};
 ghost use Rattle.rbd_world.specs.Step.{happening};
+ghost use Rattle.rbd_world.specs.Watched.{ends_watch};
 ghost use Rattle.rbd_world.specs.World.{WorldView, site_in};
 ghost use Rattle.rbd_world.specs.declared.event.Call.{Call};
 ghost use Rattle.rbd_world.specs.declared.event.Event.TheVariants as event;
@@ -29,10 +32,8 @@ ghost use Rattle.rbd_replies.specs.Places.{Placed, effects_of, places_of};
 ghost use Rattle.rbd_replies.specs.Replies.{IsReplyOf, changes_no_image, only_shows};
 ghost use Rattle.rbd_replies.specs.Sent.{ComesOnce, WasSent};
 ghost use Rattle.rbd_replies.specs.Shown.{AreHeadersInForm};
-ghost use Rattle.rbd_replies.specs.Watched.{EndsWatch, IsAnnouncement, is_watching};
+ghost use Rattle.rbd_replies.specs.Watched.{IsAnnouncement, is_watching};
 ghost use Rattle.rbd_replies.specs.Worlds.{AreRepliesOf, AreSteps, BeginsWith};
-
-use rbd_course::Request;
 
 /// The operations of a line's command itself stand at their places, in their order. Those on its
 /// way to the lock of its image are apart (`way_of` of `rbd_world`).
@@ -45,7 +46,7 @@ pub fn operations_have_places()
 /// that is the one which its look was told; and what a read shows of a piece was answered where
 /// this piece was read. It comes with an operation of the command, or of its way to the lock of its
 /// image, where it is refused; or a command is refused without one. It is so at every place of a
-/// run that is right, as that of each world is (`IsSoundWorld`).
+/// run that is right, as that of each world is (`HasRun`).
 pub fn replies_are_the_flat_machines()
     ensures done { (homes : ℕ → Site) (run : List Happening) (o : Operation) (line : ℕ) (reply : Reply) (asked : Asked)
         → IsRight homes (Did o (Some reply) ∷ run) → replies_to line (Did o (Some reply)) ≡ true → asked_by line run ≡ Some asked
@@ -69,13 +70,13 @@ pub fn what_only_shows_changes_nothing()
 /// A command that changes no image, as `close`, `quiesce`, `resume`, `tell` and those that only
 /// show, has no effect on the flat site: not behind its reply, whatever it is, not where its line
 /// is lost, and not while it is under way.
-pub fn what_changes_no_image_has_no_effect<R: Request>()
+pub fn what_changes_no_image_has_no_effect()
     ensures ended { (homes : ℕ → Site) (run : List Happening) (line : ℕ) (asked : Asked)
         → IsRight homes run → asked_by line run ≡ Some asked → has_ended line run ≡ true → changes_no_image asked.command ≡ true
         → effects_of (places_of line run) ≡ [] }
-    ensures begun { (w : WorldView R) (sound : IsSoundWorld R.stands w) (line : ℕ) (asked : Asked)
-        → asked_by line sound.run ≡ Some asked → changes_no_image asked.command ≡ true
-        → effects_of (places_of line sound.run) ≡ [] }
+    ensures begun { (w : WorldView Standing) (sound : IsSoundWorld as_is w) (line : ℕ) (asked : Asked)
+        → asked_by line sound.told.run ≡ Some asked → changes_no_image asked.command ≡ true
+        → effects_of (places_of line sound.told.run) ≡ [] }
 {}
 
 /// A line that is refused on its way to the lock of its image has done nothing to the flat site,
@@ -105,35 +106,35 @@ pub fn replies_are_of_their_home()
 /// were told of objects (`told_by` of `rbd_requests`). Who waits has none: each operation is a
 /// poll's whose outcome is `Step`. Operations on the way to a lock aren't counted: it asks as often
 /// as another one has the lock.
-pub fn lines_keep_their_bounds<R: Request>()
+pub fn lines_keep_their_bounds()
     ensures ended { (homes : ℕ → Site) (run : List Happening) (line : ℕ) (asked : Asked) (most : ℕ)
         → IsRight homes run → asked_by line run ≡ Some asked → has_ended line run ≡ true → HasAtMost most (touched_by asked.command)
         → KeepsBound (homes asked.who.session) asked.command (bound_of asked.command most) (steps_of line run) }
     ensures lost { (homes : ℕ → Site) (run : List Happening) (who : Who) (wanted : List (Option (Site × Op))) (lost : List ℕ) (line : ℕ) (asked : Asked) (most : ℕ)
         → IsRight homes (Stopped who wanted lost ∷ run) → is_among line lost ≡ true → asked_by line run ≡ Some asked → HasAtMost most (touched_by asked.command)
         → KeepsBound (homes asked.who.session) asked.command (bound_of asked.command most) (steps_of line (Stopped who wanted lost ∷ run)) }
-    ensures under_way { (w : WorldView R) (sound : IsSoundWorld R.stands w) (session slot line : ℕ) (asked : Asked) (most : ℕ)
-        → line_at session slot w.lives ≡ Some line → asked_by line sound.run ≡ Some asked → HasAtMost most (touched_by asked.command)
-        → KeepsBound (sound.homes asked.who.session) asked.command (bound_of asked.command most) (steps_of line sound.run) }
-    ensures begun { (w : WorldView R) (sound : IsSoundWorld R.stands w) (line : ℕ) (asked : Asked) (most : ℕ)
-        → asked_by line sound.run ≡ Some asked → HasAtMost most (touched_by asked.command)
-        → KeepsBound (sound.homes asked.who.session) asked.command (bound_of asked.command most) (steps_of line sound.run) }
+    ensures under_way { (w : WorldView Standing) (sound : IsSoundWorld as_is w) (session slot line : ℕ) (asked : Asked) (most : ℕ)
+        → line_at session slot w.lives ≡ Some line → asked_by line sound.told.run ≡ Some asked → HasAtMost most (touched_by asked.command)
+        → KeepsBound (sound.told.homes asked.who.session) asked.command (bound_of asked.command most) (steps_of line sound.told.run) }
+    ensures begun { (w : WorldView Standing) (sound : IsSoundWorld as_is w) (line : ℕ) (asked : Asked) (most : ℕ)
+        → asked_by line sound.told.run ≡ Some asked → HasAtMost most (touched_by asked.command)
+        → KeepsBound (sound.told.homes asked.who.session) asked.command (bound_of asked.command most) (steps_of line sound.told.run) }
 {}
 
 /// The command of a line that was begun, has no reply yet and isn't lost has had fewer operations
 /// itself than its bound, a read in the pass that it is in: at least one more is due. So a line
 /// that has had as many as its bound has its reply, or is lost.
-pub fn open_lines_stay_below_their_bounds<R: Request>()
-    ensures under_way { (w : WorldView R) (sound : IsSoundWorld R.stands w) (session slot line : ℕ) (asked : Asked) (most : ℕ)
-        → line_at session slot w.lives ≡ Some line → asked_by line sound.run ≡ Some asked → HasAtMost most (touched_by asked.command)
-        → StaysBelow (sound.homes asked.who.session) asked.command (bound_of asked.command most) (steps_of line sound.run) }
-    ensures open { (w : WorldView R) (sound : IsSoundWorld R.stands w) (line : ℕ) (asked : Asked) (most : ℕ)
-        → asked_by line sound.run ≡ Some asked → has_ended line sound.run ≡ false → HasAtMost most (touched_by asked.command)
-        → StaysBelow (sound.homes asked.who.session) asked.command (bound_of asked.command most) (steps_of line sound.run) }
-    ensures at_bound { (w : WorldView R) (sound : IsSoundWorld R.stands w) (line : ℕ) (asked : Asked) (most : ℕ)
-        → asked_by line sound.run ≡ Some asked → HasAtMost most (touched_by asked.command)
-        → (StaysBelow (sound.homes asked.who.session) asked.command (bound_of asked.command most) (steps_of line sound.run) → ⊥)
-        → has_ended line sound.run ≡ true }
+pub fn open_lines_stay_below_their_bounds()
+    ensures under_way { (w : WorldView Standing) (sound : IsSoundWorld as_is w) (session slot line : ℕ) (asked : Asked) (most : ℕ)
+        → line_at session slot w.lives ≡ Some line → asked_by line sound.told.run ≡ Some asked → HasAtMost most (touched_by asked.command)
+        → StaysBelow (sound.told.homes asked.who.session) asked.command (bound_of asked.command most) (steps_of line sound.told.run) }
+    ensures open { (w : WorldView Standing) (sound : IsSoundWorld as_is w) (line : ℕ) (asked : Asked) (most : ℕ)
+        → asked_by line sound.told.run ≡ Some asked → has_ended line sound.told.run ≡ false → HasAtMost most (touched_by asked.command)
+        → StaysBelow (sound.told.homes asked.who.session) asked.command (bound_of asked.command most) (steps_of line sound.told.run) }
+    ensures at_bound { (w : WorldView Standing) (sound : IsSoundWorld as_is w) (line : ℕ) (asked : Asked) (most : ℕ)
+        → asked_by line sound.told.run ≡ Some asked → HasAtMost most (touched_by asked.command)
+        → (StaysBelow (sound.told.homes asked.who.session) asked.command (bound_of asked.command most) (steps_of line sound.told.run) → ⊥)
+        → has_ended line sound.told.run ≡ true }
 {}
 
 /// A poll of the slot that a line is in either waits, or does a step of the line: an operation of
@@ -141,23 +142,23 @@ pub fn open_lines_stay_below_their_bounds<R: Request>()
 /// `open_lines_stay_below_their_bounds` a line has its reply after as many polls of its slot as its
 /// bound allows, other than those that wait and those on its way. What bounds the latter, but for
 /// those that ask again, is said by `ways_lead_to_locks` of `rbd_world`.
-pub fn polls_are_steps_of_lines<R: Request>()
-    ensures { (w : WorldView R) (session slot line : ℕ) → IsSoundWorld R.stands w → line_at session slot w.lives ≡ Some line
-        → (happening R.stands (event.Poll session slot) w ≡ Waited) ⊎ IsStepFor line (happening R.stands (event.Poll session slot) w) }
+pub fn polls_are_steps_of_lines()
+    ensures { (w : WorldView Standing) (session slot line : ℕ) → IsSoundWorld as_is w → line_at session slot w.lives ≡ Some line
+        → (happening as_is (event.Poll session slot) w ≡ Waited) ⊎ IsStepFor line (happening as_is (event.Poll session slot) w) }
 {}
 
 /// Each reply in the history of a world, whatever events came, is the one of its line's command: it
 /// says what the flat-copy machine has at its own place in the one history, by the operations of
 /// the command from its start up to this very entry, and by none that came later. The entry is the
 /// last one of the happening that gave the line its reply.
-pub fn replies_of_worlds_are_the_flat_machines<R: Request>()
-    ensures { (w : WorldView R) (sound : IsSoundWorld R.stands w) → AreRepliesOf sound.run w.history }
+pub fn replies_of_worlds_are_the_flat_machines()
+    ensures { (w : WorldView Standing) (told : HasRun w) → AreRepliesOf told.run w.history }
 {}
 
 /// Each header that a reply in the history of a world shows is in form, whatever events came: its
 /// layout keeps the limits, and its size is below 2^63.
-pub fn shown_headers_are_in_form<R: Request>()
-    ensures { (w : WorldView R) (sound : IsSoundWorld R.stands w) → AreHeadersInForm w.history }
+pub fn shown_headers_are_in_form()
+    ensures { (w : WorldView Standing) → HasRun w → AreHeadersInForm w.history }
 {}
 
 /// No operation of a fenced client changes an object. At the site that has its instance in the
@@ -193,13 +194,15 @@ pub fn fences_are_told()
 /// fenced at that site. A header is made before anybody can own it, and so is the first map of an
 /// image, before its header: by the command that drew the image's id, which never had a header.
 /// What is left of an image whose header was removed, its objects and its maps, goes without a lock
-/// too, since there is none any more: by the command that removed the header. (For which command an
-/// operation is that a stopped life had sent, a run doesn't say.) What is done to a lock, to those
-/// that watch and to what they are told changes no image.
+/// too, since there is none any more: by the command that removed the header. Of an operation that a
+/// stopped life had sent this is said of the command of a line that was lost by the life's stop, which
+/// stood there at just this operation; but such a command that removes an object or the map of a
+/// snapshot may have been told the header before, by a look, in the place of having removed it. What
+/// is done to a lock, to those that watch and to what they are told changes no image.
 pub fn changes_are_the_owners()
     ensures owned { (homes : ℕ → Site) (run : List Happening) (o : Operation) (reply : Option Reply) (image : ℕ)
         → IsRight homes (Did o reply ∷ run) → changes_image image o.op ≡ true → was_done o.answer ≡ true
-        → OwnsOrNone image o run }
+        → OwnsOrNone homes image o run }
     ensures broken { (homes : ℕ → Site) (run : List Happening) (o : Operation) (reply : Option Reply) (image : ℕ) (owner : Who)
         → IsRight homes (Did o reply ∷ run) → o.op ≡ op.Header image (header.LockBreak owner) → o.answer ≡ answer.Done
         → is_fenced (records_after o.site run) owner ≡ true }
@@ -208,18 +211,18 @@ pub fn changes_are_the_owners()
 /// So it is in each world, whatever events came: at the place of each operation, one of an instance
 /// that is fenced at its site changes nothing; and who changes an image that has a header has its
 /// lock, and no lock is broken whose owner isn't fenced.
-pub fn fences_and_locks_hold_in_worlds<R: Request>()
-    ensures fences { (w : WorldView R) (sound : IsSoundWorld R.stands w) → AtEachOperation IsStoppedByTheFence sound.run }
-    ensures locks { (w : WorldView R) (sound : IsSoundWorld R.stands w) → AtEachOperation IsTheOwners sound.run }
+pub fn fences_and_locks_hold_in_worlds()
+    ensures fences { (w : WorldView Standing) (told : HasRun w) → AtEachOperation IsStoppedByTheFence told.run }
+    ensures locks { (w : WorldView Standing) (told : HasRun w) → AtEachOperation (IsTheOwners told.homes) told.run }
 {}
 
 /// The log of each site is an owned one, whatever events came: each line was answered by the records
 /// that the lines before it left, each change of an image that has a header is by the owner of its
 /// lock, and a lock is broken only where its owner is fenced. So all that `rbd_stands` says of such
 /// logs holds of the printed ones.
-pub fn logs_are_owned<R: Request>()
+pub fn logs_are_owned()
     ensures run { (homes : ℕ → Site) (s : Site) (run : List Happening) → IsRight homes run → IsOwnedLog (log_of s run) }
-    ensures world { (w : WorldView R) (sound : IsSoundWorld R.stands w) (s : Site) → IsOwnedLog (site_in s w.sites).log }
+    ensures world { (w : WorldView Standing) → HasRun w → (s : Site) → IsOwnedLog (site_in s w.sites).log }
 {}
 
 /// Who lost a lock let go of it itself, or was fenced: who has a lock at one place of a site's log
@@ -233,20 +236,25 @@ pub fn who_lost_a_lock_was_fenced()
 
 /// What a session had sent when it was stopped comes once, and as it was sent: where an operation
 /// comes late, the last stop of its session was that of its own instance, just this operation is
-/// what its slot wanted then, and nothing of the slot has come since. It ends no line.
-pub fn late_operations_were_sent_once<R: Request>()
+/// what its slot wanted then, and nothing of the slot has come since. It ends no line. And it is the
+/// next one, there, of a line that was lost by the stop, of that line's way to the lock, or, from
+/// slot 0, of the house, which lets locks go. No two slots of a stop had sent for one line.
+pub fn late_operations_were_sent_once()
     ensures sent { (homes : ℕ → Site) (run : List Happening) (o : Operation) (reply : Option Reply) (slot : ℕ)
-        → IsRight homes (Did o reply ∷ run) → o.by ≡ AfterStop slot → WasSent slot o reply run }
-    ensures worlds { (w : WorldView R) (sound : IsSoundWorld R.stands w) → AtEachOperation ComesOnce sound.run }
+        → IsRight homes (Did o reply ∷ run) → o.by ≡ AfterStop slot → WasSent homes slot o reply run }
+    ensures worlds { (w : WorldView Standing) (told : HasRun w) → AtEachOperation (ComesOnce told.homes) told.run }
 {}
 
 /// Nobody ends the watch of another session, but with the image: where an instance watches an image
 /// at a site before something happened, and not after it, then it stopped that itself, or the store
-/// let its watch expire, or the owner of the image's lock removed the image's header.
+/// let its watch expire, or the image's header was removed, by the owner of its lock.
 pub fn watches_end_by_themselves()
-    ensures { (homes : ℕ → Site) (run : List Happening) (h : Happening) (who : Who) (s : Site) (image : ℕ)
+    ensures ends { (homes : ℕ → Site) (run : List Happening) (h : Happening) (who : Who) (s : Site) (image : ℕ)
         → IsRight homes (h ∷ run) → is_watching who s image run ≡ true → is_watching who s image (h ∷ run) ≡ false
-        → EndsWatch who s image h run }
+        → ends_watch who s image h ≡ true }
+    ensures removed { (homes : ℕ → Site) (run : List Happening) (o : Operation) (reply : Option Reply) (who : Who) (s : Site) (image : ℕ)
+        → IsRight homes (Did o reply ∷ run) → is_watching who s image run ≡ true → is_watching who s image (Did o reply ∷ run) ≡ false
+        → o.op ≡ op.Header image header.Remove → HasLock image o.instance (records_after s run) }
 {}
 
 /// What is only told to those who watch changes nothing but the notices: both sites' records and
@@ -259,7 +267,7 @@ pub fn what_is_told_changes_no_site()
 
 /// The calls are the events that came, each with its outcome, one after another; and what the
 /// history has stays as it is.
-pub fn events_are_told_one_by_one<R: Request>()
-    ensures calls { (calls : List Call) (old new : WorldView R) → AreSteps R.stands calls old new → new.calls ≡ old.calls ++ calls }
-    ensures history { (calls : List Call) (old new : WorldView R) → AreSteps R.stands calls old new → BeginsWith old.history new.history }
+pub fn events_are_told_one_by_one()
+    ensures calls { (calls : List Call) (old new : WorldView Standing) → AreSteps as_is calls old new → new.calls ≡ old.calls ++ calls }
+    ensures history { (calls : List Call) (old new : WorldView Standing) → AreSteps as_is calls old new → BeginsWith old.history new.history }
 {}

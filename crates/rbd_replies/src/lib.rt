@@ -52,8 +52,11 @@
 //! | a watch ends | whoever watched ended it, or the store did, or the header was removed by the owner of the image's lock |
 //! | a notification | no record and no flat site changes |
 //!
-//! Of an operation that a stopped session had sent a run doesn't say for which command it is. So one
-//! that makes a map, or removes what is left of an image, is known by the records alone.
+//! An operation that a stopped session had sent is the next one, at the stop, of a line that was lost
+//! by it. So one that makes a map is of a command that drew the id itself, and one that removes the
+//! map of a head of a command that removed the header itself. The command of one that removes an
+//! object, or the map of a snapshot, of an image without a header removed that itself or had looked
+//! at it: that nobody else of its instance removed it since, a run doesn't say.
 //!
 //! # Contracts
 //!
@@ -74,7 +77,7 @@
 //! | `specs/Fenced.antt` | that an operation changed nothing, since its instance is fenced; and whose changes are |
 //! | `specs/Logs.antt` | that the log of a site is an owned one, as `rbd_stands` has it |
 //! | `specs/Sent.antt` | that what comes behind a stop was sent, and comes once |
-//! | `specs/Watched.antt` | how a watch ends, and what a notification leaves as it was |
+//! | `specs/Watched.antt` | who watches, and what a notification leaves as it was |
 //!
 //! [`laws`] says it of each reply of each run that is right (`IsRight` of `rbd_world`), as that of
 //! every world is: at its own place, whatever comes later.

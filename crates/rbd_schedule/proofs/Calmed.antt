@@ -24,7 +24,7 @@ use Rattle.rbd_session.specs.declared.running.Occupant.{Occupant}
 use Rattle.rbd_world.specs.declared.event.Event.{Event}
 use Rattle.rbd_world.specs.declared.event.Outcome.{Outcome}
 use Rattle.rbd_world.specs.Run.{Asked, Doer, Itself, OnWay, House, AfterStop, Happening, Nothing, Waited, Began, Did, Refused, Trimmed, Expired, Heard, Stopped, Restarted, asked_by, cause_of, ending_entries, ends, entries_of, fence_of, history_of, is_among, is_for}
-use Rattle.rbd_world.specs.Sound.{IsAtHome, IsInSlot, has_ended, held_of, line_at}
+use Rattle.rbd_world.specs.Sound.{IsAtHome, IsInSlot, IsSoundWorld, has_ended, held_of, line_at}
 use Rattle.rbd_world.specs.Step.{Does, IsStep, LivesOnIf, happening, is_begun, names_session}
 use Rattle.rbd_world.specs.World.{LivesView, WorldView, client_in, free_in, lives_in, running_of, session_of}
 use Rattle.rbd_world.proofs.Runs.{begun_is_asked}
@@ -164,9 +164,6 @@ module _ {R : Type 0} (stands : R → Standing) (script : Script) (w : WorldView
         past = λ s past. none_from_test (lives_in s play.first.lives) (home_there (slice_get (homes_of script.sessions) s) (lives_in s play.first.lives) (play.homes s) ∙ homes_past script.sessions s past);
       })
 
-  sound_there : (s : ℕ) (c : ClientView R) → client_in s w.lives ≡ Some c → IsSoundClient stands c
-  sound_there s c is = (play.sound.clients s c is).sound
-
   -- who runs is one of them
   pub runs_below : (s : ℕ) (c : ClientView R) → client_in s w.lives ≡ Some c → s < length script.sessions
   runs_below s c is = by (cases_lt s (length script.sessions))
@@ -175,14 +172,22 @@ module _ {R : Type 0} (stands : R → Standing) (script : Script) (w : WorldView
       by (inl below) = below
       by (inr past) = absurd (none-some c (sym (ap running_of (sessions_there.past s past)) ∙ is))
 
+-- in a world that is sound
+module _ {R : Type 0} (stands : R → Standing) (script : Script) (w : WorldView R) (play : IsPlay stands script w) (world : IsSoundWorld stands w) where
+  sound_there : (s : ℕ) (c : ClientView R) → client_in s w.lives ≡ Some c → IsSoundClient stands c
+  sound_there s c is = (world.clients s c is).sound
+
+  who_runs_below : (s : ℕ) (c : ClientView R) → client_in s w.lives ≡ Some c → s < length script.sessions
+  who_runs_below s c is = runs_below stands script w play s c is
+
   -- a line that was begun has ended, or is in a slot
   begun_comes : (line : ℕ) → is_begun line w.history ≡ true → (is_ended line w.history ≡ true) ⊎ IsInSlot line w.lives
-  begun_comes line begun = by (asked_by line play.sound.run) refl (has_ended line play.sound.run) refl
+  begun_comes line begun = by (asked_by line world.told.run) refl (has_ended line world.told.run) refl
     where
-      by : (asked : Option Asked) → asked_by line play.sound.run ≡ asked → (b : Bool) → has_ended line play.sound.run ≡ b → (is_ended line w.history ≡ true) ⊎ IsInSlot line w.lives
-      by asked is true ended = inl (ap (is_ended line) play.sound.history ∙ ended_is_ended line play.sound.run ∙ ended)
-      by None is false unended = absurd (false≢true (sym (ap (is_begun line) play.sound.history ∙ begun_is_asked line play.sound.run ∙ ap is_some is) ∙ begun))
-      by (Some asked) is false unended = inr (play.sound.slots line (record { asked = asked; is = is; unended = unended }))
+      by : (asked : Option Asked) → asked_by line world.told.run ≡ asked → (b : Bool) → has_ended line world.told.run ≡ b → (is_ended line w.history ≡ true) ⊎ IsInSlot line w.lives
+      by asked is true ended = inl (ap (is_ended line) world.told.history ∙ ended_is_ended line world.told.run ∙ ended)
+      by None is false unended = absurd (false≢true (sym (ap (is_begun line) world.told.history ∙ begun_is_asked line world.told.run ∙ ap is_some is) ∙ begun))
+      by (Some asked) is false unended = inr (world.slots line (record { asked = asked; is = is; unended = unended }))
 
   -- a slot with a line is one of a client that runs
   record IsHolder (session slot line : ℕ) : Type 0 where
@@ -207,7 +212,7 @@ module _ {R : Type 0} (stands : R → Standing) (script : Script) (w : WorldView
       (shown : (s : ℕ) (c : ClientView R) → client_in s w.lives ≡ Some c → WaysAreShown stands (is_lost_by script.lines) w c) (keeps : (s : ℕ) → s < length script.sessions → KeepsIn stands s w) where
     -- what was asked for is quiesced
     quiet_all : AllQuiet w
-    quiet_all s c is site image asked = by (keeps s (runs_below s c is) c is site image asked)
+    quiet_all s c is site image asked = by (keeps s (who_runs_below s c is) c is site image asked)
       where
         by : ((state_at site image c.locks).quiesced ≡ true) ⊎ ((any_past (lines_of c.session.lines site image) ≡ true) ⊎ HasTaken c) → (state_at site image c.locks).quiesced ≡ true
         by (inl quiesced) = quiesced
@@ -223,7 +228,7 @@ module _ {R : Type 0} (stands : R → Standing) (script : Script) (w : WorldView
           runs = there.runs;
           slot = slot;
           holds = at;
-          stuck = stuck stands (is_lost_by script.lines) w there.client (sound_there session there.client there.runs) (shown session there.client there.runs) quiet_all (quiet_all session there.client there.runs) (still session there.client there.runs) slot there.occupant there.held;
+          stuck = stuck stands (is_lost_by script.lines) w world there.client (sound_there session there.client there.runs) (shown session there.client there.runs) quiet_all (quiet_all session there.client there.runs) (still session there.client there.runs) slot there.occupant there.held;
         }
 
     each_line : (line : ℕ) → is_begun line w.history ≡ true → (is_ended line w.history ≡ true) ⊎ IsStuck stands (is_lost_by script.lines) w line
@@ -246,7 +251,7 @@ module _ {R : Type 0} (stands : R → Standing) (script : Script) (w : WorldView
       in_no_slot line there =
           let it = holder there.session there.slot line there.is in
           let range = range_of (there.session) it.client it.runs there.slot it.occupant it.held in
-          none-some line (sym (nobody there.session (runs_below there.session it.client it.runs) there.slot (omega (arith, range))) ∙ there.is)
+          none-some line (sym (nobody there.session (who_runs_below there.session it.client it.runs) there.slot (omega (arith, range))) ∙ there.is)
         where
           range_of : (s : ℕ) (c : ClientView R) → client_in s w.lives ≡ Some c → (slot : ℕ) (o : Occupant R) → held_in slot c.session.slots ≡ Some o → slot ≤ 64
           range_of s c is slot o held = (held_range stands c.session (sound_there s c is).session slot o held).1
@@ -263,7 +268,7 @@ module _ {R : Type 0} (stands : R → Standing) (script : Script) (w : WorldView
       room_there s c is =
           let sound = (sound_there s c is).session in
           let free : held_in 1 c.session.slots ≡ None
-          = free_there (held_in 1 c.session.slots) (sym (ap (λ x. script_line (held_of 1 (session_of x))) is) ∙ nobody s (runs_below s c is) 1 (omega arith)) in
+          = free_there (held_in 1 c.session.slots) (sym (ap (λ x. script_line (held_of 1 (session_of x))) is) ∙ nobody s (who_runs_below s c is) 1 (omega arith)) in
           let least : c.session.lowest ≡ 1 = only_one c.session.lowest sound.lowest.some (λ more. false≢true (sym (ap is_some free) ∙ sound.lowest.below 1 (omega arith) more)) in
           ap (λ x. is_some (free_in x)) is ∙ ap (λ n. is_some (cond (nat_lt 64 n) None (Some n))) least
         where
@@ -354,7 +359,7 @@ none_quiet {R} given w none s = by (client_in s w.lives) refl
 
 -- ---- the end of a play
 
-module _ {R : Type 0} (stands : R → Standing) (script : Script) (w : WorldView R) (play : IsPlay stands script w) where
+module _ {R : Type 0} (stands : R → Standing) (script : Script) (w : WorldView R) (play : IsPlay stands script w) (world : IsSoundWorld stands w) where
   abbrev given : (session : ℕ) → List Given
   given = given_in script.lines
 
@@ -365,13 +370,13 @@ module _ {R : Type 0} (stands : R → Standing) (script : Script) (w : WorldView
   count = length script.sessions
 
   sounds : AreSoundSessions stands given w
-  sounds s c is = (sound_there stands script w play s c is).session
+  sounds s c is = (sound_there stands script w play world s c is).session
 
   -- a round whose sessions all stopped
   nobody_calms : NoneRuns stands given lost count w → HasCalmed stands script w
   nobody_calms none =
       let all : (s : ℕ) → runs s w ≡ false = λ s. by s (cases_lt s count) in
-      calmed stands script w play (λ s c is slot least most. absurd (true≢false (sym (ap is_some is) ∙ all s))) (λ s c is. absurd (true≢false (sym (ap is_some is) ∙ all s)))
+      calmed stands script w play world (λ s c is slot least most. absurd (true≢false (sym (ap is_some is) ∙ all s))) (λ s c is. absurd (true≢false (sym (ap is_some is) ∙ all s)))
       (λ s below c is. absurd (true≢false (sym (ap is_some is) ∙ all s))) (none_quiet given w all)
     where
       by : (s : ℕ) → (s < count) ⊎ (count ≤ s) → runs s w ≡ false
@@ -386,7 +391,7 @@ module _ {R : Type 0} (stands : R → Standing) (script : Script) (w : WorldView
       by None at = absurd (none-some c.session (sym (ap session_of at) ∙ same s ∙ ap session_of there))
       by (Some x) at =
           let one : c.session ≡ x.session = same_Some c.session x.session (sym (ap session_of there) ∙ sym (same s) ∙ ap session_of at) in
-          ap (λ (y : SessionView R). y.instance.session) one ∙ (play.sound.clients s x at).whose
+          ap (λ (y : SessionView R). y.instance.session) one ∙ (world.clients s x at).whose
 
   round_calms : ((s : ℕ) (c : ClientView R) → client_in s w.lives ≡ Some c → WaysAreShown stands (is_lost_by script.lines) w c) → (before : WorldView R) → Round stands given lost count false before w → IsQuiet given before → HasCalmed stands script w
   round_calms shown before round quiet =
@@ -394,7 +399,7 @@ module _ {R : Type 0} (stands : R → Standing) (script : Script) (w : WorldView
       let new : Pace R = record { world = w; went_on = false } in
       let kept = keeps_turns stands given (HasRequestsOf stands given before) (requests_step stands given before) lost count old new round refl ((λ s. refl), quiet) in
       let sound = sound_again stands given w before (λ s. sym (kept.0 s)) sounds in
-      calmed stands script w play
+      calmed stands script w play world
       (λ s c is slot least most. by s c is slot least most (still_turns stands given lost count old new round refl quiet sound s (runs_below stands script w play s c is))) shown
       (round_keeps stands given lost count before w round quiet sound (own_before before kept.0)) kept.1
     where
@@ -406,10 +411,10 @@ module _ {R : Type 0} (stands : R → Standing) (script : Script) (w : WorldView
   mailed_at : (last : AreLastRounds stands given lost count 7 (record { world = play.plays.between; idle = 0 }) w) → IsMailed last.before.world
   mailed_at last =
       kept_by_deeds (λ (c : Calm R). IsMailed c.world) _
-      (λ k old new rounds was. kept_by_rounds stands IsMailed (λ e. Unit {0}) (λ session slot. tt) (λ number. tt) (λ e result old new may. mailed_step stands e result old new) given
+      (λ k old new rounds was. kept_by_rounds stands IsMailed (λ e. Unit {0}) (λ session slot. tt) (λ number. tt) (λ e result old new may step counted. mailed_step stands e result old new step) given
       (λ session old new submits. mailed_step stands submits.command.submission submits.result old new submits.step) lost count k old new rounds was)
       last.made (record { world = play.plays.between; idle = 0 }) last.before last.first
-      (kept_to_closing stands IsMailed (λ e. Unit {0}) (λ session slot. tt) (λ number. tt) (λ e result old new may. mailed_step stands e result old new) script (λ k line is. any_may line.said)
+      (kept_to_closing stands IsMailed (λ e. Unit {0}) (λ session slot. tt) (λ number. tt) (λ e result old new may step counted. mailed_step stands e result old new step) script (λ k line is. any_may line.said)
       (λ lines more is session old new submits. mailed_step stands submits.command.submission submits.result old new submits.step) play.first w play.plays (mailed_first stands play.first play.new))
     where
       any_may : (s : Said) → MayComeBy (λ e. Unit {0}) s

@@ -16,6 +16,7 @@ use Rattle.rbd_schedule.specs.Given.{commands_of, given_in, is_lost_by}
 use Rattle.rbd_schedule.specs.Notices.{is_due, runs}
 use Rattle.rbd_schedule.specs.Playing.{IsPlay}
 use Rattle.rbd_schedule.specs.Schedule.{Calm, DeliversWhere, Pace, PollsIn, PollsWhere, RoundsOn, Submits, Turn, TurnOf, TurnWhere, closing_rounds, is_held, most_idle}
+use Rattle.rbd_schedule.specs.Slots.{AreCounted}
 use Rattle.rbd_schedule.proofs.Ended.{NoneRuns, skip_turns}
 use Rattle.rbd_schedule.proofs.Kept.{kept_by_deeds, kept_by_starts, kept_where, kept_where_due, kept_where_runs}
 
@@ -30,11 +31,11 @@ module _ {R : Type 0} (stands : R → Standing) (given : (session : ℕ) → Lis
       let more = length_push old.calls (call_of e (happening stands e old)) in
       subst (λ calls. suc n ≤ length calls) (sym does.calls) (omega (arith, more, made))
 
-  keeps : (n : ℕ) (e : Event) (result : Outcome) (old new : WorldView R) → Unit {0} → IsStep stands e old result new → HasMade n old → HasMade n new
-  keeps n e result old new may step made = let more = one_event n e result old new step made in omega (arith, more)
+  keeps : (n : ℕ) (e : Event) (result : Outcome) (old new : WorldView R) → Unit {0} → IsStep stands e old result new → AreCounted new → HasMade n old → HasMade n new
+  keeps n e result old new may step counted made = let more = one_event n e result old new step made in omega (arith, more)
 
   starts_keep : (n session : ℕ) (old new : WorldView R) → Submits stands given session old new → HasMade n old → HasMade n new
-  starts_keep n session old new submits made = keeps n submits.command.submission submits.result old new tt submits.step made
+  starts_keep n session old new submits made = keeps n submits.command.submission submits.result old new tt submits.step submits.counted made
 
   -- a poll makes one
   poll_makes : (n session slot : ℕ) (old new : Pace R) → PollsIn stands given session slot old new → HasMade n old.world → HasMade (suc n) new.world
@@ -79,12 +80,12 @@ module _ {R : Type 0} (stands : R → Standing) (given : (session : ℕ) → Lis
 
   module _ (sessions : ℕ) where
     -- each round made one; or nobody runs any more, and those that made none are the last
-    abbrev AreCounted : (n : ℕ) → Calm R → Type 0
-    AreCounted n c = HasMade n c.world ⊎ (NoneRuns stands given lost sessions c.world × (n ≤ length c.world.calls + c.idle))
+    abbrev AreMade : (n : ℕ) → Calm R → Type 0
+    AreMade n c = HasMade n c.world ⊎ (NoneRuns stands given lost sessions c.world × (n ≤ length c.world.calls + c.idle))
 
     idle_round : (n : ℕ) (old new : Calm R) (on : RoundsOn stands given lost sessions old new)
         → ◌≡◌ {A = Pace R} (record { world = new.world; went_on = on.went_on }) (record { world = old.world; went_on = false })
-        → NoneRuns stands given lost sessions old.world → n ≤ length old.world.calls + old.idle → AreCounted (suc n) new
+        → NoneRuns stands given lost sessions old.world → n ≤ length old.world.calls + old.idle → AreMade (suc n) new
     idle_round n old new on same none few =
         let world : new.world ≡ old.world = ap (λ (p : Pace R). p.world) same in
         let idle : new.idle ≡ old.idle + 1 = on.idle ∙ ap (λ (p : Pace R). cond p.went_on 0 (old.idle + 1)) same in
@@ -93,16 +94,16 @@ module _ {R : Type 0} (stands : R → Standing) (given : (session : ℕ) → Lis
           subst (λ (w : WorldView R). suc n ≤ length w.calls + new.idle) (sym world) (omega (arith, idle, few)),
         )
 
-    one_round : (n : ℕ) (old new : Calm R) → RoundsOn stands given lost sessions old new → AreCounted n old → AreCounted (suc n) new
+    one_round : (n : ℕ) (old new : Calm R) → RoundsOn stands given lost sessions old new → AreMade n old → AreMade (suc n) new
     one_round n old new on (inl made) = by (turns_make n sessions (record { world = old.world; went_on = false }) (record { world = new.world; went_on = on.went_on }) on.round made)
       where
-        by : MadeOrStill n sessions (record { world = old.world; went_on = false }) (record { world = new.world; went_on = on.went_on }) → AreCounted (suc n) new
+        by : MadeOrStill n sessions (record { world = old.world; went_on = false }) (record { world = new.world; went_on = on.went_on }) → AreMade (suc n) new
         by (inl more) = inl more
         by (inr (same, none)) = idle_round n old new on same none (omega (arith, made))
     one_round n old new on (inr (none, few)) =
         idle_round n old new on (skip_turns stands given lost sessions (record { world = old.world; went_on = false }) (record { world = new.world; went_on = on.went_on }) on.round none) none few
 
-    all_rounds : (n : ℕ) (old new : Calm R) → Deeds (λ i. RoundsOn stands given lost sessions) n old new → AreCounted n new
+    all_rounds : (n : ℕ) (old new : Calm R) → Deeds (λ i. RoundsOn stands given lost sessions) n old new → AreMade n new
     unfolding Deeds
     all_rounds zero old new done = inl (omega arith)
     all_rounds (suc n) old new (between, before, it) = one_round n between new it (all_rounds n old between before)
@@ -136,7 +137,7 @@ module _ {R : Type 0} (stands : R → Standing) (script : Script) (w : WorldView
       eight : play.plays.closing.idle ≤ 8
       eight = few_idle stands (given_in script.lines) (is_lost_by script.lines) (length script.sessions) count start end on refl
 
-      by : AreCounted stands (given_in script.lines) (is_lost_by script.lines) (length script.sessions) count end → count ≤ length w.calls + 8
+      by : AreMade stands (given_in script.lines) (is_lost_by script.lines) (length script.sessions) count end → count ≤ length w.calls + 8
       by (inl made) = omega (arith, made)
       by (inr (none, few)) = omega (arith, few, eight)
 

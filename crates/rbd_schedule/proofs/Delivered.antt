@@ -9,7 +9,6 @@ use Rattle.rbd_commands.specs.declared.command.Command.{Command}
 use Rattle.rbd_kinds.specs.declared.notice.Notice.{Notice}
 use Rattle.rbd_kinds.specs.Instances.{same_instance}
 use Rattle.rbd_machine.specs.Plan.{Standing}
-use Rattle.rbd_requests.specs.declared.request.SessionRequest.{SessionRequest}
 use Rattle.rbd_watch.specs.Posting.{numbered}
 use Rattle.rbd_world.specs.declared.event.Event.TheVariants as event
 use Rattle.rbd_world.specs.declared.event.Outcome.{Outcome}
@@ -138,7 +137,7 @@ module _ {R : Type 0} (stands : R → Standing) where
     due_stays false told old new away same = ap (is_due lost session number) same
 
 -- the commands of a runner are such
-pub given_all : {E : Type 0} {stands : SessionRequest E → Standing} (r : Runner E) → KeepsUp stands r → (session : ℕ) → All (IsGiven session) (given_to r session)
+pub given_all : (r : Runner) → KeepsUp r → (session : ℕ) → All (IsGiven session) (given_to r session)
 given_all r keeps session = by (slice_get r.queues.items session) refl
   where
     by : (o : Option Queue) → slice_get r.queues.items session ≡ o → All (IsGiven session) (commands_in o)

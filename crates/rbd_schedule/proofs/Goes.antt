@@ -11,11 +11,13 @@ use Rattle.rbd_requests.specs.declared.request.SessionRequest.{SessionRequest}
 use Rattle.rbd_script.specs.declared.script.Said.{Said}
 use Rattle.rbd_script.specs.declared.script.Said.TheVariants as said
 use Rattle.rbd_session.specs.Session.{held_in, script_line}
+use Rattle.rbd_client.specs.Seen.{as_is}
+use Rattle.rbd_world.specs.Seen.{seen}
 use Rattle.rbd_world.specs.declared.event.Event.{Event}
 use Rattle.rbd_world.specs.declared.event.Event.TheVariants as event
 use Rattle.rbd_world.specs.declared.event.Outcome.{Outcome}
 use Rattle.rbd_world.specs.Sound.{IsNewWorld, IsSoundWorld, held_of}
-use Rattle.rbd_world.specs.Step.{IsStep, happening, is_begun}
+use Rattle.rbd_world.specs.Step.{IsBuiltEvent, IsStep, happening, is_begun}
 use Rattle.rbd_world.specs.World.{LivesView, WorldView, client_in, free_in, lives_in, running_of, session_of}
 use Rattle.rbd_schedule.specs.declared.given.Given.{Given}
 use Rattle.rbd_schedule.specs.declared.queue.Queue.{Queue}
@@ -32,236 +34,240 @@ use Rattle.rbd_schedule.proofs.Left.{left_in, one_fewer, one_fewer_in}
 use Rattle.rbd_schedule.proofs.Passing.{heard_then, passed_more, passed_stays}
 use Rattle.rbd_schedule.proofs.Queues.{commands_with, each_with, set_other, set_there}
 use Rattle.rbd_schedule.proofs.Quiet.{line_held, quiet_event}
+use Rattle.rbd_schedule.proofs.Slots.{world_counted}
 
 told_delivers : (number : ℕ) (e : Event) → is_one_of number (told_by e) ≡ delivers number e
 told_delivers number (event.Deliver other) = refl
 told_delivers number _ = refl
 
-module _ {E : Type 0} where
-  pub goes_same : {stands : SessionRequest E → Standing} (old : Runner E) → GoesOn stands old old
-  goes_same old = record { keeps = λ keeps. keeps; given = refl; queues = refl; lost = refl }
+pub goes_same : (old : Runner) → GoesOn old old
+goes_same old = record { keeps = λ keeps. keeps; given = refl; queues = refl; lost = refl }
 
-  pub goes_then : {stands : SessionRequest E → Standing} (old between new : Runner E) → GoesOn stands old between → GoesOn stands between new → GoesOn stands old new
-  goes_then old between new first second = record {
-    keeps = λ keeps. second.keeps (first.keeps keeps);
-    given = second.given ∙ first.given;
-    queues = second.queues ∙ first.queues;
-    lost = second.lost ∙ first.lost;
-  }
+pub goes_then : (old between new : Runner) → GoesOn old between → GoesOn between new → GoesOn old new
+goes_then old between new first second = record {
+  keeps = λ keeps. second.keeps (first.keeps keeps);
+  given = second.given ∙ first.given;
+  queues = second.queues ∙ first.queues;
+  lost = second.lost ∙ first.lost;
+}
 
-  -- the world took a step, and what the runner keeps beside it is true of it again
-  goes_by_step : (stands : SessionRequest E → Standing) (e : Event) (old new : Runner E) (result : Outcome) → IsStep stands e old.world result new.world → IsSoundWorld stands new.world
-      → new.queues ≡ old.queues → new.lost ≡ old.lost → new.passed ≡ old.passed
-      → (KeepsUp stands old → (line : ℕ) → has_line line new.over ≡ is_ended line new.world.history)
-      → (KeepsUp stands old → (number : ℕ) → has_number number new.heard ≡ was_heard number new.world.calls)
-      → (KeepsUp stands old → new.is_due ≡ false → IsQuiet (given_to old) new.world) → (KeepsUp stands old → new.highest ≤ 64)
-      → (KeepsUp stands old → (s slot : ℕ) → new.highest < slot → is_held s slot new.world ≡ false)
-      → GoesOn stands old new
-  goes_by_step stands e old new result step sound queues lost passed over heard quiet most above = record {
-    keeps = λ keeps. record {
-      sound = sound;
-      quiet = λ due. subst (λ given. IsQuiet given new.world) (sym given) (quiet keeps due);
-      most = most keeps;
-      above = above keeps;
-      few = subst (λ qs. length qs.items ≤ 32) (sym queues) keeps.few;
-      queues = λ session q is.
-          queue_in_stays old.world.history new.world.history session q (begun_stays stands e (happening stands e old.world) old.world new.world step.1)
-          (ended_stays stands e (happening stands e old.world) old.world new.world step.1) (keeps.queues session q (ap (λ qs. slice_get qs.items session) (sym queues) ∙ is));
-      over = over keeps;
-      heard = heard keeps;
-      passed = λ session k below.
-          subst (λ (l : (number : ℕ) → Bool). IsPassed l session (k + 1) new.world) (sym same)
-          (passed_stays stands (lost_in old) e result old.world new.world step keeps.sound session (k + 1)
-          (keeps.passed session k (subst (λ ps. k < count_of (slice_get ps.items session)) passed below)));
-    };
-    given = given;
-    queues = ap (λ qs. length qs.items) queues;
-    lost = same;
-  }
-    where
-      given : given_to new ≡ given_to old
-      given = fun_ext (λ session. ap (λ qs. commands_in (slice_get qs.items session)) queues)
+-- the world took a step, and what the runner keeps beside it is true of it again
+goes_by_step : (e : Event) (old new : Runner) (result : Outcome) → IsStep as_is e (seen old.world) result (seen new.world) → IsSoundWorld as_is (seen new.world)
+    → new.queues ≡ old.queues → new.lost ≡ old.lost → new.passed ≡ old.passed
+    → (KeepsUp old → (line : ℕ) → has_line line new.over ≡ is_ended line (seen new.world).history)
+    → (KeepsUp old → (number : ℕ) → has_number number new.heard ≡ was_heard number (seen new.world).calls)
+    → (KeepsUp old → new.is_due ≡ false → IsQuiet (given_to old) (seen new.world)) → (KeepsUp old → new.highest ≤ 64)
+    → (KeepsUp old → (s slot : ℕ) → new.highest < slot → is_held s slot (seen new.world) ≡ false)
+    → GoesOn old new
+goes_by_step e old new result step sound queues lost passed over heard quiet most above = record {
+  keeps = λ keeps. record {
+    sound = sound;
+    quiet = λ due. subst (λ given. IsQuiet given (seen new.world)) (sym given) (quiet keeps due);
+    most = most keeps;
+    above = above keeps;
+    few = subst (λ qs. length qs.items ≤ 32) (sym queues) keeps.few;
+    queues = λ session q is.
+        queue_in_stays (seen old.world).history (seen new.world).history session q (begun_stays as_is e (happening as_is e (seen old.world)) (seen old.world) (seen new.world) step.1)
+        (ended_stays as_is e (happening as_is e (seen old.world)) (seen old.world) (seen new.world) step.1) (keeps.queues session q (ap (λ qs. slice_get qs.items session) (sym queues) ∙ is));
+    over = over keeps;
+    heard = heard keeps;
+    passed = λ session k below.
+        subst (λ (l : (number : ℕ) → Bool). IsPassed l session (k + 1) (seen new.world)) (sym same)
+        (passed_stays as_is (lost_in old) e result (seen old.world) (seen new.world) step keeps.sound session (k + 1)
+        (keeps.passed session k (subst (λ ps. k < count_of (slice_get ps.items session)) passed below)));
+  };
+  given = given;
+  queues = ap (λ qs. length qs.items) queues;
+  lost = same;
+}
+  where
+    given : given_to new ≡ given_to old
+    given = fun_ext (λ session. ap (λ qs. commands_in (slice_get qs.items session)) queues)
 
-      same : lost_in new ≡ lost_in old
-      same = fun_ext (λ number. ap (has_number number) lost)
+    same : lost_in new ≡ lost_in old
+    same = fun_ext (λ number. ap (has_number number) lost)
 
-  -- ---- an event that begins no command
+-- ---- an event that begins no command
 
-  goes_by_event : (stands : SessionRequest E → Standing) (e : Event) (old new : Runner E) (result : Outcome) → IsNoStart e → IsStep stands e old.world result new.world → IsSoundWorld stands new.world
-      → new.queues ≡ old.queues → new.lost ≡ old.lost → new.passed ≡ old.passed → new.highest ≡ old.highest
-      → ((line : ℕ) → has_line line new.over ≡ (has_line line old.over || is_ended line (drop (length old.world.history) new.world.history)))
-      → ((number : ℕ) → has_number number new.heard ≡ (has_number number old.heard || (is_one_of number (told_by e) && is_heard result)))
-      → new.is_due ≡ (old.is_due || lets_start result) → GoesOn stands old new
-  goes_by_event stands e old new result plain step sound queues lost passed highest over heard due =
-      goes_by_step stands e old new result step sound queues lost passed
-      (λ keeps line. over line ∙ ap (λ b. b || is_ended line (drop (length old.world.history) new.world.history)) (keeps.over line)
-      ∙ sym (ended_by_step stands e (happening stands e old.world) old.world new.world step.1 line))
-      (λ keeps number. heard number ∙ ap (λ b. b || (is_one_of number (told_by e) && is_heard result)) (keeps.heard number)
-      ∙ ap (λ b. was_heard number old.world.calls || (b && is_heard result)) (told_delivers number e) ∙ sym (heard_then stands e result old.world new.world step number))
-      (λ keeps none.
-      let parts = or_parts old.is_due (lets_start result) (sym due ∙ none) in
-      quiet_event stands (given_to old) e old.world result new.world plain step keeps.sound sound parts.1 (keeps.quiet parts.0))
-      (λ keeps. subst (λ n. n ≤ 64) (sym highest) keeps.most)
-      (λ keeps s slot more. event_above stands e old.world result new.world plain keeps.sound step s slot (keeps.above s slot (subst (λ n. n < slot) highest more)))
+goes_by_event : (e : Event) (old new : Runner) (result : Outcome) → IsNoStart e → IsStep as_is e (seen old.world) result (seen new.world) → IsSoundWorld as_is (seen new.world)
+    → new.queues ≡ old.queues → new.lost ≡ old.lost → new.passed ≡ old.passed → new.highest ≡ old.highest
+    → ((line : ℕ) → has_line line new.over ≡ (has_line line old.over || is_ended line (drop (length (seen old.world).history) (seen new.world).history)))
+    → ((number : ℕ) → has_number number new.heard ≡ (has_number number old.heard || (is_one_of number (told_by e) && is_heard result)))
+    → new.is_due ≡ (old.is_due || lets_start result) → GoesOn old new
+goes_by_event e old new result plain step sound queues lost passed highest over heard due =
+    goes_by_step e old new result step sound queues lost passed
+    (λ keeps line. over line ∙ ap (λ b. b || is_ended line (drop (length (seen old.world).history) (seen new.world).history)) (keeps.over line)
+    ∙ sym (ended_by_step as_is e (happening as_is e (seen old.world)) (seen old.world) (seen new.world) step.1 line))
+    (λ keeps number. heard number ∙ ap (λ b. b || (is_one_of number (told_by e) && is_heard result)) (keeps.heard number)
+    ∙ ap (λ b. was_heard number (seen old.world).calls || (b && is_heard result)) (told_delivers number e) ∙ sym (heard_then as_is e result (seen old.world) (seen new.world) step number))
+    (λ keeps none.
+    let parts = or_parts old.is_due (lets_start result) (sym due ∙ none) in
+    quiet_event as_is (given_to old) e (seen old.world) result (seen new.world) plain step keeps.sound sound parts.1 (keeps.quiet parts.0))
+    (λ keeps. subst (λ n. n ≤ 64) (sym highest) keeps.most)
+    (λ keeps s slot more. event_above as_is e (seen old.world) result (seen new.world) plain keeps.sound step s slot (keeps.above s slot (subst (λ n. n < slot) highest more)))
 
-  -- its step, and then what was noted of it
-  pub goes_by_note : (stands : SessionRequest E → Standing) (e : Event) (old between new : Runner E) (from : ℕ) (told : Option ℕ) (result : Outcome) → IsNoStart e → from ≡ length old.world.history → told ≡ told_by e
-      → IsStep stands e old.world result between.world → IsSoundWorld stands between.world → between ≡ record old { world = between.world }
-      → new ≡ record between { over = new.over; heard = new.heard; is_due = new.is_due }
-      → ((line : ℕ) → has_line line new.over ≡ (has_line line between.over || is_ended line (drop from between.world.history)))
-      → ((number : ℕ) → has_number number new.heard ≡ (has_number number between.heard || (is_one_of number told && is_heard result)))
-      → new.is_due ≡ (between.is_due || lets_start result) → GoesOn stands old new
-  goes_by_note stands e old between new from told result plain len is_told step sound first rest over heard due =
-      subst (GoesOn stands old) (sym all)
-      (goes_by_event stands e old (record old { world = between.world; over = new.over; heard = new.heard; is_due = new.is_due }) result plain step sound refl refl refl refl
-      (λ line. over line ∙ ap (λ (r : Runner E). has_line line r.over || is_ended line (drop from between.world.history)) first
-      ∙ ap (λ n. has_line line old.over || is_ended line (drop n between.world.history)) len)
-      (λ number. heard number ∙ ap (λ (r : Runner E). has_number number r.heard || (is_one_of number told && is_heard result)) first
-      ∙ ap (λ t. has_number number old.heard || (is_one_of number t && is_heard result)) is_told)
-      (due ∙ ap (λ (r : Runner E). r.is_due || lets_start result) first))
-    where
-      all : new ≡ record old { world = between.world; over = new.over; heard = new.heard; is_due = new.is_due }
-      all = rest ∙ ap (λ (r : Runner E). record r { over = new.over; heard = new.heard; is_due = new.is_due }) first
+-- its step, and then what was noted of it
+pub goes_by_note : (e : Event) (old between new : Runner) (from : ℕ) (told : Option ℕ) (result : Outcome) → IsNoStart e → from ≡ length (seen old.world).history → told ≡ told_by e
+    → IsStep as_is e (seen old.world) result (seen between.world) → IsSoundWorld as_is (seen between.world) → between ≡ record old { world = between.world }
+    → new ≡ record between { over = new.over; heard = new.heard; is_due = new.is_due }
+    → ((line : ℕ) → has_line line new.over ≡ (has_line line between.over || is_ended line (drop from (seen between.world).history)))
+    → ((number : ℕ) → has_number number new.heard ≡ (has_number number between.heard || (is_one_of number told && is_heard result)))
+    → new.is_due ≡ (between.is_due || lets_start result) → GoesOn old new
+goes_by_note e old between new from told result plain len is_told step sound first rest over heard due =
+    subst (GoesOn old) (sym all)
+    (goes_by_event e old (record old { world = between.world; over = new.over; heard = new.heard; is_due = new.is_due }) result plain step sound refl refl refl refl
+    (λ line. over line ∙ ap (λ (r : Runner). has_line line r.over || is_ended line (drop from (seen between.world).history)) first
+    ∙ ap (λ n. has_line line old.over || is_ended line (drop n (seen between.world).history)) len)
+    (λ number. heard number ∙ ap (λ (r : Runner). has_number number r.heard || (is_one_of number told && is_heard result)) first
+    ∙ ap (λ t. has_number number old.heard || (is_one_of number t && is_heard result)) is_told)
+    (due ∙ ap (λ (r : Runner). r.is_due || lets_start result) first))
+  where
+    all : new ≡ record old { world = between.world; over = new.over; heard = new.heard; is_due = new.is_due }
+    all = rest ∙ ap (λ (r : Runner). record r { over = new.over; heard = new.heard; is_due = new.is_due }) first
 
-  -- nothing may start, and so none is looked for
-  pub goes_quiet : (stands : SessionRequest E → Standing) (old : Runner E) → IsQuiet (given_to old) old.world → GoesOn stands old (record old { is_due = false })
-  goes_quiet stands old quiet = record {
-    keeps = λ keeps. record {
-      sound = keeps.sound;
-      quiet = λ due. quiet;
-      most = keeps.most;
-      above = keeps.above;
-      few = keeps.few;
-      queues = keeps.queues;
-      over = keeps.over;
-      heard = keeps.heard;
-      passed = keeps.passed;
-    };
-    given = refl;
-    queues = refl;
-    lost = refl;
-  }
+-- nothing may start, and so none is looked for
+pub goes_quiet : (old : Runner) → IsQuiet (given_to old) (seen old.world) → GoesOn old (record old { is_due = false })
+goes_quiet old quiet = record {
+  keeps = λ keeps. record {
+    sound = keeps.sound;
+    quiet = λ due. quiet;
+    most = keeps.most;
+    above = keeps.above;
+    few = keeps.few;
+    queues = keeps.queues;
+    over = keeps.over;
+    heard = keeps.heard;
+    passed = keeps.passed;
+  };
+  given = refl;
+  queues = refl;
+  lost = refl;
+}
 
-  -- ---- the queue of a session
+-- ---- the queue of a session
 
-  abbrev is_over_now : Runner E → (line : ℕ) → Bool
-  is_over_now r line = is_ended line r.world.history
+abbrev is_over_now : Runner → (line : ℕ) → Bool
+is_over_now r line = is_ended line (seen r.world).history
 
-  abbrev noted_in : Runner E → (line : ℕ) → Bool
-  noted_in r line = has_line line r.over
+abbrev noted_in : Runner → (line : ℕ) → Bool
+noted_in r line = has_line line r.over
 
-  same_ends : {stands : SessionRequest E → Standing} (r : Runner E) → KeepsUp stands r → is_over_now r ≡ noted_in r
-  same_ends r keeps = fun_ext (λ line. sym (keeps.over line))
+same_ends : (r : Runner) → KeepsUp r → is_over_now r ≡ noted_in r
+same_ends r keeps = fun_ext (λ line. sym (keeps.over line))
 
-  pub kept_queue : {stands : SessionRequest E → Standing} (r : Runner E) → KeepsUp stands r → (session : ℕ) (q : Queue) → slice_get r.queues.items session ≡ Some q
-      → IsQueue (λ line. is_begun line r.world.history) (λ line. has_line line r.over) q
-  kept_queue r keeps session q is = subst (λ a. IsQueue (λ line. is_begun line r.world.history) a q) (same_ends r keeps) (keeps.queues session q is).queue
+pub kept_queue : (r : Runner) → KeepsUp r → (session : ℕ) (q : Queue) → slice_get r.queues.items session ≡ Some q
+    → IsQueue (λ line. is_begun line (seen r.world).history) (λ line. has_line line r.over) q
+kept_queue r keeps session q is = subst (λ a. IsQueue (λ line. is_begun line (seen r.world).history) a q) (same_ends r keeps) (keeps.queues session q is).queue
 
-  -- the place that a queue tells is that of the command that may start
-  pub place_found : {stands : SessionRequest E → Standing} (r : Runner E) → KeepsUp stands r → (session : ℕ) (q : Queue) (result : Option ℕ) (slot : ℕ) → slice_get r.queues.items session ≡ Some q
-      → free_in (client_in session r.world.lives) ≡ Some slot
-      → at_place q.commands.items result ≡ earliest (λ line. is_begun line r.world.history) (λ line. has_line line r.over) true q.commands.items
-      → at_place (given_to r session) result ≡ to_start (given_to r session) r.world session
-  place_found r keeps session q result slot is room found =
-      ap (λ o. at_place (commands_in o) result) is ∙ found
-      ∙ ap (λ a. earliest (λ line. is_begun line r.world.history) a true q.commands.items) (sym (same_ends r keeps))
-      ∙ ap (λ o. earliest (λ line. is_begun line r.world.history) (λ line. is_ended line r.world.history) true (commands_in o)) (sym is)
-      ∙ ap (λ o. cond (is_some o) (earliest (λ line. is_begun line r.world.history) (λ line. is_ended line r.world.history) true (given_to r session)) None) (sym room)
+-- the place that a queue tells is that of the command that may start
+pub place_found : (r : Runner) → KeepsUp r → (session : ℕ) (q : Queue) (result : Option ℕ) (slot : ℕ) → slice_get r.queues.items session ≡ Some q
+    → free_in (client_in session (seen r.world).lives) ≡ Some slot
+    → at_place q.commands.items result ≡ earliest (λ line. is_begun line (seen r.world).history) (λ line. has_line line r.over) true q.commands.items
+    → at_place (given_to r session) result ≡ to_start (given_to r session) (seen r.world) session
+place_found r keeps session q result slot is room found =
+    ap (λ o. at_place (commands_in o) result) is ∙ found
+    ∙ ap (λ a. earliest (λ line. is_begun line (seen r.world).history) a true q.commands.items) (sym (same_ends r keeps))
+    ∙ ap (λ o. earliest (λ line. is_begun line (seen r.world).history) (λ line. is_ended line (seen r.world).history) true (commands_in o)) (sym is)
+    ∙ ap (λ o. cond (is_some o) (earliest (λ line. is_begun line (seen r.world).history) (λ line. is_ended line (seen r.world).history) true (given_to r session)) None) (sym room)
 
-  pub within_given : (r : Runner E) (session : ℕ) (q : Queue) (result : Option ℕ) → slice_get r.queues.items session ≡ Some q
-      → IfSome result (λ place. place < length q.commands.items) → IfSome result (λ place. place < length (given_to r session))
-  within_given r session q result is within = IfSome_then result within (λ place below. subst (λ o. place < length (commands_in o)) (sym is) below)
+pub within_given : (r : Runner) (session : ℕ) (q : Queue) (result : Option ℕ) → slice_get r.queues.items session ≡ Some q
+    → IfSome result (λ place. place < length q.commands.items) → IfSome result (λ place. place < length (given_to r session))
+within_given r session q result is within = IfSome_then result within (λ place below. subst (λ o. place < length (commands_in o)) (sym is) below)
 
-  -- a queue looked, and goes on from there
-  pub goes_by_look : {stands : SessionRequest E → Standing} (old new : Runner E) → KeepsUp stands old → (session : ℕ) (q q' : Queue) → slice_get old.queues.items session ≡ Some q
-      → new ≡ record old { queues = new.queues } → new.queues.items ≡ slice_set old.queues.items session q' → q'.commands ≡ q.commands
-      → IsQueue (λ line. is_begun line old.world.history) (λ line. has_line line old.over) q' → GoesOn stands old new
-  goes_by_look {stands} old new has session q q' is rest items commands queue =
-      subst (GoesOn stands old) (sym rest) (record {
-        keeps = λ keeps.
-            let q_is : IsQueueIn old.world.history session q' = record {
-              queue = subst (λ a. IsQueue (λ line. is_begun line old.world.history) a q') (sym (same_ends old has)) queue;
-              given = subst (λ cs. All (IsGiven session) cs.items) (sym commands) (keeps.queues session q is).given;
-            } in
-            let all : (s : ℕ) (x : Queue) → slice_get (slice_set old.queues.items session q') s ≡ Some x → IsQueueIn old.world.history s x
-            = each_with (λ s x. IsQueueIn old.world.history s x) old.queues.items session q' (slice_get_within old.queues.items session q is) keeps.queues q_is in
-            record {
-              sound = keeps.sound;
-              quiet = λ none. subst (λ given. IsQuiet given old.world) (sym same) (keeps.quiet none);
-              most = keeps.most;
-              above = keeps.above;
-              few = subst (λ n. n ≤ 32) (sym (ap length items ∙ length-set old.queues.items session q')) keeps.few;
-              queues = λ s x found. all s x (ap (λ qs. slice_get qs s) (sym items) ∙ found);
-              over = keeps.over;
-              heard = keeps.heard;
-              passed = keeps.passed;
-            };
-        given = same;
-        queues = ap length items ∙ length-set old.queues.items session q';
-        lost = refl;
-      })
-    where
-      same : given_to new ≡ given_to old
-      same = fun_ext (λ s. ap (λ qs. commands_in (slice_get qs s)) items
-          ∙ commands_with old.queues.items session q' (slice_get_within old.queues.items session q is) (ap (λ cs. cs.items) commands ∙ sym (ap commands_in is)) s)
+-- a queue looked, and goes on from there
+pub goes_by_look : (old new : Runner) → KeepsUp old → (session : ℕ) (q q' : Queue) → slice_get old.queues.items session ≡ Some q
+    → new ≡ record old { queues = new.queues } → new.queues.items ≡ slice_set old.queues.items session q' → q'.commands ≡ q.commands
+    → IsQueue (λ line. is_begun line (seen old.world).history) (λ line. has_line line old.over) q' → GoesOn old new
+goes_by_look old new has session q q' is rest items commands queue =
+    subst (GoesOn old) (sym rest) (record {
+      keeps = λ keeps.
+          let q_is : IsQueueIn (seen old.world).history session q' = record {
+            queue = subst (λ a. IsQueue (λ line. is_begun line (seen old.world).history) a q') (sym (same_ends old has)) queue;
+            given = subst (λ cs. All (IsGiven session) cs.items) (sym commands) (keeps.queues session q is).given;
+          } in
+          let all : (s : ℕ) (x : Queue) → slice_get (slice_set old.queues.items session q') s ≡ Some x → IsQueueIn (seen old.world).history s x
+          = each_with (λ s x. IsQueueIn (seen old.world).history s x) old.queues.items session q' (slice_get_within old.queues.items session q is) keeps.queues q_is in
+          record {
+            sound = keeps.sound;
+            quiet = λ none. subst (λ given. IsQuiet given (seen old.world)) (sym same) (keeps.quiet none);
+            most = keeps.most;
+            above = keeps.above;
+            few = subst (λ n. n ≤ 32) (sym (ap length items ∙ length-set old.queues.items session q')) keeps.few;
+            queues = λ s x found. all s x (ap (λ qs. slice_get qs s) (sym items) ∙ found);
+            over = keeps.over;
+            heard = keeps.heard;
+            passed = keeps.passed;
+          };
+      given = same;
+      queues = ap length items ∙ length-set old.queues.items session q';
+      lost = refl;
+    })
+  where
+    same : given_to new ≡ given_to old
+    same = fun_ext (λ s. ap (λ qs. commands_in (slice_get qs s)) items
+        ∙ commands_with old.queues.items session q' (slice_get_within old.queues.items session q is) (ap (λ cs. cs.items) commands ∙ sym (ap commands_in is)) s)
 
-  -- ---- the notices that a session is past
+-- ---- the notices that a session is past
 
-  pub goes_by_pass : {stands : SessionRequest E → Standing} (old new : Runner E) (session count before : ℕ) → KeepsUp stands old → slice_get old.passed.items session ≡ Some before
-      → new ≡ record old { passed = new.passed } → new.passed.items ≡ slice_set old.passed.items session count
-      → ((k : ℕ) → k < count → IsPassed (lost_in old) session (k + 1) old.world) → GoesOn stands old new
-  goes_by_pass {stands} old new session count before has there rest items passed =
-      subst (GoesOn stands old) (sym rest) (record {
-        keeps = λ keeps. record {
-          sound = keeps.sound;
-          quiet = keeps.quiet;
-          most = keeps.most;
-          above = keeps.above;
-          few = keeps.few;
-          queues = keeps.queues;
-          over = keeps.over;
-          heard = keeps.heard;
-          passed = λ s k below. by s k (cases_eq s session) below;
-        };
-        given = refl;
-        queues = refl;
-        lost = refl;
-      })
-    where
-      at : (s : ℕ) → passed_by new s ≡ count_of (slice_get (slice_set old.passed.items session count) s)
-      at s = ap (λ ps. count_of (slice_get ps s)) items
+pub goes_by_pass : (old new : Runner) (session count before : ℕ) → KeepsUp old → slice_get old.passed.items session ≡ Some before
+    → new ≡ record old { passed = new.passed } → new.passed.items ≡ slice_set old.passed.items session count
+    → ((k : ℕ) → k < count → IsPassed (lost_in old) session (k + 1) (seen old.world)) → GoesOn old new
+goes_by_pass old new session count before has there rest items passed =
+    subst (GoesOn old) (sym rest) (record {
+      keeps = λ keeps. record {
+        sound = keeps.sound;
+        quiet = keeps.quiet;
+        most = keeps.most;
+        above = keeps.above;
+        few = keeps.few;
+        queues = keeps.queues;
+        over = keeps.over;
+        heard = keeps.heard;
+        passed = λ s k below. by s k (cases_eq s session) below;
+      };
+      given = refl;
+      queues = refl;
+      lost = refl;
+    })
+  where
+    at : (s : ℕ) → passed_by new s ≡ count_of (slice_get (slice_set old.passed.items session count) s)
+    at s = ap (λ ps. count_of (slice_get ps s)) items
 
-      by : (s k : ℕ) → (s ≡ session) ⊎ (s ≡ session → ⊥) → k < passed_by new s → IsPassed (lost_in old) s (k + 1) old.world
-      by s k (inl same) below =
-          subst (λ n. IsPassed (lost_in old) n (k + 1) old.world) (sym same)
-          (passed k (subst (λ n. k < n) (at s ∙ ap (λ n. count_of (slice_get (slice_set old.passed.items session count) n)) same
-          ∙ ap count_of (set_there old.passed.items session count (slice_get_within old.passed.items session before there))) below))
-      by s k (inr other) below = has.passed s k (subst (λ n. k < n) (at s ∙ ap count_of (set_other old.passed.items session s count other)) below)
+    by : (s k : ℕ) → (s ≡ session) ⊎ (s ≡ session → ⊥) → k < passed_by new s → IsPassed (lost_in old) s (k + 1) (seen old.world)
+    by s k (inl same) below =
+        subst (λ n. IsPassed (lost_in old) n (k + 1) (seen old.world)) (sym same)
+        (passed k (subst (λ n. k < n) (at s ∙ ap (λ n. count_of (slice_get (slice_set old.passed.items session count) n)) same
+        ∙ ap count_of (set_there old.passed.items session count (slice_get_within old.passed.items session before there))) below))
+    by s k (inr other) below = has.passed s k (subst (λ n. k < n) (at s ∙ ap count_of (set_other old.passed.items session s count other)) below)
 
-  -- ---- a command of a queue
+-- ---- a command of a queue
 
-  pub given_there : {stands : SessionRequest E → Standing} (r : Runner E) → KeepsUp stands r → (session place : ℕ) (c : Given) → slice_get (given_to r session) place ≡ Some c → IsGiven session c
-  given_there r keeps session place c is = by (slice_get r.queues.items session) refl is
-    where
-      by : (o : Option Queue) → slice_get r.queues.items session ≡ o → slice_get (commands_in o) place ≡ Some c → IsGiven session c
-      by None e is = absurd (none-some c is)
-      by (Some q) e is =
-          subst (IsGiven session) (get_or_from_slice_get q.commands.items place c c is)
-          (All-get_or (IsGiven session) q.commands.items place c (slice_get_within q.commands.items place c is) (keeps.queues session q e).given)
+pub given_there : (r : Runner) → KeepsUp r → (session place : ℕ) (c : Given) → slice_get (given_to r session) place ≡ Some c → IsGiven session c
+given_there r keeps session place c is = by (slice_get r.queues.items session) refl is
+  where
+    by : (o : Option Queue) → slice_get r.queues.items session ≡ o → slice_get (commands_in o) place ≡ Some c → IsGiven session c
+    by None e is = absurd (none-some c is)
+    by (Some q) e is =
+        subst (IsGiven session) (get_or_from_slice_get q.commands.items place c c is)
+        (All-get_or (IsGiven session) q.commands.items place c (slice_get_within q.commands.items place c is) (keeps.queues session q e).given)
 
-  -- it is submitted
-  pub goes_by_start : (stands : SessionRequest E → Standing) (session place : ℕ) (c : Given) (old : Runner E) (w : WorldView (SessionRequest E)) (highest : ℕ) (result : Outcome) → KeepsUp stands old
-      → slice_get (given_to old session) place ≡ Some c → to_start (given_to old session) old.world session ≡ slice_get (given_to old session) place
-      → IsStep stands c.submission old.world result w → IsSoundWorld stands w → highest ≡ highest_after old.highest result → GoesOn stands old (record old { world = w; highest = highest })
-  goes_by_start stands session place c old w highest result has is may step sound high =
-      let it = given_there old has session place c is in
-      let step' : IsStep stands (event.Submit session c.line it.command) old.world result w = subst (λ e. IsStep stands e old.world result w) it.submission step in
-      goes_by_step stands (event.Submit session c.line it.command) old (record old { world = w; highest = highest }) result step' sound refl refl refl
-      (λ keeps line. keeps.over line ∙ sym (submit_ends stands session c.line it.command old.world result w step' line))
-      (λ keeps number. keeps.heard number ∙ sym (heard_then stands (event.Submit session c.line it.command) result old.world w step' number ∙ or-false (was_heard number old.world.calls)))
-      (λ keeps due. absurd (none-some c (sym (keeps.quiet due session) ∙ may ∙ is)))
-      (λ keeps. subst (λ n. n ≤ 64) (sym high) (submit_most stands session c.line it.command old.world result w old.highest step' keeps.most))
-      (λ keeps s slot more. submit_above stands session c.line it.command old.world result w old.highest step' keeps.above s slot (subst (λ n. n < slot) high more))
+-- it is one that is built
+pub built_there : (r : Runner) → KeepsUp r → (session place : ℕ) (c : Given) → slice_get (given_to r session) place ≡ Some c → IsBuiltEvent c.submission
+built_there r keeps session place c is = let it = given_there r keeps session place c is in subst IsBuiltEvent (sym it.submission) it.built
+
+-- it is submitted
+pub goes_by_start : (session place : ℕ) (c : Given) (old : Runner) (w : WorldView SessionRequest) (highest : ℕ) (result : Outcome) → KeepsUp old
+    → slice_get (given_to old session) place ≡ Some c → to_start (given_to old session) (seen old.world) session ≡ slice_get (given_to old session) place
+    → IsStep as_is c.submission (seen old.world) result (seen w) → IsSoundWorld as_is (seen w) → highest ≡ highest_after old.highest result → GoesOn old (record old { world = w; highest = highest })
+goes_by_start session place c old w highest result has is may step sound high =
+    let it = given_there old has session place c is in
+    let step' : IsStep as_is (event.Submit session c.line it.command) (seen old.world) result (seen w) = subst (λ e. IsStep as_is e (seen old.world) result (seen w)) it.submission step in
+    goes_by_step (event.Submit session c.line it.command) old (record old { world = w; highest = highest }) result step' sound refl refl refl
+    (λ keeps line. keeps.over line ∙ sym (submit_ends as_is session c.line it.command (seen old.world) result (seen w) step' line))
+    (λ keeps number. keeps.heard number ∙ sym (heard_then as_is (event.Submit session c.line it.command) result (seen old.world) (seen w) step' number ∙ or-false (was_heard number (seen old.world).calls)))
+    (λ keeps due. absurd (none-some c (sym (keeps.quiet due session) ∙ may ∙ is)))
+    (λ keeps. subst (λ n. n ≤ 64) (sym high) (submit_most as_is session c.line it.command (seen old.world) result (seen w) old.highest step' keeps.most))
+    (λ keeps s slot more. submit_above as_is session c.line it.command (seen old.world) result (seen w) old.highest step' keeps.above s slot (subst (λ n. n < slot) high more))
 
 -- a session that isn't there has no command that may start
 none_starts : {R : Type 0} (w : WorldView R) (session : ℕ) → to_start [] w session ≡ None
@@ -271,22 +277,21 @@ none_starts w session = by (is_some (free_in (client_in session w.lives)))
     by true = refl
     by false = refl
 
-module _ {E : Type 0} where
-  -- what stands at a place of the commands of a session
-  pub command_at : (r : Runner E) (session place : ℕ) (q : Queue) (c : Given) → place < length (given_to r session) → q ≡ get_or r.queues.items session q → c ≡ get_or q.commands.items place c
-      → slice_get (given_to r session) place ≡ Some c
-  command_at r session place q c below queue command = by (slice_get r.queues.items session) refl below
-    where
-      by : (o : Option Queue) → slice_get r.queues.items session ≡ o → place < length (commands_in o) → slice_get (commands_in o) place ≡ Some c
-      by None e below = absurd (omega (arith, below))
-      by (Some x) e below =
-          let same : x ≡ q = sym (get_or_from_slice_get r.queues.items session x q e) ∙ sym queue in
-          subst (λ (y : Queue). slice_get y.commands.items place ≡ Some c) (sym same)
-          (slice_get_read q.commands.items (length q.commands.items) place c refl (subst (λ (y : Queue). place < length y.commands.items) same below) command)
+-- what stands at a place of the commands of a session
+pub command_at : (r : Runner) (session place : ℕ) (q : Queue) (c : Given) → place < length (given_to r session) → q ≡ get_or r.queues.items session q → c ≡ get_or q.commands.items place c
+    → slice_get (given_to r session) place ≡ Some c
+command_at r session place q c below queue command = by (slice_get r.queues.items session) refl below
+  where
+    by : (o : Option Queue) → slice_get r.queues.items session ≡ o → place < length (commands_in o) → slice_get (commands_in o) place ≡ Some c
+    by None e below = absurd (omega (arith, below))
+    by (Some x) e below =
+        let same : x ≡ q = sym (get_or_from_slice_get r.queues.items session x q e) ∙ sym queue in
+        subst (λ (y : Queue). slice_get y.commands.items place ≡ Some c) (sym same)
+        (slice_get_read q.commands.items (length q.commands.items) place c refl (subst (λ (y : Queue). place < length y.commands.items) same below) command)
 
-  pub nobody_starts : {R : Type 0} (r : Runner E) (w : WorldView R) (session : ℕ) → length r.queues.items ≤ session → to_start (given_to r session) w session ≡ None
-  nobody_starts r w session past =
-      ap (λ o. to_start (commands_in o) w session) (slice_get_past r.queues.items session past) ∙ none_starts w session
+pub nobody_starts : {R : Type 0} (r : Runner) (w : WorldView R) (session : ℕ) → length r.queues.items ≤ session → to_start (given_to r session) w session ≡ None
+nobody_starts r w session past =
+    ap (λ o. to_start (commands_in o) w session) (slice_get_past r.queues.items session past) ∙ none_starts w session
 
 -- a command that may start is one that its session was given
 pub earliest_is_given : (P : Given → Type 0) (b a : (line : ℕ) → Bool) (before : Bool) (given : List Given) (c : Given) → All P given → earliest b a before given ≡ Some c → P c
@@ -298,16 +303,16 @@ earliest_is_given P b a before (x ∷ given) c all is =
     by true rest it is = subst P (same_Some x c is) it
     by false rest it is = rest is
 
-start_is_given : {E : Type 0} {stands : SessionRequest E → Standing} (r : Runner E) → KeepsUp stands r → (session : ℕ) (c : Given)
-    → earliest (λ line. is_begun line r.world.history) (λ line. is_ended line r.world.history) true (given_to r session) ≡ Some c → (session < length r.queues.items) × IsGiven session c
+start_is_given : (r : Runner) → KeepsUp r → (session : ℕ) (c : Given)
+    → earliest (λ line. is_begun line (seen r.world).history) (λ line. is_ended line (seen r.world).history) true (given_to r session) ≡ Some c → (session < length r.queues.items) × IsGiven session c
 start_is_given r has session c is = by (slice_get r.queues.items session) refl is
   where
-    by : (o : Option Queue) → slice_get r.queues.items session ≡ o → earliest (λ line. is_begun line r.world.history) (λ line. is_ended line r.world.history) true (commands_in o) ≡ Some c
+    by : (o : Option Queue) → slice_get r.queues.items session ≡ o → earliest (λ line. is_begun line (seen r.world).history) (λ line. is_ended line (seen r.world).history) true (commands_in o) ≡ Some c
         → (session < length r.queues.items) × IsGiven session c
     by None e is = absurd (none-some c is)
     by (Some q) e is = (
       slice_get_within r.queues.items session q e,
-      earliest_is_given (IsGiven session) (λ line. is_begun line r.world.history) (λ line. is_ended line r.world.history) true q.commands.items c (has.queues session q e).given is,
+      earliest_is_given (IsGiven session) (λ line. is_begun line (seen r.world).history) (λ line. is_ended line (seen r.world).history) true q.commands.items c (has.queues session q e).given is,
     )
 
 -- told of the commands that were given, and of the world, as they were
@@ -317,24 +322,24 @@ starts_so stands given given' session started w w' new same world starts =
     subst (λ v. StartsIf stands given session started v new) world (subst (λ h. StartsIf stands h session started w' new) same starts)
 
 -- a command that is started is one fewer that is left
-pub starts_one : {E : Type 0} (stands : SessionRequest E → Standing) (r : Runner E) → KeepsUp stands r → (new : WorldView (SessionRequest E)) → Starts stands (given_to r) r.world new
-    → left_in (λ line. is_begun line new.history) (given_to r) (length r.queues.items) < left_in (λ line. is_begun line r.world.history) (given_to r) (length r.queues.items)
-starts_one stands r has new starts =
+pub starts_one : (r : Runner) → KeepsUp r → (new : WorldView Standing) → Starts as_is (given_to r) (seen r.world) new
+    → left_in (λ line. is_begun line new.history) (given_to r) (length r.queues.items) < left_in (λ line. is_begun line (seen r.world).history) (given_to r) (length r.queues.items)
+starts_one r has new starts =
     let c = starts.submits.command in
-    let found = start_is_earliest (given_to r starts.session) r.world starts.session c starts.submits.may in
+    let found = start_is_earliest (given_to r starts.session) (seen r.world) starts.session c starts.submits.may in
     let it = start_is_given r has starts.session c found in
-    let begun = starting_begins stands (given_to r starts.session) starts.session c it.1.command r.world starts.submits.result new starts.submits.may
-    (subst (λ e. IsStep stands e r.world starts.submits.result new) it.1.submission starts.submits.step) in
-    let later = begun_stays stands c.submission (happening stands c.submission r.world) r.world new starts.submits.step.1 in
-    one_fewer_in (λ line. is_begun line r.world.history) (λ line. is_begun line new.history) later (given_to r) (length r.queues.items) starts.session it.0
-    (one_fewer (λ line. is_begun line r.world.history) (λ line. is_begun line new.history) later (λ line. is_ended line r.world.history) true (given_to r starts.session) c found begun.1)
+    let begun = starting_begins as_is (given_to r starts.session) starts.session c it.1.command (seen r.world) starts.submits.result new starts.submits.may
+    (subst (λ e. IsStep as_is e (seen r.world) starts.submits.result new) it.1.submission starts.submits.step) in
+    let later = begun_stays as_is c.submission (happening as_is c.submission (seen r.world)) (seen r.world) new starts.submits.step.1 in
+    one_fewer_in (λ line. is_begun line (seen r.world).history) (λ line. is_begun line new.history) later (given_to r) (length r.queues.items) starts.session it.0
+    (one_fewer (λ line. is_begun line (seen r.world).history) (λ line. is_begun line new.history) later (λ line. is_ended line (seen r.world).history) true (given_to r starts.session) c found begun.1)
 
-pub left_again : {E : Type 0} {stands : SessionRequest E → Standing} (old new : Runner E) → GoesOn stands old new
-    → left_in (λ line. is_begun line new.world.history) (given_to old) (length old.queues.items) < left_in (λ line. is_begun line old.world.history) (given_to old) (length old.queues.items)
-    → left_in (λ line. is_begun line new.world.history) (given_to new) (length new.queues.items) < left_in (λ line. is_begun line old.world.history) (given_to old) (length old.queues.items)
+pub left_again : (old new : Runner) → GoesOn old new
+    → left_in (λ line. is_begun line (seen new.world).history) (given_to old) (length old.queues.items) < left_in (λ line. is_begun line (seen old.world).history) (given_to old) (length old.queues.items)
+    → left_in (λ line. is_begun line (seen new.world).history) (given_to new) (length new.queues.items) < left_in (λ line. is_begun line (seen old.world).history) (given_to old) (length old.queues.items)
 left_again old new goes less =
-    subst (λ n. left_in (λ line. is_begun line new.world.history) (given_to new) n < left_in (λ line. is_begun line old.world.history) (given_to old) (length old.queues.items)) (sym goes.queues)
-    (subst (λ given. left_in (λ line. is_begun line new.world.history) given (length old.queues.items) < left_in (λ line. is_begun line old.world.history) (given_to old) (length old.queues.items)) (sym goes.given) less)
+    subst (λ n. left_in (λ line. is_begun line (seen new.world).history) (given_to new) n < left_in (λ line. is_begun line (seen old.world).history) (given_to old) (length old.queues.items)) (sym goes.queues)
+    (subst (λ given. left_in (λ line. is_begun line (seen new.world).history) given (length old.queues.items) < left_in (λ line. is_begun line (seen old.world).history) (given_to old) (length old.queues.items)) (sym goes.given) less)
 
 pub quiet_again : {R : Type 0} (given given' : (session : ℕ) → List Given) (w w' : WorldView R) → given ≡ given' → w' ≡ w → IsQuiet given w → IsQuiet given' w'
 quiet_again given given' w w' same world quiet = subst (λ v. IsQuiet given' v) (sym world) (subst (λ h. IsQuiet h w) same quiet)
@@ -343,7 +348,7 @@ quiet_again given given' w w' same world quiet = subst (λ v. IsQuiet given' v) 
 pub comes_then : {R : Type 0} (stands : R → Standing) (e : Event) (result : Outcome) (old between new : WorldView R) (given given' : (session : ℕ) → List Given) → given' ≡ given
     → IsStep stands e old result between → IsSoundWorld stands between → StartsAll stands given' between new → Comes stands given e result old new
 comes_then stands e result old between new given given' same step sound starts =
-    record { between = between; step = step; sound = sound; starts = subst (λ h. StartsAll stands h between new) same starts }
+    record { between = between; step = step; counted = world_counted stands between sound; starts = subst (λ h. StartsAll stands h between new) same starts }
 
 -- ---- a command that a line gives
 
@@ -385,82 +390,81 @@ one_given number (said.Restart session) c is played = absurd (not_given c is)
 one_given number (said.Late session slot) c is played = absurd (not_given c is)
 one_given number (said.Trim site image object) c is played = absurd (not_given c is)
 
-module _ {E : Type 0} where
-  -- a session has it behind the others
-  pub keeps_more : {stands : SessionRequest E → Standing} (old new : Runner E) (c : Given) (q q' : Queue) → KeepsUp stands old → slice_get old.queues.items c.session ≡ Some q
-      → new ≡ record old { queues = new.queues; is_due = true } → new.queues.items ≡ slice_set old.queues.items c.session q'
-      → q'.commands.items ≡ q.commands.items ++ c ∷ [] → q'.front ≡ q.front → q'.next ≡ q.next → IsGiven c.session c → KeepsUp stands new
-  keeps_more {stands} old new c q q' keeps is rest items commands front next given =
-      let it = queue_more old.world.history c.session q q' c (keeps.queues c.session q is) commands front next given in
-      let all : (s : ℕ) (x : Queue) → slice_get (slice_set old.queues.items c.session q') s ≡ Some x → IsQueueIn old.world.history s x
-      = each_with (λ s x. IsQueueIn old.world.history s x) old.queues.items c.session q' (slice_get_within old.queues.items c.session q is) keeps.queues it in
-      subst (KeepsUp stands) (sym rest) (record {
-        sound = keeps.sound;
-        quiet = λ none. absurd (false≢true (sym none));
-        most = keeps.most;
-        above = keeps.above;
-        few = subst (λ n. n ≤ 32) (sym (ap length items ∙ length-set old.queues.items c.session q')) keeps.few;
-        queues = λ s x found. all s x (ap (λ qs. slice_get qs s) (sym items) ∙ found);
-        over = keeps.over;
-        heard = keeps.heard;
-        passed = keeps.passed;
-      })
+-- a session has it behind the others
+pub keeps_more : (old new : Runner) (c : Given) (q q' : Queue) → KeepsUp old → slice_get old.queues.items c.session ≡ Some q
+    → new ≡ record old { queues = new.queues; is_due = true } → new.queues.items ≡ slice_set old.queues.items c.session q'
+    → q'.commands.items ≡ q.commands.items ++ c ∷ [] → q'.front ≡ q.front → q'.next ≡ q.next → IsGiven c.session c → KeepsUp new
+keeps_more old new c q q' keeps is rest items commands front next given =
+    let it = queue_more (seen old.world).history c.session q q' c (keeps.queues c.session q is) commands front next given in
+    let all : (s : ℕ) (x : Queue) → slice_get (slice_set old.queues.items c.session q') s ≡ Some x → IsQueueIn (seen old.world).history s x
+    = each_with (λ s x. IsQueueIn (seen old.world).history s x) old.queues.items c.session q' (slice_get_within old.queues.items c.session q is) keeps.queues it in
+    subst (KeepsUp) (sym rest) (record {
+      sound = keeps.sound;
+      quiet = λ none. absurd (false≢true (sym none));
+      most = keeps.most;
+      above = keeps.above;
+      few = subst (λ n. n ≤ 32) (sym (ap length items ∙ length-set old.queues.items c.session q')) keeps.few;
+      queues = λ s x found. all s x (ap (λ qs. slice_get qs s) (sym items) ∙ found);
+      over = keeps.over;
+      heard = keeps.heard;
+      passed = keeps.passed;
+    })
 
-  -- a command may have come to start
-  pub keeps_due : {stands : SessionRequest E → Standing} (old : Runner E) → KeepsUp stands old → KeepsUp stands (record old { is_due = true })
-  keeps_due old keeps = record {
-    sound = keeps.sound;
-    quiet = λ none. absurd (false≢true (sym none));
-    most = keeps.most;
-    above = keeps.above;
-    few = keeps.few;
-    queues = keeps.queues;
-    over = keeps.over;
-    heard = keeps.heard;
-    passed = keeps.passed;
-  }
+-- a command may have come to start
+pub keeps_due : (old : Runner) → KeepsUp old → KeepsUp (record old { is_due = true })
+keeps_due old keeps = record {
+  sound = keeps.sound;
+  quiet = λ none. absurd (false≢true (sym none));
+  most = keeps.most;
+  above = keeps.above;
+  few = keeps.few;
+  queues = keeps.queues;
+  over = keeps.over;
+  heard = keeps.heard;
+  passed = keeps.passed;
+}
 
-  -- one more notice is lost
-  pub keeps_lost : {stands : SessionRequest E → Standing} (old new : Runner E) (more : (number : ℕ) → Bool) → KeepsUp stands old → new ≡ record old { lost = new.lost }
-      → ((number : ℕ) → lost_in new number ≡ (lost_in old number || more number)) → KeepsUp stands new
-  keeps_lost {stands} old new more keeps rest lost =
-      subst (KeepsUp stands) (sym rest) (record {
-        sound = keeps.sound;
-        quiet = keeps.quiet;
-        most = keeps.most;
-        above = keeps.above;
-        few = keeps.few;
-        queues = keeps.queues;
-        over = keeps.over;
-        heard = keeps.heard;
-        passed = λ session k below.
-            passed_more stands (lost_in old) (lost_in new) old.world session (k + 1) (λ n is. lost n ∙ or_left (lost_in old n) (more n) is) (keeps.passed session k below);
-      })
+-- one more notice is lost
+pub keeps_lost : (old new : Runner) (more : (number : ℕ) → Bool) → KeepsUp old → new ≡ record old { lost = new.lost }
+    → ((number : ℕ) → lost_in new number ≡ (lost_in old number || more number)) → KeepsUp new
+keeps_lost old new more keeps rest lost =
+    subst (KeepsUp) (sym rest) (record {
+      sound = keeps.sound;
+      quiet = keeps.quiet;
+      most = keeps.most;
+      above = keeps.above;
+      few = keeps.few;
+      queues = keeps.queues;
+      over = keeps.over;
+      heard = keeps.heard;
+      passed = λ session k below.
+          passed_more as_is (lost_in old) (lost_in new) (seen old.world) session (k + 1) (λ n is. lost n ∙ or_left (lost_in old n) (more n) is) (keeps.passed session k below);
+    })
 
-  pub given_none : (r : Runner E) → All IsEmptyQueue r.queues.items → (s : ℕ) → given_to r s ≡ []
-  given_none r empty s = by (slice_get r.queues.items s) refl
-    where
-      by : (o : Option Queue) → slice_get r.queues.items s ≡ o → commands_in o ≡ []
-      by None e = refl
-      by (Some q) e = (subst IsEmptyQueue (get_or_from_slice_get r.queues.items s q q e) (All-get_or IsEmptyQueue r.queues.items s q (slice_get_within r.queues.items s q e) empty)).commands
+pub given_none : (r : Runner) → All IsEmptyQueue r.queues.items → (s : ℕ) → given_to r s ≡ []
+given_none r empty s = by (slice_get r.queues.items s) refl
+  where
+    by : (o : Option Queue) → slice_get r.queues.items s ≡ o → commands_in o ≡ []
+    by None e = refl
+    by (Some q) e = (subst IsEmptyQueue (get_or_from_slice_get r.queues.items s q q e) (All-get_or IsEmptyQueue r.queues.items s q (slice_get_within r.queues.items s q e) empty)).commands
 
-  -- a new runner
-  pub keeps_new : (stands : SessionRequest E → Standing) (r : Runner E) → IsSoundWorld stands r.world → length r.queues.items ≤ 32 → All IsEmptyQueue r.queues.items → IsNewWorld stands r.world
-      → ((line : ℕ) → has_line line r.over ≡ false) → ((number : ℕ) → has_number number r.heard ≡ false) → r.highest ≡ 0 → ((session : ℕ) → passed_by r session ≡ 0) → KeepsUp stands r
-  keeps_new stands r sound few empty new over heard highest passed = record {
-    sound = sound;
-    quiet = λ due session. ap (λ given. to_start given r.world session) (given_none r empty session) ∙ none_starts r.world session;
-    most = omega (arith, highest);
-    above = λ session slot more. nobody session (lives_in session r.world.lives) refl slot;
-    few = few;
-    queues = λ s q is. queue_new r.world.history s q (subst IsEmptyQueue (get_or_from_slice_get r.queues.items s q q is) (All-get_or IsEmptyQueue r.queues.items s q (slice_get_within r.queues.items s q is) empty));
-    over = λ line. over line ∙ sym (ap (is_ended line) new.history);
-    heard = λ number. heard number ∙ sym (ap (was_heard number) new.calls);
-    passed = λ session k below. let none = passed session in absurd (omega (arith, below, none));
-  }
-    where
-      nobody : (session : ℕ) (l : Option (LivesView (SessionRequest E))) → lives_in session r.world.lives ≡ l → (slot : ℕ) → is_some (script_line (held_of slot (session_of (running_of l)))) ≡ false
-      nobody session None is slot = refl
-      nobody session (Some l) is slot =
-          let first = new.lives session l is in
-          ap (λ o. is_some (script_line (held_of slot (session_of o)))) first.runs ∙ line_held (held_in slot first.client.session.slots) ∙ ap is_some (first.fresh.slots slot)
+-- a new runner
+pub keeps_new : (r : Runner) → IsSoundWorld as_is (seen r.world) → length r.queues.items ≤ 32 → All IsEmptyQueue r.queues.items → IsNewWorld as_is (seen r.world)
+    → ((line : ℕ) → has_line line r.over ≡ false) → ((number : ℕ) → has_number number r.heard ≡ false) → r.highest ≡ 0 → ((session : ℕ) → passed_by r session ≡ 0) → KeepsUp r
+keeps_new r sound few empty new over heard highest passed = record {
+  sound = sound;
+  quiet = λ due session. ap (λ given. to_start given (seen r.world) session) (given_none r empty session) ∙ none_starts (seen r.world) session;
+  most = omega (arith, highest);
+  above = λ session slot more. nobody session (lives_in session (seen r.world).lives) refl slot;
+  few = few;
+  queues = λ s q is. queue_new (seen r.world).history s q (subst IsEmptyQueue (get_or_from_slice_get r.queues.items s q q is) (All-get_or IsEmptyQueue r.queues.items s q (slice_get_within r.queues.items s q is) empty));
+  over = λ line. over line ∙ sym (ap (is_ended line) new.history);
+  heard = λ number. heard number ∙ sym (ap (was_heard number) new.calls);
+  passed = λ session k below. let none = passed session in absurd (omega (arith, below, none));
+}
+  where
+    nobody : (session : ℕ) (l : Option (LivesView Standing)) → lives_in session (seen r.world).lives ≡ l → (slot : ℕ) → is_some (script_line (held_of slot (session_of (running_of l)))) ≡ false
+    nobody session None is slot = refl
+    nobody session (Some l) is slot =
+        let first = new.lives session l is in
+        ap (λ o. is_some (script_line (held_of slot (session_of o)))) first.runs ∙ line_held (held_in slot first.client.session.slots) ∙ ap is_some (first.fresh.slots slot)

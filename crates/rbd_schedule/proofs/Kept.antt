@@ -16,6 +16,7 @@ use Rattle.rbd_schedule.specs.Given.{commands_of, given_in, is_lost_by}
 use Rattle.rbd_schedule.specs.Notices.{is_due, runs}
 use Rattle.rbd_schedule.specs.Playing.{IsNoStart}
 use Rattle.rbd_schedule.specs.Schedule.{Calm, Comes, DeliversWhere, Happens, Pace, Plays, PlaysLine, PlaysScript, Polls, PollsAll, PollsBefore, PollsIn, PollsWhere, Round, RoundsOn, Settles, Starts, StartsAll, Submits, Turn, TurnOf, TurnWhere, closing_rounds, is_held}
+use Rattle.rbd_schedule.specs.Slots.{AreCounted}
 
 -- what each of the deeds keeps, all keep
 pub kept_by_deeds : {S : Type 0} (P : S → Type 0) (deed : ℕ → S → S → Type 0) → ((k : ℕ) (old new : S) → deed k old new → P old → P new) → (n : ℕ) (old new : S) → Deeds deed n old new → P old → P new
@@ -36,7 +37,7 @@ MayComeBy May s = Unit {0}
 -- script, and beside them the lines' own events.
 module _ {R : Type 0} (stands : R → Standing) (P : WorldView R → Type 0) (May : Event → Type 0) (polls_may : (session slot : ℕ) → May (event.Poll session slot))
     (deliveries_may : (number : ℕ) → May (event.Deliver number))
-    (event_keeps : (e : Event) (result : Outcome) (old new : WorldView R) → May e → IsStep stands e old result new → P old → P new) where
+    (event_keeps : (e : Event) (result : Outcome) (old new : WorldView R) → May e → IsStep stands e old result new → AreCounted new → P old → P new) where
   module _ (given : (session : ℕ) → List Given) (start : (session : ℕ) (old new : WorldView R) → Submits stands given session old new → P old → P new) where
     kept_by_start : (k : ℕ) (old new : WorldView R) → Starts stands given old new → P old → P new
     kept_by_start k old new starts is = start starts.session old new starts.submits is
@@ -45,7 +46,7 @@ module _ {R : Type 0} (stands : R → Standing) (P : WorldView R → Type 0) (Ma
     kept_by_starts old new starts is = kept_by_deeds P (λ k. Starts stands given) kept_by_start starts.count old new starts.starts is
 
     kept_by_coming : (e : Event) (result : Outcome) (old new : WorldView R) → May e → Comes stands given e result old new → P old → P new
-    kept_by_coming e result old new may comes is = kept_by_starts comes.between new comes.starts (event_keeps e result old comes.between may comes.step is)
+    kept_by_coming e result old new may comes is = kept_by_starts comes.between new comes.starts (event_keeps e result old comes.between may comes.step comes.counted is)
 
     kept_by_event : (e : Event) (old new : WorldView R) → May e → Happens stands given e old new → P old → P new
     kept_by_event e old new may happens is = kept_by_coming e happens.result old new may happens.comes is
@@ -142,7 +143,7 @@ pub kept_by_parts : {R : Type 0} (stands : R → Standing) (P : WorldView R → 
     → ((lines more : List Line) → script.lines ≡ lines ++ more → (session : ℕ) (old new : WorldView R) → Submits stands (given_in lines) session old new → P old → P new)
     → (old new : WorldView R) → PlaysScript stands script old new → P old → P new
 kept_by_parts stands P event_keeps script start old new plays is =
-    kept_by_lines stands P IsNoStart (λ session slot. tt) (λ number. tt) event_keeps script (λ k line at. plain line.said) start old new plays is
+    kept_by_lines stands P IsNoStart (λ session slot. tt) (λ number. tt) (λ e result a b may step counted. event_keeps e result a b may step) script (λ k line at. plain line.said) start old new plays is
 
 -- and what each step keeps, whatever the event
 pub kept_by_play : {R : Type 0} (stands : R → Standing) (P : WorldView R → Type 0) → ((e : Event) (result : Outcome) (old new : WorldView R) → IsStep stands e old result new → P old → P new)
@@ -150,3 +151,9 @@ pub kept_by_play : {R : Type 0} (stands : R → Standing) (P : WorldView R → T
 kept_by_play stands P step script old new plays is =
     kept_by_parts stands P (λ e result a b plain. step e result a b) script
     (λ lines more whole session a b submits. step submits.command.submission submits.result a b submits.step) old new plays is
+
+-- the clients of a play's last world are counted, as those that each step leaves
+pub ends_counted : {R : Type 0} (stands : R → Standing) (script : Script) (old new : WorldView R) → PlaysScript stands script old new → AreCounted old → AreCounted new
+ends_counted stands script old new plays is =
+    kept_by_lines stands AreCounted IsNoStart (λ session slot. tt) (λ number. tt) (λ e result a b may step counted was. counted) script (λ k line at. plain line.said)
+    (λ lines more whole session a b submits was. submits.counted) old new plays is

@@ -31,6 +31,7 @@ pub mod Posting
 pub mod Queues
 pub mod Quiet
 pub mod Showing
+pub mod Slots
 pub mod Stuck
 pub mod Turns
 pub mod Unchanged

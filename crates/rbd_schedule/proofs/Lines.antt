@@ -64,7 +64,7 @@ gives_none n number (said.Lose notice) session names past = refl
 gives_none n number (said.Trim site image object) session names past = refl
 
 -- The runner's queues are those of the lines so far, and one more was given.
-pub given_along : {E : Type 0} (old new : Runner E) (n : ℕ) (lines : List Line) (k : ℕ) (line : Line) → AreDeclared n lines → k < length lines → line ≡ get_or lines k line
+pub given_along : (old new : Runner) (n : ℕ) (lines : List Line) (k : ℕ) (line : Line) → AreDeclared n lines → k < length lines → line ≡ get_or lines k line
     → length old.queues.items ≡ n → length new.queues.items ≡ n → given_to old ≡ given_in (take k lines)
     → ((session : ℕ) → session < length old.queues.items → given_to new session ≡ given_to old session ++ of_session session (given_by line.number line.said))
     → given_to new ≡ given_in (take (k + 1) lines)

@@ -240,7 +240,7 @@ module _ {R : Type 0} (stands : R → Standing) where
 
   -- the client that runs is the latest life
   latest_runs : (w : WorldView R) → IsSoundWorld stands w → (session : ℕ) (c : ClientView R) → client_in session w.lives ≡ Some c → (l : LivesView R) → lives_in session w.lives ≡ Some l → c.session.instance ≡ l.latest
-  latest_runs w sound session c runs l there = (sound.lives session l there).latest c (sym (ap running_of there) ∙ runs)
+  latest_runs w sound session c runs l there = (sound.told.lives session l there).latest c (sym (ap running_of there) ∙ runs)
 
   pub passed_not_due : (lost : (number : ℕ) → Bool) (w : WorldView R) → IsSoundWorld stands w → (session number : ℕ) → IsPassed lost session number w → is_due lost session number w ≡ false
   passed_not_due lost w sound session number passed = by (client_in session w.lives) refl

@@ -10,6 +10,7 @@ use Rattle.rbd_client.specs.declared.slot_state.Way.TheVariants as way
 use Rattle.rbd_client.specs.Actor.{actor_at, actor_by, actor_on, due_release, is_acquiring, releasing}
 use Rattle.rbd_client.specs.Client.{ClientView, state_in}
 use Rattle.rbd_client.specs.Sound.{IsSoundClient, IsWellOnWay}
+use Rattle.rbd_kinds.specs.declared.header.HeaderView.{HeaderView}
 use Rattle.rbd_kinds.specs.declared.id.Instance.{Instance}
 use Rattle.rbd_kinds.specs.declared.id.SiteId.{SiteId}
 use Rattle.rbd_kinds.specs.declared.image_at.ImageAt.{ImageAt}
@@ -30,7 +31,11 @@ use Rattle.rbd_session.specs.Session.{held_in, own_look_at, running_at, running_
 use Rattle.rbd_session.specs.Waits.{waits}
 use Rattle.rbd_session.proofs.Consequences.{first_goes, members_run_there}
 use Rattle.rbd_session.proofs.Sound.{held_range}
+use Rattle.rbd_site.specs.Step.{is_fenced}
+use Rattle.rbd_world.specs.Sound.{IsSoundWorld}
 use Rattle.rbd_world.specs.World.{WorldView, client_in, records_in}
+use Rattle.rbd_world.proofs.OwnersCount.{owner_is_fenced}
+use Rattle.rbd_world.proofs.OwnersWatch.{owner_of}
 use Rattle.rbd_schedule.specs.Ends.{IsAnothers, IsHeldUp, IsKept, IsLockedOut, IsStuckIn}
 use Rattle.rbd_schedule.proofs.Going.{alone_goes, runs_there}
 use Rattle.rbd_schedule.specs.Notices.{was_heard}
@@ -74,7 +79,7 @@ abbrev pub WaysAreShown : {R : Type 0} → (stands : R → Standing) → (lost :
 WaysAreShown {R} stands lost w c = (slot : ℕ) → (slot == 0) ≡ false → (r : Running R) → running_at slot c.session ≡ Some r → (a : Acquire) → actor_at stands slot c ≡ actor.Way a
     → (lock : IsAnothers (records_in a.site w.sites) a.image c.session.instance) × IsAsked lost w lock.owner a.site a.image
 
-module _ {R : Type 0} (stands : R → Standing) (lost : (number : ℕ) → Bool) (w : WorldView R) (c : ClientView R) (sound : IsSoundClient stands c) (shown : WaysAreShown stands lost w c) (quiet : AllQuiet w) (mine : QuietsAsked c) (slot : ℕ) (some : (slot == 0) ≡ false) where
+module _ {R : Type 0} (stands : R → Standing) (lost : (number : ℕ) → Bool) (w : WorldView R) (world : IsSoundWorld stands w) (c : ClientView R) (sound : IsSoundClient stands c) (shown : WaysAreShown stands lost w c) (quiet : AllQuiet w) (mine : QuietsAsked c) (slot : ℕ) (some : (slot == 0) ≡ false) where
   acts : actor_at stands slot c ≡ actor_on (state_in slot c.slots).way (own_look_at stands slot c.session) c.locks
   acts = ap (λ x. cond x (releasing c.release (due_release c)) (actor_on (state_in slot c.slots).way (own_look_at stands slot c.session) c.locks)) some
 
@@ -136,16 +141,23 @@ module _ {R : Type 0} (stands : R → Standing) (lost : (number : ℕ) → Bool)
   way_to x way.Unbegun on (Some p) at is = begins_there p x at is
 
   -- an owner that runs keeps it
-  kept_by : (p : ImageAt) (owner : Instance) → IsAsked lost w owner p.site p.image → (d : ClientView R) → client_in owner.session w.lives ≡ Some d → d.session.instance ≡ owner → IsKept lost w p owner (state_at p.site p.image d.locks)
-  kept_by p owner (number, n, it, told) d there is = by (state_at p.site p.image d.locks).asked refl (state_at p.site p.image d.locks).owned refl (was_heard number w.calls) refl told
+  kept_by : (p : ImageAt) (h : HeaderView) (owner : Instance) → (records_in p.site w.sites).headers p.image ≡ Some h → h.owner ≡ Some owner → IsAsked lost w owner p.site p.image
+      → (d : ClientView R) → client_in owner.session w.lives ≡ Some d → d.session.instance ≡ owner → IsKept lost w p owner (state_at p.site p.image d.locks)
+  kept_by p h owner header has (number, n, it, told) d there is = by (state_at p.site p.image d.locks).asked refl (state_at p.site p.image d.locks).owned refl (was_heard number w.calls) refl told
     where
       asked_so : HasBeenAsked w owner p.site p.image → (state_at p.site p.image d.locks).asked ≡ false → (state_at p.site p.image d.locks).owned ≡ true → ⊥
       asked_so asked none owned = true≢false (sym (asked d there is owned) ∙ none)
 
+      -- it has the lock, and doesn't count it
+      gave_up : (state_at p.site p.image d.locks).owned ≡ false → is_fenced (records_in p.site w.sites) owner ≡ true
+      gave_up none =
+          subst (λ i. is_fenced (records_in p.site w.sites) i ≡ true) is
+          (owner_is_fenced stands w world owner.session d there p.site p.image (ap owner_of header ∙ has ∙ ap Some (sym is)) none)
+
       by : (a : Bool) → (state_at p.site p.image d.locks).asked ≡ a → (o : Bool) → (state_at p.site p.image d.locks).owned ≡ o → (h : Bool) → was_heard number w.calls ≡ h → (lost number ≡ true) ⊎ HasBeenAsked w owner p.site p.image
           → IsKept lost w p owner (state_at p.site p.image d.locks)
       by true asked o owned h heard told = inl (quiet owner.session d there p.site p.image asked)
-      by false asked false owned h heard told = inr (inl owned)
+      by false asked false owned h heard told = inr (inl (record { counts = owned; fenced = gave_up owned }))
       by false asked true owned true heard told = absurd (asked_so (it.heard heard) asked owned)
       by false asked true owned false heard (inr now) = absurd (asked_so now asked owned)
       by false asked true owned false heard (inl lost_it) = inr (inr (record {
@@ -164,7 +176,7 @@ module _ {R : Type 0} (stands : R → Standing) (lost : (number : ℕ) → Bool)
   way_out r runs x at to =
       let shows = subst (λ s. (lock : IsAnothers (records_in s w.sites) to.image.image c.session.instance) × IsAsked lost w lock.owner s to.image.image) to.site_is
       (subst (λ i. (lock : IsAnothers (records_in x.site w.sites) i c.session.instance) × IsAsked lost w lock.owner x.site i) to.image_is (shown slot some r runs x at)) in
-      record { image = to.image; look = to.look; out = record { lock = shows.0; keeps = λ d there is. kept_by to.image shows.0.owner shows.1 d there is } }
+      record { image = to.image; look = to.look; out = record { lock = shows.0; keeps = λ d there is. kept_by to.image shows.0.header shows.0.owner shows.0.there shows.0.has shows.1 d there is } }
 
   -- a request that doesn't wait is held up where its slot is still
   held_by : (r : Running R) → running_at slot c.session ≡ Some r → waits slot (track_of r c.session.lines) ≡ false → (who : Actor) → actor_at stands slot c ≡ who → Stays slot c.session.lines r who → IsHeldUp stands lost w c slot
@@ -178,7 +190,7 @@ module _ {R : Type 0} (stands : R → Standing) (lost : (number : ℕ) → Bool)
       let out = way_out r runs x at (way_to x (state_in slot c.slots).way refl (own_look_at stands slot c.session) refl (sym acts ∙ at)) in
       record { request = r; runs = runs; image = out.image; look = out.look; out = subst (IsLockedOut lost out.image w c) (sym at) out.out }
 
-module _ {R : Type 0} (stands : R → Standing) (lost : (number : ℕ) → Bool) (w : WorldView R) (c : ClientView R) (sound : IsSoundClient stands c) (shown : WaysAreShown stands lost w c) (quiet : AllQuiet w) (mine : QuietsAsked c) (still : (slot : ℕ) → 1 ≤ slot → slot ≤ 64 → IsStill stands slot c) where
+module _ {R : Type 0} (stands : R → Standing) (lost : (number : ℕ) → Bool) (w : WorldView R) (world : IsSoundWorld stands w) (c : ClientView R) (sound : IsSoundClient stands c) (shown : WaysAreShown stands lost w c) (quiet : AllQuiet w) (mine : QuietsAsked c) (still : (slot : ℕ) → 1 ≤ slot → slot ≤ 64 → IsStill stands slot c) where
   not_zero : (slot : ℕ) → 1 ≤ slot → (slot == 0) ≡ false
   not_zero slot least = ne_eqb slot 0 (λ is. absurd (omega (arith, least, is)))
 
@@ -194,7 +206,7 @@ module _ {R : Type 0} (stands : R → Standing) (lost : (number : ℕ) → Bool)
   first_held : (slot : ℕ) (r : Running R) → running_at slot c.session ≡ Some r → waits slot (track_of r c.session.lines) ≡ false → IsHeldUp stands lost w c slot
   first_held slot r runs goes =
       let it = stays slot r runs in
-      held_by stands lost w c sound shown quiet mine slot (not_zero slot it.0) r runs goes (actor_at stands slot c) refl it.1
+      held_by stands lost w world c sound shown quiet mine slot (not_zero slot it.0) r runs goes (actor_at stands slot c) refl it.1
 
   behind : (slot : ℕ) (p : ImageAt) (m : Member) → member_of slot (lines_of c.session.lines p.site p.image) ≡ Some m → IsStuckIn stands lost w c slot
   behind slot p m is = by (lines_of c.session.lines p.site p.image) refl is

@@ -21,6 +21,7 @@ use Rattle.rbd_session.specs.Lines.{lines_of}
 use Rattle.rbd_session.specs.Session.{SessionView, own_look_at, running_at}
 use Rattle.rbd_site.specs.Records.{Records}
 use Rattle.rbd_watch.specs.Posting.{numbered}
+use Rattle.rbd_site.specs.Step.{is_fenced}
 use Rattle.rbd_world.specs.Sound.{line_at}
 use Rattle.rbd_world.specs.Step.{is_begun}
 use Rattle.rbd_world.specs.World.{WorldView, client_in, records_in}
@@ -62,11 +63,15 @@ pub record IsRequestLost {R : Type 0} (lost : (number : ℕ) → Bool) (w : Worl
   pub is_lost : lost number ≡ true
   pub unheard : was_heard number w.calls ≡ false
 
--- Why an owner that still runs doesn't let a lock go: it has quiesced the image; or it counts the
--- lock as given up, as one does that was fenced when it dropped it; or it doesn't know that it is
--- asked, since a notice was lost.
+-- An owner counts the lock as given up: it was fenced, so its drop was refused.
+pub record HasGivenUp {R : Type 0} (w : WorldView R) (p : ImageAt) (owner : Instance) (s : LockState) : Type 0 where
+  pub counts : s.owned ≡ false
+  pub fenced : is_fenced (records_in p.site w.sites) owner ≡ true
+
+-- Why an owner that still runs doesn't let a lock go: it has quiesced the image; or it was fenced,
+-- and counts the lock as given up; or it doesn't know that it is asked, since a notice was lost.
 abbrev pub IsKept : {R : Type 0} → (lost : (number : ℕ) → Bool) → WorldView R → ImageAt → (owner : Instance) → LockState → Type 0
-IsKept lost w p owner s = (s.quiesced ≡ true) ⊎ ((s.owned ≡ false) ⊎ IsRequestLost lost w p owner)
+IsKept lost w p owner s = (s.quiesced ≡ true) ⊎ (HasGivenUp w p owner s ⊎ IsRequestLost lost w p owner)
 
 -- Another instance has the lock, and has been stopped, or keeps it.
 pub record IsKeptFrom {R : Type 0} (lost : (number : ℕ) → Bool) (w : WorldView R) (p : ImageAt) (me : Instance) : Type 0 where

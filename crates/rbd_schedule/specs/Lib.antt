@@ -5,6 +5,7 @@ pub mod Ends
 pub mod Given
 pub mod Going
 pub mod Notices
+pub mod Slots
 pub mod Starts
 pub mod Schedule
 pub mod Playing

@@ -10,7 +10,6 @@ use Rattle.rbd_kinds.specs.declared.id.Instance.{Instance}
 use Rattle.rbd_kinds.specs.declared.id.SiteId.{SiteId}
 use Rattle.rbd_kinds.specs.declared.notice.Notice.{Notice}
 use Rattle.rbd_machine.specs.Plan.{Standing}
-use Rattle.rbd_requests.specs.declared.request.SessionRequest.{SessionRequest}
 use Rattle.rbd_requests.specs.Served.{is_built}
 use Rattle.rbd_script.specs.declared.script.Declared.{Declared}
 use Rattle.rbd_script.specs.declared.script.Line.{Line}
@@ -18,11 +17,13 @@ use Rattle.rbd_script.specs.declared.script.Said.{Said}
 use Rattle.rbd_script.specs.declared.script.Said.TheVariants as said
 use Rattle.rbd_script.specs.declared.script.Script.{Script}
 use Rattle.rbd_watch.specs.Posting.{numbered}
+use Rattle.rbd_client.specs.Seen.{as_is}
+use Rattle.rbd_world.specs.Seen.{seen}
 use Rattle.rbd_world.specs.declared.event.Event.{Event}
 use Rattle.rbd_world.specs.declared.event.Event.TheVariants as event
 use Rattle.rbd_world.specs.declared.event.Outcome.{Outcome}
 use Rattle.rbd_world.specs.declared.event.Outcome.TheVariants as outcome
-use Rattle.rbd_world.specs.Sound.{AreAtHome, IsNewWorld, IsSoundWorld}
+use Rattle.rbd_world.specs.Sound.{AreAtHome, HasRun, IsNewWorld, IsSoundWorld}
 use Rattle.rbd_world.specs.Step.{is_begun}
 use Rattle.rbd_world.specs.World.{LivesView, WorldView, lives_in}
 use Rattle.rbd_schedule.specs.declared.given.Given.{Given}
@@ -52,13 +53,13 @@ abbrev pub homes_of : List Declared → List SiteId
 homes_of sessions = map (λ (d : Declared). d.home) sessions
 
 -- A world of the script's sessions, in which nothing had happened, was led here by the script's
--- schedule.
+-- schedule; and all that happened on the way is one run.
 pub record IsPlay {R : Type 0} (stands : R → Standing) (script : Script) (w : WorldView R) : Type 0 where
   pub first : WorldView R
   pub new : IsNewWorld stands first
   pub homes : AreAtHome (homes_of script.sessions) first.lives
   pub plays : PlaysScript stands script first w
-  pub sound : IsSoundWorld stands w
+  pub told : HasRun w
 
 -- ---- the queue of a session
 
@@ -103,11 +104,11 @@ commands_in None = []
 commands_in (Some q) = q.commands.items
 
 -- the commands that a session was given so far
-abbrev pub given_to : {E : Type 0} → Runner E → (session : ℕ) → List Given
+abbrev pub given_to : Runner → (session : ℕ) → List Given
 given_to r session = commands_in (slice_get r.queues.items session)
 
 -- the notices that no settle delivers
-abbrev pub lost_in : {E : Type 0} → Runner E → (number : ℕ) → Bool
+abbrev pub lost_in : Runner → (number : ℕ) → Bool
 lost_in r number = has_number number r.lost
 
 -- a command of a session, as it was given
@@ -142,27 +143,27 @@ count_of None = 0
 count_of (Some count) = count
 
 -- how many of the first notices the session is past
-abbrev pub passed_by : {E : Type 0} → Runner E → (session : ℕ) → ℕ
+abbrev pub passed_by : Runner → (session : ℕ) → ℕ
 passed_by r session = count_of (slice_get r.passed.items session)
 
 -- ---- all of it
 
 -- The world is sound, and what the runner keeps beside it is true of it.
-pub record KeepsUp {E : Type 0} (stands : SessionRequest E → Standing) (r : Runner E) : Type 0 where
-  pub sound : IsSoundWorld stands r.world
-  pub quiet : r.is_due ≡ false → IsQuiet (given_to r) r.world
+pub record KeepsUp (r : Runner) : Type 0 where
+  pub sound : IsSoundWorld as_is (seen r.world)
+  pub quiet : r.is_due ≡ false → IsQuiet (given_to r) (seen r.world)
   pub most : r.highest ≤ 64
-  pub above : (session slot : ℕ) → r.highest < slot → is_held session slot r.world ≡ false
+  pub above : (session slot : ℕ) → r.highest < slot → is_held session slot (seen r.world) ≡ false
   pub few : length r.queues.items ≤ 32
-  pub queues : (session : ℕ) (q : Queue) → slice_get r.queues.items session ≡ Some q → IsQueueIn r.world.history session q
-  pub over : (line : ℕ) → has_line line r.over ≡ is_ended line r.world.history
-  pub heard : (number : ℕ) → has_number number r.heard ≡ was_heard number r.world.calls
-  pub passed : (session k : ℕ) → k < passed_by r session → IsPassed (lost_in r) session (k + 1) r.world
+  pub queues : (session : ℕ) (q : Queue) → slice_get r.queues.items session ≡ Some q → IsQueueIn (seen r.world).history session q
+  pub over : (line : ℕ) → has_line line r.over ≡ is_ended line (seen r.world).history
+  pub heard : (number : ℕ) → has_number number r.heard ≡ was_heard number (seen r.world).calls
+  pub passed : (session k : ℕ) → k < passed_by r session → IsPassed (lost_in r) session (k + 1) (seen r.world)
 
 -- The runner goes on so: it keeps up, its sessions were given nothing more, and no notice more is
 -- lost.
-pub record GoesOn {E : Type 0} (stands : SessionRequest E → Standing) (old new : Runner E) : Type 0 where
-  pub keeps : KeepsUp stands old → KeepsUp stands new
+pub record GoesOn (old new : Runner) : Type 0 where
+  pub keeps : KeepsUp old → KeepsUp new
   pub given : given_to new ≡ given_to old
   pub queues : length new.queues.items ≡ length old.queues.items
   pub lost : lost_in new ≡ lost_in old

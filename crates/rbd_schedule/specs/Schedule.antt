@@ -11,13 +11,14 @@ use Rattle.rbd_world.specs.declared.event.Event.{Event}
 use Rattle.rbd_world.specs.declared.event.Event.TheVariants as event
 use Rattle.rbd_world.specs.declared.event.Outcome.{Outcome}
 use Rattle.rbd_world.specs.declared.event.Outcome.TheVariants as outcome
-use Rattle.rbd_world.specs.Sound.{IsSoundWorld, line_at}
-use Rattle.rbd_world.specs.Step.{IsStep}
+use Rattle.rbd_world.specs.Sound.{line_at}
+use Rattle.rbd_world.specs.Step.{IsBuiltEvent, IsStep}
 use Rattle.rbd_world.specs.World.{WorldView, client_in, kind_in}
 use Rattle.rbd_schedule.specs.declared.given.Given.{Given}
 use Rattle.rbd_schedule.specs.Deeds.{Deeds}
 use Rattle.rbd_schedule.specs.Given.{commands_of, given_in, is_lost_by}
 use Rattle.rbd_schedule.specs.Notices.{is_due, runs}
+use Rattle.rbd_schedule.specs.Slots.{AreCounted}
 use Rattle.rbd_schedule.specs.Starts.{IsIdle, IsQuiet, to_start}
 
 -- something went on: a step, and none that only asks again for a lock
@@ -75,15 +76,16 @@ pub record Wants {R : Type 0} (stands : R → Standing) (session slot : ℕ) (ki
 module _ {R : Type 0} (stands : R → Standing) (given : (session : ℕ) → List Given) where
   -- ---- one event
 
-  -- The earliest command of a session that may start is submitted. The step leaves a sound world,
-  -- as each step of a world that runs does: by that alone it is told which slot is the lowest free
-  -- one then.
+  -- The earliest command of a session that may start is submitted: one that is built. The clients
+  -- that the step leaves are counted. By that alone it is told which slot is the lowest free one
+  -- then.
   pub record Submits (session : ℕ) (old new : WorldView R) : Type 0 where
     pub command : Given
     pub may : to_start (given session) old session ≡ Some command
+    pub built : IsBuiltEvent command.submission
     pub result : Outcome
     pub step : IsStep stands command.submission old result new
-    pub sound : IsSoundWorld stands new
+    pub counted : AreCounted new
 
   -- The command that starts next: no session that was declared before its own has one that may.
   pub record Starts (old new : WorldView R) : Type 0 where
@@ -97,11 +99,12 @@ module _ {R : Type 0} (stands : R → Standing) (given : (session : ℕ) → Lis
     pub starts : Deeds (λ k. Starts) count old new
     pub quiet : IsQuiet given new
 
-  -- An event comes, with what came of it, and leaves a sound world; and then all that may start.
+  -- An event comes, with what came of it, and leaves clients that are counted; and then all that
+  -- may start.
   pub record Comes (e : Event) (result : Outcome) (old new : WorldView R) : Type 0 where
     pub between : WorldView R
     pub step : IsStep stands e old result between
-    pub sound : IsSoundWorld stands between
+    pub counted : AreCounted between
     pub starts : StartsAll between new
 
   -- it comes, whatever comes of it

@@ -1,7 +1,7 @@
 //! The schedule of a script: which event comes next, and a play of it on a world.
 //!
 //! ```text
-//! let world: World<CreateRequest> = play(alloc, &script)?;   // a script that `rbd_script` read
+//! let world: World = play(alloc, &script)?;   // a script that `rbd_script` read
 //! world.history()                                            // what happened, in order
 //! world.calls()                                              // the events, each with what came of it
 //! ```
@@ -44,6 +44,7 @@
 //! | `specs/Notices.antt` | which notices were delivered (`was_heard`), and which are due to a session (`is_due`) |
 //! | `specs/Starts.antt` | which of them may start (`to_start`), and that none may (`IsQuiet`) |
 //! | `specs/Schedule.antt` | the schedule, as a relation on worlds: an event and what starts behind it, polls, turns, rounds, lines, a script (`PlaysScript`) |
+//! | `specs/Slots.antt` | what the slots of a client tell, behind each event (`AreCounted`) |
 //! | `specs/Deeds.antt` | deeds, one after another |
 //! | `specs/Playing.antt` | which scripts are played (`IsPlayable`), and what a play is (`IsPlay`); and what the runner keeps |
 //! | `specs/InOrder.antt` | what holds of the lines of each script that was read |
@@ -52,7 +53,8 @@
 //! | `specs/Ends.antt` | that at the end each command that was begun has its reply, is lost, or is held up at a lock (`HasCalmed`) |
 //!
 //! [`play`] answers with a world to which the script's schedule led, from a new one on: each of its
-//! calls is the event that the rules name behind the calls before it. [`laws`] says of each script
+//! calls is the event that the rules name behind the calls before it, and all of it is one run. And
+//! nothing goes on in it any more. [`laws`] says of each script
 //! that was read that its lines ascend and name declared sessions; of each session with a request
 //! that one of its requests may go on, as long as no lock holds it; and so of each play that at its
 //! end each command that was begun has its reply, or is lost, or is held up at a lock, or stands

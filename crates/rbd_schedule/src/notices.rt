@@ -10,8 +10,9 @@
 //! A notice is passed by each session once, so that all looks together cost as much as there are
 //! notices, for each session.
 ghost use Rattle.std.specs.Prelude.{◌≡◌, ℕ, ◌+◌, ◌<◌, ◌≤◌, false, true, length, OnOk};
-ghost use Rattle.rbd_requests.specs.Session.{stands_of};
+ghost use Rattle.rbd_client.specs.Seen.{as_is};
 ghost use Rattle.rbd_watch.specs.Posting.{numbered};
+ghost use Rattle.rbd_world.specs.Seen.{seen};
 ghost use Rattle.rbd_schedule.specs.Deeds.{Deeds};
 ghost use Rattle.rbd_schedule.specs.Notices.{is_due as due_to};
 ghost use Rattle.rbd_schedule.specs.Playing.{GoesOn, KeepsUp, given_to, has_number, is_past as past_by, is_settled as settled_by, lost_in};
@@ -24,12 +25,12 @@ use rbd_world::{Event, World};
 use std::alloc::Global;
 use std::collections::HashSet;
 
-impl<E: Machine + Drop> Runner<E> {
+impl Runner {
     /// Delivers each notice that is due to a session, in ascending order.
     pub fn deliver_due(&mut self, alloc: Global, session: SessionNo) -> Result<(), NoMemory>
-        requires { KeepsUp (stands_of E.stands) self.old }
-        ensures notices { OnOk result (Deeds (λ k. DeliversWhere (stands_of E.stands) (given_to self.old) (due_to (lost_in self.old) session (k + 1) self.old.world) (k + 1)) (length self.old.world.sites.mail) self.old.world self.new.world) }
-        ensures goes { OnOk result (GoesOn (stands_of E.stands) self.old self.new) }
+        requires { KeepsUp self.old }
+        ensures notices { OnOk result (Deeds (λ k. DeliversWhere as_is (given_to self.old) (due_to (lost_in self.old) session (k + 1) (seen self.old.world)) (k + 1)) (length (seen self.old.world).sites.mail) (seen self.old.world) (seen self.new.world)) }
+        ensures goes { OnOk result (GoesOn self.old self.new) }
     {
         let first = self.pass(session);
         let all = self.world.notices();
@@ -46,9 +47,9 @@ impl<E: Machine + Drop> Runner<E> {
         session: SessionNo,
         number: u64,
     ) -> Result<(), NoMemory>
-        requires { KeepsUp (stands_of E.stands) self.old }
-        ensures delivers { OnOk result (DeliversWhere (stands_of E.stands) (given_to self.old) (due_to (lost_in self.old) session number self.old.world) number self.old.world self.new.world) }
-        ensures goes { OnOk result (GoesOn (stands_of E.stands) self.old self.new) }
+        requires { KeepsUp self.old }
+        ensures delivers { OnOk result (DeliversWhere as_is (given_to self.old) (due_to (lost_in self.old) session number (seen self.old.world)) number (seen self.old.world) (seen self.new.world)) }
+        ensures goes { OnOk result (GoesOn self.old self.new) }
     {
         if !self.is_due(session, number) {
             return Ok(());
@@ -58,8 +59,8 @@ impl<E: Machine + Drop> Runner<E> {
 
     /// Whether a notice is due to a session.
     fn is_due(&self, session: SessionNo, number: u64) -> bool
-        requires { KeepsUp (stands_of E.stands) self.now }
-        ensures { result ≡ due_to (lost_in self.now) session number self.now.world }
+        requires { KeepsUp self.now }
+        ensures { result ≡ due_to (lost_in self.now) session number (seen self.now.world) }
     {
         let Some(who) = self.world.running(session) else {
             return false;
@@ -79,11 +80,11 @@ impl<E: Machine + Drop> Runner<E> {
     /// Passes by the notices with which a session has no more to do: how many of the first it is
     /// past now, of which none is due to it.
     fn pass(&mut self, session: SessionNo) -> u64
-        requires { KeepsUp (stands_of E.stands) self.old }
-        ensures most { result ≤ length self.old.world.sites.mail }
-        ensures none { (k : ℕ) → k < result → due_to (lost_in self.old) session (k + 1) self.old.world ≡ false }
-        ensures goes { GoesOn (stands_of E.stands) self.old self.new }
-        ensures world { self.new.world ≡ self.old.world }
+        requires { KeepsUp self.old }
+        ensures most { result ≤ length (seen self.old.world).sites.mail }
+        ensures none { (k : ℕ) → k < result → due_to (lost_in self.old) session (k + 1) (seen self.old.world) ≡ false }
+        ensures goes { GoesOn self.old self.new }
+        ensures world { seen self.new.world ≡ seen self.old.world }
     {
         let Some(who) = self.world.running(session) else {
             return 0;
@@ -97,15 +98,15 @@ impl<E: Machine + Drop> Runner<E> {
 }
 
 /// How many of the first notices an instance has no more to do with, from so many on.
-fn passed_on<E: Machine + Drop>(
-    world: &World<E>,
+fn passed_on(
+    world: &World,
     heard: &HashSet<u64>,
     lost: &HashSet<u64>,
     who: &Instance,
     from: u64,
 ) -> u64
-    ensures most { result ≤ length world.now.sites.mail }
-    ensures passed { (k : ℕ) → from ≤ k → k < result → settled_by (λ n. has_number n heard.now) (λ n. has_number n lost.now) who.now (k + 1) (numbered (k + 1) world.now.sites.mail) ≡ true }
+    ensures most { result ≤ length (seen world.now).sites.mail }
+    ensures passed { (k : ℕ) → from ≤ k → k < result → settled_by (λ n. has_number n heard.now) (λ n. has_number n lost.now) who.now (k + 1) (numbered (k + 1) (seen world.now).sites.mail) ≡ true }
 {
     let all = world.notices();
     for k in from..all {
@@ -117,14 +118,14 @@ fn passed_on<E: Machine + Drop>(
 }
 
 /// Whether an instance has no more to do with a notice.
-fn is_settled<E: Machine + Drop>(
-    world: &World<E>,
+fn is_settled(
+    world: &World,
     heard: &HashSet<u64>,
     lost: &HashSet<u64>,
     who: &Instance,
     number: u64,
 ) -> bool
-    ensures { result ≡ settled_by (λ n. has_number n heard.now) (λ n. has_number n lost.now) who.now number (numbered number world.now.sites.mail) }
+    ensures { result ≡ settled_by (λ n. has_number n heard.now) (λ n. has_number n lost.now) who.now number (numbered number (seen world.now).sites.mail) }
 {
     let Some(notice) = world.notice(number) else {
         return false;

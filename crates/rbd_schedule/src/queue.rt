@@ -10,6 +10,7 @@
 //!
 //! Both places only go on, so that all looks together cost as much as there are commands.
 ghost use Rattle.std.specs.Prelude.{◌≡◌, ◌<◌, ◌≤◌, ◌∷◌, ◌++◌, [], true, false, All, length, take, slice_get, Some, OnOk, IfSome};
+ghost use Rattle.rbd_world.specs.Seen.{seen};
 ghost use Rattle.rbd_schedule.specs.declared.given.Given.{Given as Commanded};
 ghost use Rattle.rbd_world.specs.Step.{is_begun};
 ghost use Rattle.rbd_schedule.specs.Playing.{IsQueue, at_place, is_beside, is_over as over, has_line};
@@ -57,15 +58,11 @@ impl Queue {
     }
 
     /// The place of the earliest command that may start, where the session has a free slot.
-    pub fn earliest<E: Machine + Drop>(
-        &mut self,
-        world: &World<E>,
-        ended: &LineMap<()>,
-    ) -> Option<usize>
-        requires { IsQueue (λ line. is_begun line world.now.history) (λ line. has_line line ended.now) self.old }
-        ensures earliest { at_place self.old.commands.items result ≡ earliest_of (λ line. is_begun line world.now.history) (λ line. has_line line ended.now) true self.old.commands.items }
+    pub fn earliest(&mut self, world: &World, ended: &LineMap<()>) -> Option<usize>
+        requires { IsQueue (λ line. is_begun line (seen world.now).history) (λ line. has_line line ended.now) self.old }
+        ensures earliest { at_place self.old.commands.items result ≡ earliest_of (λ line. is_begun line (seen world.now).history) (λ line. has_line line ended.now) true self.old.commands.items }
         ensures place { IfSome result (λ place. place < length self.old.commands.items) }
-        ensures queue { IsQueue (λ line. is_begun line world.now.history) (λ line. has_line line ended.now) self.new }
+        ensures queue { IsQueue (λ line. is_begun line (seen world.now).history) (λ line. has_line line ended.now) self.new }
         ensures commands { self.new.commands ≡ self.old.commands }
     {
         self.front = first_open(self.commands.as_slice(), self.front, world, ended);
@@ -83,17 +80,12 @@ impl Queue {
 }
 
 /// The first place from this one on whose command isn't over, and the end where there is none.
-fn first_open<E: Machine + Drop>(
-    commands: &[Given],
-    from: usize,
-    world: &World<E>,
-    ended: &LineMap<()>,
-) -> usize
+fn first_open(commands: &[Given], from: usize, world: &World, ended: &LineMap<()>) -> usize
     requires from { from ≤ length commands.now }
-    requires over { All (λ c. over (λ line. is_begun line world.now.history) (λ line. has_line line ended.now) c ≡ true) (take from commands.now) }
+    requires over { All (λ c. over (λ line. is_begun line (seen world.now).history) (λ line. has_line line ended.now) c ≡ true) (take from commands.now) }
     ensures end { result ≤ length commands.now }
-    ensures over { All (λ c. over (λ line. is_begun line world.now.history) (λ line. has_line line ended.now) c ≡ true) (take result commands.now) }
-    ensures open { (c : Commanded) → slice_get commands.now result ≡ Some c → over (λ line. is_begun line world.now.history) (λ line. has_line line ended.now) c ≡ false }
+    ensures over { All (λ c. over (λ line. is_begun line (seen world.now).history) (λ line. has_line line ended.now) c ≡ true) (take result commands.now) }
+    ensures open { (c : Commanded) → slice_get commands.now result ≡ Some c → over (λ line. is_begun line (seen world.now).history) (λ line. has_line line ended.now) c ≡ false }
 {
     for place in from..commands.len() {
         if !is_over(&commands[place], world, ended) {
@@ -104,20 +96,20 @@ fn first_open<E: Machine + Drop>(
 }
 
 /// Whether a command was begun, and has its reply or is lost.
-fn is_over<E: Machine + Drop>(given: &Given, world: &World<E>, ended: &LineMap<()>) -> bool
-    ensures { result ≡ over (λ line. is_begun line world.now.history) (λ line. has_line line ended.now) given.now }
+fn is_over(given: &Given, world: &World, ended: &LineMap<()>) -> bool
+    ensures { result ≡ over (λ line. is_begun line (seen world.now).history) (λ line. has_line line ended.now) given.now }
 {
     ended.has(given.line) && world.has_begun(given.line)
 }
 
 /// The first place from this one on whose command stands beside the others and wasn't begun, and
 /// the end where there is none.
-fn first_beside<E: Machine + Drop>(commands: &[Given], from: usize, world: &World<E>) -> usize
+fn first_beside(commands: &[Given], from: usize, world: &World) -> usize
     requires from { from ≤ length commands.now }
-    requires begun { All (λ c. is_beside (λ line. is_begun line world.now.history) c ≡ false) (take from commands.now) }
+    requires begun { All (λ c. is_beside (λ line. is_begun line (seen world.now).history) c ≡ false) (take from commands.now) }
     ensures end { result ≤ length commands.now }
-    ensures begun { All (λ c. is_beside (λ line. is_begun line world.now.history) c ≡ false) (take result commands.now) }
-    ensures beside { (c : Commanded) → slice_get commands.now result ≡ Some c → is_beside (λ line. is_begun line world.now.history) c ≡ true }
+    ensures begun { All (λ c. is_beside (λ line. is_begun line (seen world.now).history) c ≡ false) (take result commands.now) }
+    ensures beside { (c : Commanded) → slice_get commands.now result ≡ Some c → is_beside (λ line. is_begun line (seen world.now).history) c ≡ true }
 {
     for place in from..commands.len() {
         if may_start_beside(&commands[place], world) {
@@ -128,8 +120,8 @@ fn first_beside<E: Machine + Drop>(commands: &[Given], from: usize, world: &Worl
 }
 
 /// Whether a command stands beside the others and wasn't begun.
-fn may_start_beside<E: Machine + Drop>(given: &Given, world: &World<E>) -> bool
-    ensures { result ≡ is_beside (λ line. is_begun line world.now.history) given.now }
+fn may_start_beside(given: &Given, world: &World) -> bool
+    ensures { result ≡ is_beside (λ line. is_begun line (seen world.now).history) given.now }
 {
     given.beside && !world.has_begun(given.line)
 }

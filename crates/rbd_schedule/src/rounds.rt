@@ -6,7 +6,8 @@
 //! turn      of a session that runs: its notices, slot 0, and then each slot that is held at this point
 //! ```
 ghost use Rattle.std.specs.Prelude.{◌≡◌, ℕ, ◌+◌, ◌<◌, ◌≤◌, if◌then◌else◌, length, slice_get, Some, IfOk, OnOk};
-ghost use Rattle.rbd_requests.specs.Session.{stands_of};
+ghost use Rattle.rbd_client.specs.Seen.{as_is};
+ghost use Rattle.rbd_world.specs.Seen.{seen};
 ghost use Rattle.rbd_schedule.specs.Playing.{GoesOn, KeepsUp, given_to, lost_in};
 ghost use Rattle.rbd_schedule.specs.Schedule.{PollsAll, PollsIn, PollsWhere, Round, Settles, Turn, TurnOf, goes_on as goes_on_by, is_held};
 
@@ -19,12 +20,12 @@ use std::alloc::Global;
 /// So many rounds that are idle in a row end a settle.
 const MOST_IDLE: u8 = 8;
 
-impl<E: Machine + Drop> Runner<E> {
+impl Runner {
     /// So many rounds, or as many as it takes until eight are idle in a row.
     pub fn settle(&mut self, alloc: Global, rounds: u128) -> Result<(), NoMemory>
-        requires { KeepsUp (stands_of E.stands) self.old }
-        ensures settles { OnOk result (Settles (stands_of E.stands) (given_to self.old) (lost_in self.old) (length self.old.queues.items) rounds self.old.world self.new.world) }
-        ensures goes { OnOk result (GoesOn (stands_of E.stands) self.old self.new) }
+        requires { KeepsUp self.old }
+        ensures settles { OnOk result (Settles as_is (given_to self.old) (lost_in self.old) (length self.old.queues.items) rounds (seen self.old.world) (seen self.new.world)) }
+        ensures goes { OnOk result (GoesOn self.old self.new) }
     {
         let mut left = rounds;
         let mut idle = 0;
@@ -38,9 +39,9 @@ impl<E: Machine + Drop> Runner<E> {
 
     /// A round: whether a request went on in it.
     fn round(&mut self, alloc: Global) -> Result<bool, NoMemory>
-        requires { KeepsUp (stands_of E.stands) self.old }
-        ensures round { IfOk result (λ went_on. Round (stands_of E.stands) (given_to self.old) (lost_in self.old) (length self.old.queues.items) went_on self.old.world self.new.world) }
-        ensures goes { OnOk result (GoesOn (stands_of E.stands) self.old self.new) }
+        requires { KeepsUp self.old }
+        ensures round { IfOk result (λ went_on. Round as_is (given_to self.old) (lost_in self.old) (length self.old.queues.items) went_on (seen self.old.world) (seen self.new.world)) }
+        ensures goes { OnOk result (GoesOn self.old self.new) }
     {
         let mut went_on = false;
         for session in 0..self.sessions() {
@@ -56,9 +57,9 @@ impl<E: Machine + Drop> Runner<E> {
         session: SessionNo,
         went_on: bool,
     ) -> Result<bool, NoMemory>
-        requires { KeepsUp (stands_of E.stands) self.old }
-        ensures turn { IfOk result (λ went_on'. TurnOf (stands_of E.stands) (given_to self.old) (lost_in self.old) session (record { world = self.old.world; went_on = went_on }) (record { world = self.new.world; went_on = went_on' })) }
-        ensures goes { OnOk result (GoesOn (stands_of E.stands) self.old self.new) }
+        requires { KeepsUp self.old }
+        ensures turn { IfOk result (λ went_on'. TurnOf as_is (given_to self.old) (lost_in self.old) session (record { world = seen self.old.world; went_on = went_on }) (record { world = seen self.new.world; went_on = went_on' })) }
+        ensures goes { OnOk result (GoesOn self.old self.new) }
     {
         if !self.world.runs(session) {
             return Ok(went_on);
@@ -69,9 +70,9 @@ impl<E: Machine + Drop> Runner<E> {
     /// The turn of a session: the notices that are due to it, slot 0, and then each slot that is
     /// held at this point.
     fn turn(&mut self, alloc: Global, session: SessionNo, went_on: bool) -> Result<bool, NoMemory>
-        requires { KeepsUp (stands_of E.stands) self.old }
-        ensures turn { IfOk result (λ went_on'. Turn (stands_of E.stands) (given_to self.old) (lost_in self.old) session (record { world = self.old.world; went_on = went_on }) (record { world = self.new.world; went_on = went_on' })) }
-        ensures goes { OnOk result (GoesOn (stands_of E.stands) self.old self.new) }
+        requires { KeepsUp self.old }
+        ensures turn { IfOk result (λ went_on'. Turn as_is (given_to self.old) (lost_in self.old) session (record { world = seen self.old.world; went_on = went_on }) (record { world = seen self.new.world; went_on = went_on' })) }
+        ensures goes { OnOk result (GoesOn self.old self.new) }
     {
         self.deliver_due(alloc, session)?;
         self.polls(alloc, session, went_on)
@@ -79,9 +80,9 @@ impl<E: Machine + Drop> Runner<E> {
 
     /// The polls of a session's turn: slot 0, and then each slot that is held at this point.
     fn polls(&mut self, alloc: Global, session: SessionNo, went_on: bool) -> Result<bool, NoMemory>
-        requires { KeepsUp (stands_of E.stands) self.old }
-        ensures polls { IfOk result (λ went_on'. PollsAll (stands_of E.stands) (given_to self.old) session (record { world = self.old.world; went_on = went_on }) (record { world = self.new.world; went_on = went_on' })) }
-        ensures goes { OnOk result (GoesOn (stands_of E.stands) self.old self.new) }
+        requires { KeepsUp self.old }
+        ensures polls { IfOk result (λ went_on'. PollsAll as_is (given_to self.old) session (record { world = seen self.old.world; went_on = went_on }) (record { world = seen self.new.world; went_on = went_on' })) }
+        ensures goes { OnOk result (GoesOn self.old self.new) }
     {
         let mut went_on = self.poll_in(alloc, session, Slot(0), went_on)?;
         let held = self.held(session);
@@ -100,9 +101,9 @@ impl<E: Machine + Drop> Runner<E> {
         held: bool,
         went_on: bool,
     ) -> Result<bool, NoMemory>
-        requires { KeepsUp (stands_of E.stands) self.old }
-        ensures polls { IfOk result (λ went_on'. PollsWhere (stands_of E.stands) (given_to self.old) held session slot (record { world = self.old.world; went_on = went_on }) (record { world = self.new.world; went_on = went_on' })) }
-        ensures goes { OnOk result (GoesOn (stands_of E.stands) self.old self.new) }
+        requires { KeepsUp self.old }
+        ensures polls { IfOk result (λ went_on'. PollsWhere as_is (given_to self.old) held session slot (record { world = seen self.old.world; went_on = went_on }) (record { world = seen self.new.world; went_on = went_on' })) }
+        ensures goes { OnOk result (GoesOn self.old self.new) }
     {
         if held {
             self.poll_in(alloc, session, slot, went_on)
@@ -119,9 +120,9 @@ impl<E: Machine + Drop> Runner<E> {
         slot: Slot,
         went_on: bool,
     ) -> Result<bool, NoMemory>
-        requires { KeepsUp (stands_of E.stands) self.old }
-        ensures polls { IfOk result (λ went_on'. PollsIn (stands_of E.stands) (given_to self.old) session slot (record { world = self.old.world; went_on = went_on }) (record { world = self.new.world; went_on = went_on' })) }
-        ensures goes { OnOk result (GoesOn (stands_of E.stands) self.old self.new) }
+        requires { KeepsUp self.old }
+        ensures polls { IfOk result (λ went_on'. PollsIn as_is (given_to self.old) session slot (record { world = seen self.old.world; went_on = went_on }) (record { world = seen self.new.world; went_on = went_on' })) }
+        ensures goes { OnOk result (GoesOn self.old self.new) }
     {
         let outcome = self.poll(alloc, session, slot)?;
         Ok(went_on || goes_on(outcome))
@@ -129,8 +130,8 @@ impl<E: Machine + Drop> Runner<E> {
 
     /// Which slots of a session are held: those from 1 on.
     fn held(&self, session: SessionNo) -> [bool; 64]
-        requires { KeepsUp (stands_of E.stands) self.now }
-        ensures { (k : ℕ) → k < 64 → slice_get result k ≡ Some (is_held session (k + 1) self.now.world) }
+        requires { KeepsUp self.now }
+        ensures { (k : ℕ) → k < 64 → slice_get result k ≡ Some (is_held session (k + 1) (seen self.now.world)) }
     {
         let mut held = [false; 64];
         for k in 0..self.highest() as usize {

@@ -4,10 +4,11 @@
 //! an event ── step ── is there a reply? ── start ── start ── .. ── nothing may start
 //! ```
 ghost use Rattle.std.specs.Prelude.{◌≡◌, ℕ, ◌<◌, ◌≤◌, ◌&&◌, ◌||◌, ◌++◌, [], true, false, drop, length, All, slice_get, IfOk, IfSome, OnOk};
-ghost use Rattle.rbd_requests.specs.Session.{stands_of};
+ghost use Rattle.rbd_client.specs.Seen.{as_is};
 ghost use Rattle.rbd_world.specs.Sound.{AreAtHome, IsNewWorld, IsSoundWorld};
 ghost use Rattle.rbd_world.specs.Step.{IsBuiltEvent, IsStep};
 ghost use Rattle.rbd_world.specs.declared.event.Event.TheVariants as of_event;
+ghost use Rattle.rbd_world.specs.Seen.{seen};
 ghost use Rattle.rbd_schedule.specs.Given.{given_by as told_by_line, loses, of_session};
 ghost use Rattle.rbd_schedule.specs.Notices.{is_heard as heard_by};
 ghost use Rattle.rbd_schedule.specs.Starts.{is_ended, to_start};
@@ -26,8 +27,8 @@ use std::alloc::Global;
 use std::collections::HashSet;
 
 /// A world, and the commands of the script for each of its sessions. As a world it isn't `Drop`.
-pub struct Runner<E: Machine + Drop> {
-    pub world: World<E>,
+pub struct Runner {
+    pub world: World,
     /// The commands that each session was given so far.
     pub queues: Vec<Queue>,
     /// The lines that have their reply, or are lost.
@@ -44,13 +45,13 @@ pub struct Runner<E: Machine + Drop> {
     pub passed: Vec<u64>,
 }
 
-impl<E: Machine + Drop> Runner<E> {
+impl Runner {
     /// A new world of a script's sessions, which were given nothing so far.
     pub fn new(alloc: Global, sessions: &[Declared]) -> Result<Self, NoMemory>
         requires { length sessions.now ≤ 32 }
-        ensures new { IfOk result (λ r. IsNewWorld (stands_of E.stands) r.world) }
-        ensures homes { IfOk result (λ r. AreAtHome (homes_of sessions.now) r.world.lives) }
-        ensures keeps { IfOk result (KeepsUp (stands_of E.stands)) }
+        ensures new { IfOk result (λ r. IsNewWorld as_is (seen r.world)) }
+        ensures homes { IfOk result (λ r. AreAtHome (homes_of sessions.now) (seen r.world).lives) }
+        ensures keeps { IfOk result KeepsUp }
         ensures given { IfOk result (λ r. (session : ℕ) → given_to r session ≡ []) }
         ensures lost { IfOk result (λ r. (number : ℕ) → lost_in r number ≡ false) }
         ensures queues { IfOk result (λ r. length r.queues.items ≡ length sessions.now) }
@@ -79,7 +80,7 @@ impl<E: Machine + Drop> Runner<E> {
     }
 
     /// The world alone.
-    pub fn into_world(self) -> World<E>
+    pub fn into_world(self) -> World
         ensures { result ≡ self.world }
     {
         let Runner {
@@ -103,11 +104,11 @@ impl<E: Machine + Drop> Runner<E> {
     /// A line is reached: the command that it gives, where it gives one, waits behind the others of
     /// its session, and the notice that it loses is one of those.
     pub fn give(&mut self, line: &Line) -> Result<(), NoMemory>
-        ensures keeps { OnOk result (IsPlayed line.now.said → KeepsUp (stands_of E.stands) self.old → KeepsUp (stands_of E.stands) self.new) }
+        ensures keeps { OnOk result (IsPlayed line.now.said → KeepsUp self.old → KeepsUp self.new) }
         ensures given { OnOk result ((session : ℕ) → session < length self.old.queues.items → given_to self.new session ≡ given_to self.old session ++ of_session session (told_by_line line.now.number line.now.said)) }
         ensures lost { OnOk result ((number : ℕ) → lost_in self.new number ≡ (lost_in self.old number || loses number line.now.said)) }
         ensures queues { OnOk result (length self.new.queues.items ≡ length self.old.queues.items) }
-        ensures world { OnOk result (self.new.world ≡ self.old.world) }
+        ensures world { OnOk result (seen self.new.world ≡ seen self.old.world) }
     {
         self.lose_by(&line.said)?;
         self.queue(line)
@@ -126,11 +127,11 @@ impl<E: Machine + Drop> Runner<E> {
 
     /// The command of a line, where it gives one, waits behind the others of its session.
     fn queue(&mut self, line: &Line) -> Result<(), NoMemory>
-        ensures keeps { OnOk result (IsPlayed line.now.said → KeepsUp (stands_of E.stands) self.old → KeepsUp (stands_of E.stands) self.new) }
+        ensures keeps { OnOk result (IsPlayed line.now.said → KeepsUp self.old → KeepsUp self.new) }
         ensures given { OnOk result ((session : ℕ) → session < length self.old.queues.items → given_to self.new session ≡ given_to self.old session ++ of_session session (told_by_line line.now.number line.now.said)) }
         ensures lost { lost_in self.new ≡ lost_in self.old }
         ensures queues { OnOk result (length self.new.queues.items ≡ length self.old.queues.items) }
-        ensures world { OnOk result (self.new.world ≡ self.old.world) }
+        ensures world { OnOk result (seen self.new.world ≡ seen self.old.world) }
     {
         let Some(given) = given_by(line)? else {
             return Ok(());
@@ -152,9 +153,9 @@ impl<E: Machine + Drop> Runner<E> {
         session: SessionNo,
         slot: Slot,
     ) -> Result<Outcome, NoMemory>
-        requires { KeepsUp (stands_of E.stands) self.old }
-        ensures comes { IfOk result (λ outcome. Comes (stands_of E.stands) (given_to self.old) (of_event.Poll session slot) outcome self.old.world self.new.world) }
-        ensures goes { OnOk result (GoesOn (stands_of E.stands) self.old self.new) }
+        requires { KeepsUp self.old }
+        ensures comes { IfOk result (λ outcome. Comes as_is (given_to self.old) (of_event.Poll session slot) outcome (seen self.old.world) (seen self.new.world)) }
+        ensures goes { OnOk result (GoesOn self.old self.new) }
     {
         let from = self.world.history().len();
         let outcome = self.poll_alone(alloc, session, slot)?;
@@ -165,10 +166,10 @@ impl<E: Machine + Drop> Runner<E> {
 
     /// An event that begins no command, and then all that may start.
     pub fn happen(&mut self, alloc: Global, event: Event) -> Result<(), NoMemory>
-        requires keeps { KeepsUp (stands_of E.stands) self.old }
+        requires keeps { KeepsUp self.old }
         requires none { IsNoStart event }
-        ensures happens { OnOk result (Happens (stands_of E.stands) (given_to self.old) event self.old.world self.new.world) }
-        ensures goes { OnOk result (GoesOn (stands_of E.stands) self.old self.new) }
+        ensures happens { OnOk result (Happens as_is (given_to self.old) event (seen self.old.world) (seen self.new.world)) }
+        ensures goes { OnOk result (GoesOn self.old self.new) }
     {
         let from = self.world.history().len();
         let told = notice_of(&event);
@@ -185,9 +186,9 @@ impl<E: Machine + Drop> Runner<E> {
         site: SiteId,
         image: ImageId,
     ) -> Result<(), NoMemory>
-        requires { KeepsUp (stands_of E.stands) self.old }
-        ensures happens { OnOk result (Happens (stands_of E.stands) (given_to self.old) (of_event.Expire session site image) self.old.world self.new.world) }
-        ensures goes { OnOk result (GoesOn (stands_of E.stands) self.old self.new) }
+        requires { KeepsUp self.old }
+        ensures happens { OnOk result (Happens as_is (given_to self.old) (of_event.Expire session site image) (seen self.old.world) (seen self.new.world)) }
+        ensures goes { OnOk result (GoesOn self.old self.new) }
     {
         let event = Event::Expire {
             session,
@@ -199,9 +200,9 @@ impl<E: Machine + Drop> Runner<E> {
 
     /// What a slot wanted comes, and then all that may start does.
     pub fn late(&mut self, alloc: Global, session: SessionNo, slot: Slot) -> Result<(), NoMemory>
-        requires { KeepsUp (stands_of E.stands) self.old }
-        ensures happens { OnOk result (Happens (stands_of E.stands) (given_to self.old) (of_event.Late session slot) self.old.world self.new.world) }
-        ensures goes { OnOk result (GoesOn (stands_of E.stands) self.old self.new) }
+        requires { KeepsUp self.old }
+        ensures happens { OnOk result (Happens as_is (given_to self.old) (of_event.Late session slot) (seen self.old.world) (seen self.new.world)) }
+        ensures goes { OnOk result (GoesOn self.old self.new) }
     {
         self.happen(alloc, Event::Late { session, slot })
     }
@@ -214,9 +215,9 @@ impl<E: Machine + Drop> Runner<E> {
         image: ImageId,
         object: u64,
     ) -> Result<(), NoMemory>
-        requires { KeepsUp (stands_of E.stands) self.old }
-        ensures happens { OnOk result (Happens (stands_of E.stands) (given_to self.old) (of_event.Trim site image object) self.old.world self.new.world) }
-        ensures goes { OnOk result (GoesOn (stands_of E.stands) self.old self.new) }
+        requires { KeepsUp self.old }
+        ensures happens { OnOk result (Happens as_is (given_to self.old) (of_event.Trim site image object) (seen self.old.world) (seen self.new.world)) }
+        ensures goes { OnOk result (GoesOn self.old self.new) }
     {
         let event = Event::Trim {
             site,
@@ -233,8 +234,8 @@ impl<E: Machine + Drop> Runner<E> {
         session: SessionNo,
         slot: Slot,
     ) -> Result<Outcome, NoMemory>
-        ensures step { IfOk result (λ outcome. IsStep (stands_of E.stands) (of_event.Poll session slot) self.old.world outcome self.new.world) }
-        ensures sound { IsSoundWorld (stands_of E.stands) self.new.world }
+        ensures step { IfOk result (λ outcome. IsStep as_is (of_event.Poll session slot) (seen self.old.world) outcome (seen self.new.world)) }
+        ensures sound { IsSoundWorld as_is (seen self.new.world) }
         ensures rest { self.new ≡ record self.old { world = self.new.world } }
     {
         self.world.poll(alloc, session, slot)
@@ -243,8 +244,8 @@ impl<E: Machine + Drop> Runner<E> {
     /// One event, and nothing else.
     fn step(&mut self, alloc: Global, event: Event) -> Result<Outcome, NoMemory>
         requires { IsBuiltEvent event }
-        ensures step { IfOk result (λ outcome. IsStep (stands_of E.stands) event self.old.world outcome self.new.world) }
-        ensures sound { IsSoundWorld (stands_of E.stands) self.new.world }
+        ensures step { IfOk result (λ outcome. IsStep as_is event (seen self.old.world) outcome (seen self.new.world)) }
+        ensures sound { IsSoundWorld as_is (seen self.new.world) }
         ensures rest { self.new ≡ record self.old { world = self.new.world } }
     {
         let outcome = self.world.step(alloc, &event);
@@ -256,8 +257,8 @@ impl<E: Machine + Drop> Runner<E> {
     /// history on; the notice that it told, where one heard it; and whether another command may
     /// start.
     fn note(&mut self, from: usize, told: Option<u64>, outcome: &Outcome) -> Result<(), NoMemory>
-        requires { from ≤ length self.old.world.history }
-        ensures over { OnOk result ((line : ℕ) → has_line line self.new.over ≡ (has_line line self.old.over || is_ended line (drop from self.old.world.history))) }
+        requires { from ≤ length (seen self.old.world).history }
+        ensures over { OnOk result ((line : ℕ) → has_line line self.new.over ≡ (has_line line self.old.over || is_ended line (drop from (seen self.old.world).history))) }
         ensures heard { OnOk result ((number : ℕ) → has_number number self.new.heard ≡ (has_number number self.old.heard || (is_one_of number told && heard_by outcome.now))) }
         ensures due { OnOk result (self.new.is_due ≡ (self.old.is_due || may_start_by outcome.now)) }
         ensures rest { self.new ≡ record self.old { over = self.new.over; heard = self.new.heard; is_due = self.new.is_due } }
@@ -270,9 +271,9 @@ impl<E: Machine + Drop> Runner<E> {
 
     /// Starts one command after another, until none may start. None is looked for where none may.
     pub fn start_all(&mut self, alloc: Global) -> Result<(), NoMemory>
-        requires { KeepsUp (stands_of E.stands) self.old }
-        ensures starts { OnOk result (StartsAll (stands_of E.stands) (given_to self.old) self.old.world self.new.world) }
-        ensures goes { OnOk result (GoesOn (stands_of E.stands) self.old self.new) }
+        requires { KeepsUp self.old }
+        ensures starts { OnOk result (StartsAll as_is (given_to self.old) (seen self.old.world) (seen self.new.world)) }
+        ensures goes { OnOk result (GoesOn self.old self.new) }
     {
         if !self.is_due {
             return Ok(());
@@ -284,9 +285,9 @@ impl<E: Machine + Drop> Runner<E> {
 
     /// Starts the command that starts next: `false` exactly where none may start.
     fn start_next(&mut self, alloc: Global) -> Result<bool, NoMemory>
-        requires { KeepsUp (stands_of E.stands) self.old }
-        ensures starts { IfOk result (λ started. StartsWhere (stands_of E.stands) (given_to self.old) started self.old.world self.new.world) }
-        ensures goes { OnOk result (GoesOn (stands_of E.stands) self.old self.new) }
+        requires { KeepsUp self.old }
+        ensures starts { IfOk result (λ started. StartsWhere as_is (given_to self.old) started (seen self.old.world) (seen self.new.world)) }
+        ensures goes { OnOk result (GoesOn self.old self.new) }
     {
         for session in 0..self.queues.len() {
             if self.start_of(alloc, SessionNo(session as u8))? {
@@ -299,9 +300,9 @@ impl<E: Machine + Drop> Runner<E> {
     /// Starts the earliest command of a session that may start: `false` exactly where there is
     /// none.
     fn start_of(&mut self, alloc: Global, session: SessionNo) -> Result<bool, NoMemory>
-        requires { KeepsUp (stands_of E.stands) self.old }
-        ensures starts { IfOk result (λ started. StartsIf (stands_of E.stands) (given_to self.old) session started self.old.world self.new.world) }
-        ensures goes { OnOk result (GoesOn (stands_of E.stands) self.old self.new) }
+        requires { KeepsUp self.old }
+        ensures starts { IfOk result (λ started. StartsIf as_is (given_to self.old) session started (seen self.old.world) (seen self.new.world)) }
+        ensures goes { OnOk result (GoesOn self.old self.new) }
     {
         match self.place_of(session) {
             Some(place) => self.start_at(alloc, session, place),
@@ -311,11 +312,11 @@ impl<E: Machine + Drop> Runner<E> {
 
     /// The place of a session's earliest command that may start.
     fn place_of(&mut self, session: SessionNo) -> Option<usize>
-        requires { KeepsUp (stands_of E.stands) self.old }
-        ensures place { at_place (given_to self.old session) result ≡ to_start (given_to self.old session) self.old.world session }
+        requires { KeepsUp self.old }
+        ensures place { at_place (given_to self.old session) result ≡ to_start (given_to self.old session) (seen self.old.world) session }
         ensures within { IfSome result (λ place. place < length (given_to self.old session)) }
-        ensures goes { GoesOn (stands_of E.stands) self.old self.new }
-        ensures world { self.new.world ≡ self.old.world }
+        ensures goes { GoesOn self.old self.new }
+        ensures world { seen self.new.world ≡ seen self.old.world }
     {
         self.world.free(session)?;
         let queue = self.queues.get_mut(session.0 as usize)?;
@@ -329,12 +330,12 @@ impl<E: Machine + Drop> Runner<E> {
         session: SessionNo,
         place: usize,
     ) -> Result<bool, NoMemory>
-        requires keeps { KeepsUp (stands_of E.stands) self.old }
+        requires keeps { KeepsUp self.old }
         requires within { place < length (given_to self.old session) }
-        requires may { to_start (given_to self.old session) self.old.world session ≡ slice_get (given_to self.old session) place }
-        ensures starts { IfOk result (λ started. StartsIf (stands_of E.stands) (given_to self.old) session started self.old.world self.new.world) }
+        requires may { to_start (given_to self.old session) (seen self.old.world) session ≡ slice_get (given_to self.old session) place }
+        ensures starts { IfOk result (λ started. StartsIf as_is (given_to self.old) session started (seen self.old.world) (seen self.new.world)) }
         ensures started { IfOk result (λ started. started ≡ true) }
-        ensures goes { OnOk result (GoesOn (stands_of E.stands) self.old self.new) }
+        ensures goes { OnOk result (GoesOn self.old self.new) }
     {
         let command = &self.queues[session.0 as usize].commands[place];
         let outcome = self.world.step(alloc, &command.submission)?;

@@ -1,8 +1,10 @@
 //! Plays a script.
 ghost use Rattle.std.specs.Prelude.{◌≡◌, ◌↔◌, ℕ, ◌<◌, ◌^◌, [], false, length, IsTrue, IfOk, OnOk};
-ghost use Rattle.rbd_requests.specs.Session.{stands_of};
+ghost use Rattle.rbd_client.specs.Seen.{as_is};
 ghost use Rattle.rbd_world.specs.Sound.{IsSoundWorld};
+ghost use Rattle.rbd_world.specs.Seen.{seen};
 ghost use Rattle.rbd_schedule.specs.Deeds.{Deeds};
+ghost use Rattle.rbd_schedule.specs.Ends.{HasCalmed};
 ghost use Rattle.rbd_schedule.specs.Given.{commands_of, given_by};
 ghost use Rattle.rbd_schedule.specs.Playing.{GoesOn, IsPlay, IsPlayable, KeepsUp, given_to, lost_in};
 ghost use Rattle.rbd_schedule.specs.Schedule.{IsOneEvent, IsOneEventAt, Plays, PlaysScript, Polls, PollsUntil, Wants, closing_rounds as rounds_for};
@@ -21,12 +23,13 @@ const MOST_POLLS: u32 = 4096;
 /// makes.
 const CLOSING_ROUNDS: u128 = 1 << 60;
 
-/// Plays a script by its schedule, from a new world on to the end. It takes memory for the script's
-/// commands once more, and for what happens in the world.
-pub fn play<E: Machine + Drop>(alloc: Global, script: &Script) -> Result<World<E>, NoMemory>
+/// Plays a script by its schedule, from a new world on to the end, where nothing goes on any more.
+/// It takes memory for the script's commands once more, and for what happens in the world.
+pub fn play(alloc: Global, script: &Script) -> Result<World, NoMemory>
     requires { IsPlayable script.now }
-    ensures play { IfOk result (IsPlay (stands_of E.stands) script.now) }
-    ensures few { IfOk result (λ w. length w.calls < 2 ^ 59) }
+    ensures play { IfOk result (λ w. IsPlay as_is script.now (seen w)) }
+    ensures calmed { IfOk result (λ w. HasCalmed as_is script.now (seen w)) }
+    ensures few { IfOk result (λ w. length (seen w).calls < 2 ^ 59) }
 {
     let mut runner = Runner::new(alloc, script.sessions.as_slice())?;
     match runner.play_script(alloc, script) {
@@ -38,17 +41,17 @@ pub fn play<E: Machine + Drop>(alloc: Global, script: &Script) -> Result<World<E
     }
 }
 
-impl<E: Machine + Drop> Runner<E> {
+impl Runner {
     /// Plays the lines of a script, and the rounds that close it, where nothing was played so far.
     fn play_script(&mut self, alloc: Global, script: &Script) -> Result<(), NoMemory>
         requires playable { IsPlayable script.now }
-        requires keeps { KeepsUp (stands_of E.stands) self.old }
+        requires keeps { KeepsUp self.old }
         requires given { (session : ℕ) → given_to self.old session ≡ [] }
         requires lost { (number : ℕ) → lost_in self.old number ≡ false }
         requires queues { length self.old.queues.items ≡ length script.now.sessions }
-        ensures plays { OnOk result (PlaysScript (stands_of E.stands) script.now self.old.world self.new.world) }
-        ensures sound { OnOk result (IsSoundWorld (stands_of E.stands) self.new.world) }
-        ensures few { OnOk result (length self.new.world.calls < 2 ^ 59) }
+        ensures plays { OnOk result (PlaysScript as_is script.now (seen self.old.world) (seen self.new.world)) }
+        ensures sound { OnOk result (IsSoundWorld as_is (seen self.new.world)) }
+        ensures few { OnOk result (length (seen self.new.world).calls < 2 ^ 59) }
     {
         for line in script.lines.as_slice() {
             self.give(line)?;
@@ -62,16 +65,16 @@ impl<E: Machine + Drop> Runner<E> {
     /// That no world has had as many events: its calls lie in memory, more than 32 bytes each, and
     /// no slice has 2^63 bytes.
     fn few_events(&self)
-        ensures { length self.now.world.calls < 2 ^ 59 }
+        ensures { length (seen self.now.world).calls < 2 ^ 59 }
     {
         let _calls = self.world.calls();
     }
 
     /// What a line does when it is reached.
     fn play_line(&mut self, alloc: Global, said: &Said) -> Result<(), NoMemory>
-        requires { KeepsUp (stands_of E.stands) self.old }
-        ensures plays { OnOk result (Plays (stands_of E.stands) (given_to self.old) (lost_in self.old) (length self.old.queues.items) said.now self.old.world self.new.world) }
-        ensures goes { OnOk result (GoesOn (stands_of E.stands) self.old self.new) }
+        requires { KeepsUp self.old }
+        ensures plays { OnOk result (Plays as_is (given_to self.old) (lost_in self.old) (length self.old.queues.items) said.now (seen self.old.world) (seen self.new.world)) }
+        ensures goes { OnOk result (GoesOn self.old self.new) }
     {
         match said {
             Said::Command {
@@ -97,10 +100,10 @@ impl<E: Machine + Drop> Runner<E> {
 
     /// A line that is one event.
     fn play_event(&mut self, alloc: Global, said: &Said) -> Result<(), NoMemory>
-        requires keeps { KeepsUp (stands_of E.stands) self.old }
+        requires keeps { KeepsUp self.old }
         requires one { IsOneEvent said.now }
-        ensures plays { OnOk result (Plays (stands_of E.stands) (given_to self.old) (lost_in self.old) (length self.old.queues.items) said.now self.old.world self.new.world) }
-        ensures goes { OnOk result (GoesOn (stands_of E.stands) self.old self.new) }
+        ensures plays { OnOk result (Plays as_is (given_to self.old) (lost_in self.old) (length self.old.queues.items) said.now (seen self.old.world) (seen self.new.world)) }
+        ensures goes { OnOk result (GoesOn self.old self.new) }
     {
         match said {
             Said::Deliver(number) => self.happen(
@@ -117,10 +120,10 @@ impl<E: Machine + Drop> Runner<E> {
 
     /// A line that is one event at a slot, an image or an object.
     fn play_event_at(&mut self, alloc: Global, said: &Said) -> Result<(), NoMemory>
-        requires keeps { KeepsUp (stands_of E.stands) self.old }
+        requires keeps { KeepsUp self.old }
         requires one { IsOneEventAt said.now }
-        ensures plays { OnOk result (Plays (stands_of E.stands) (given_to self.old) (lost_in self.old) (length self.old.queues.items) said.now self.old.world self.new.world) }
-        ensures goes { OnOk result (GoesOn (stands_of E.stands) self.old self.new) }
+        ensures plays { OnOk result (Plays as_is (given_to self.old) (lost_in self.old) (length self.old.queues.items) said.now (seen self.old.world) (seen self.new.world)) }
+        ensures goes { OnOk result (GoesOn self.old self.new) }
     {
         match said {
             Said::Expire {
@@ -146,9 +149,9 @@ impl<E: Machine + Drop> Runner<E> {
         slot: Slot,
         times: u32,
     ) -> Result<(), NoMemory>
-        requires { KeepsUp (stands_of E.stands) self.old }
-        ensures polls { OnOk result (Deeds (λ k. Polls (stands_of E.stands) (given_to self.old) session slot) times self.old.world self.new.world) }
-        ensures goes { OnOk result (GoesOn (stands_of E.stands) self.old self.new) }
+        requires { KeepsUp self.old }
+        ensures polls { OnOk result (Deeds (λ k. Polls as_is (given_to self.old) session slot) times (seen self.old.world) (seen self.new.world)) }
+        ensures goes { OnOk result (GoesOn self.old self.new) }
     {
         for _ in 0..times {
             self.poll(alloc, session, slot)?;
@@ -164,9 +167,9 @@ impl<E: Machine + Drop> Runner<E> {
         slot: Slot,
         kind: OpKind,
     ) -> Result<(), NoMemory>
-        requires { KeepsUp (stands_of E.stands) self.old }
-        ensures polls { OnOk result (PollsUntil (stands_of E.stands) (given_to self.old) session slot kind self.old.world self.new.world) }
-        ensures goes { OnOk result (GoesOn (stands_of E.stands) self.old self.new) }
+        requires { KeepsUp self.old }
+        ensures polls { OnOk result (PollsUntil as_is (given_to self.old) session slot kind (seen self.old.world) (seen self.new.world)) }
+        ensures goes { OnOk result (GoesOn self.old self.new) }
     {
         for _ in 0..MOST_POLLS {
             if self.wants(session, slot, kind) {
@@ -179,7 +182,7 @@ impl<E: Machine + Drop> Runner<E> {
 
     /// Whether a slot wants an operation of the kind.
     fn wants(&self, session: SessionNo, slot: Slot, kind: OpKind) -> bool
-        ensures { IsTrue result ↔ Wants (stands_of E.stands) session slot kind self.now.world }
+        ensures { IsTrue result ↔ Wants as_is session slot kind (seen self.now.world) }
     {
         match self.world.kind(session, slot) {
             Some((_, wanted)) => wanted == kind,

@@ -71,7 +71,7 @@ module _ {R : Type 0} (stands : R → Standing) (old new : WorldView R) (w : IsS
   abbrev pub goes_by : Knowledge
   goes_by = known_to (knew slot) acts
 
-  pub living : IsLiving stands (w.homes session) session w.run knew c
+  pub living : IsLiving stands (w.told.homes session) session w.told.run knew c
   living = w.clients session c there
 
   pub was_true : (t : SiteId) → IsTrueOf t (records_in t old.sites) me knew c
@@ -130,7 +130,7 @@ module _ {R : Type 0} (stands : R → Standing) (old new : WorldView R) (w : IsS
           by : (o : Option LateView) → l.late ≡ o → sent_in x o ≡ Some y → ⊥
           by None none sent = none-some y sent
           by (Some v) late sent =
-              let lives = w.lives session l at in
+              let lives = w.told.lives session l at in
               let less : v.instance.life < l.latest.life = lives.older v late c runs in
               let mine : v.instance ≡ l.latest = sym (late_is (Some v) sent v refl) ∙ sym same ∙ lives.latest c runs in
               lt_irrefl l.latest.life (subst (λ (i : Instance). i.life < l.latest.life) mine less)
@@ -191,7 +191,7 @@ module _ {R : Type 0} (stands : R → Standing) (old new : WorldView R) (w : IsS
     abbrev pub knows_now : ℕ → Knowledge
     knows_now = knows_fed knew slot result (plan_of stands (running_at slot c.session)) (fed.Answer a) acts
 
-    pub standing : StandFlat (does_it ∷ w.run)
+    pub standing : StandFlat (does_it ∷ w.told.run)
     standing = stands_then stands old new w me doer s o result goes_by known permits (locked s) at_sites
 
     pub whole : (t : SiteId) → HasWholeImages (records_in t new.sites)
@@ -203,7 +203,7 @@ module _ {R : Type 0} (stands : R → Standing) (old new : WorldView R) (w : IsS
     pub alone : TellsStandalone a
     alone = tells_alone stands old new w me doer s o result goes_by known permits (locked s) at_sites
 
-    pub done_so : RecallsBy doer s o goes_by w.run → IsOf doer me s o w.run → IsNextOf doer me s o w.run → IsDone (operation_at (site_in s old.sites) me doer s o) w.run
+    pub done_so : RecallsBy doer s o goes_by w.told.run → IsOf doer me s o w.told.run → IsNextOf doer me s o w.told.run → IsDone (operation_at (site_in s old.sites) me doer s o) w.told.run
     done_so recalls whose next = is_done stands old new w me doer s o result goes_by known permits (locked s) at_sites (λ image drawn. w.new (InSlot session slot) s image (acted_drawn (knew slot) acts s image drawn)) recalls whose next
 
     pub all_know : AllKnow stands knows_now d.session
@@ -215,7 +215,7 @@ module _ {R : Type 0} (stands : R → Standing) (old new : WorldView R) (w : IsS
         here : IsTrueOf s (records_in s new.sites) me knows_now d
         here =
             subst (λ r. IsTrueOf s r me knows_now d) (sym (here_now stands old new w me doer s o result goes_by known permits (locked s) at_sites))
-            (answers_are_true stands c d knew slot s (records_in s old.sites) me o result wanted became.states permits (flat_after s w.run) (length (site_in s old.sites).log)
+            (answers_are_true stands c d knew slot s (records_in s old.sites) me o result wanted became.states permits (flat_after s w.told.run) (length (site_in s old.sites).log)
             (stands_in stands old new w me doer s o result goes_by known permits (locked s) at_sites s) (w.form s) (w.mapped s) living.sound living.know (was_true s) (known s)
             (λ other differ. acts_beside_own stands c knew living.sound living.know (records_in s old.sites) me me slot other s o differ wanted) became.fed)
 
@@ -337,7 +337,7 @@ module _ {R : Type 0} (stands : R → Standing) (old new : WorldView R) (w : IsS
     -- ---- ids that they know as drawn
 
     -- what a request learns by the operation
-    learns_new : actor.Request ≡ acts → (t : SiteId) (image : ℕ) → is_drawn (known_behind (knew slot) (plan_of stands (running_at slot c.session)) (fed.Answer a)).drawn t image ≡ true → HadNoHeader t image w.run
+    learns_new : actor.Request ≡ acts → (t : SiteId) (image : ℕ) → is_drawn (known_behind (knew slot) (plan_of stands (running_at slot c.session)) (fed.Answer a)).drawn t image ≡ true → HadNoHeader t image w.told.run
     learns_new requests t image drawn = by (learned_drawn (knew slot) s t image o a (way_drawn (asks.next a) (learned (knew slot) s o a) t image (subst (λ p. is_drawn (known_behind (knew slot) p (fed.Answer a)).drawn t image ≡ true) plan_is drawn)))
       where
         asks : Wants stands slot c.session.lines s o (held_in slot c.session.slots)
@@ -346,24 +346,24 @@ module _ {R : Type 0} (stands : R → Standing) (old new : WorldView R) (w : IsS
         plan_is : plan_of stands (running_at slot c.session) ≡ Ask s asks.why o asks.next
         plan_is = ap (λ h. plan_of stands (running_in h)) asks.is ∙ asks.plan
 
-        by : (is_drawn (knew slot).drawn t image ≡ true) ⊎ IsNew s o a t image → HadNoHeader t image w.run
+        by : (is_drawn (knew slot).drawn t image ≡ true) ⊎ IsNew s o a t image → HadNoHeader t image w.told.run
         by (inl was) = w.new (InSlot session slot) t image was
         by (inr new) =
-            never_born w.homes w.run w.right t image
-            (subst (λ q. (records_after q w.run).directory.drawn < image) new.here
-            (subst (λ (r : Records). r.directory.drawn < image) (w.records s) (new_is_past (records_in s old.sites) me s t o image new)))
+            never_born w.told.homes w.told.run w.told.right t image
+            (subst (λ q. (records_after q w.told.run).directory.drawn < image) new.here
+            (subst (λ (r : Records). r.directory.drawn < image) (w.told.records s) (new_is_past (records_in s old.sites) me s t o image new)))
 
-    pub new_now : (x : ℕ) (t : SiteId) (image : ℕ) → is_drawn (knows_now x).drawn t image ≡ true → HadNoHeader t image w.run
+    pub new_now : (x : ℕ) (t : SiteId) (image : ℕ) → is_drawn (knows_now x).drawn t image ≡ true → HadNoHeader t image w.told.run
     new_now x t image drawn = by acts refl (x == slot) (subst (λ k. is_drawn k.drawn t image ≡ true) (known_so x acts) drawn)
       where
-        still : is_drawn (knew x).drawn t image ≡ true → HadNoHeader t image w.run
+        still : is_drawn (knew x).drawn t image ≡ true → HadNoHeader t image w.told.run
         still drawn = w.new (InSlot session x) t image drawn
 
-        over : (k : Knowledge) → (is_drawn k.drawn t image ≡ true → HadNoHeader t image w.run) → (ended : Option Reply) → is_drawn (unless_ended ended k).drawn t image ≡ true → HadNoHeader t image w.run
+        over : (k : Knowledge) → (is_drawn k.drawn t image ≡ true → HadNoHeader t image w.told.run) → (ended : Option Reply) → is_drawn (unless_ended ended k).drawn t image ≡ true → HadNoHeader t image w.told.run
         over k goes None drawn = goes drawn
         over k goes (Some reply) drawn = absurd (true≢false (sym drawn))
 
-        by : (m : Actor) → m ≡ acts → (b : Bool) → is_drawn (known_by x m b).drawn t image ≡ true → HadNoHeader t image w.run
+        by : (m : Actor) → m ≡ acts → (b : Bool) → is_drawn (known_by x m b).drawn t image ≡ true → HadNoHeader t image w.told.run
         by actor.Nobody is b = still
         by (actor.Release r) is b = still
         by (actor.Way y) is true = over (knew x) still result

@@ -71,26 +71,26 @@ module _ {R : Type 0} (stands : R → Standing) (old new : WorldView R) (w : IsS
 
   -- ---- the sites
 
-  stood : (t : SiteId) → StandsFor [] (records_after t w.run) (flat_after t w.run)
-  stood = where_standing w.homes w.run w.right
+  stood : (t : SiteId) → StandsFor [] (records_after t w.told.run) (flat_after t w.told.run)
+  stood = where_standing w.told.homes w.told.run w.told.right
 
-  pub stands_in : (t : SiteId) → StandsFor [] (records_in t old.sites) (flat_after t w.run)
-  stands_in t = subst (λ r. StandsFor [] r (flat_after t w.run)) (sym (w.records t)) (stood t)
+  pub stands_in : (t : SiteId) → StandsFor [] (records_in t old.sites) (flat_after t w.told.run)
+  stands_in t = subst (λ r. StandsFor [] r (flat_after t w.told.run)) (sym (w.told.records t)) (stood t)
 
-  pub stands_then : StandFlat (does_it ∷ w.run)
-  stands_then = at_either s (λ t. StandsFor [] (records_after t (does_it ∷ w.run)) (flat_after t (does_it ∷ w.run))) here elsewhere
+  pub stands_then : StandFlat (does_it ∷ w.told.run)
+  stands_then = at_either s (λ t. StandsFor [] (records_after t (does_it ∷ w.told.run)) (flat_after t (does_it ∷ w.told.run))) here elsewhere
     where
-      effected : StandsFor [] (after (records_in s old.sites) who o) (changed_by (flat_after s w.run) operation.effect)
-      effected = has_its_effect s (records_in s old.sites) (flat_after s w.run) k who (length (site_in s old.sites).log) (stands_in s) (w.form s) (w.standalone s) (w.mapped s) (known s) o permits
+      effected : StandsFor [] (after (records_in s old.sites) who o) (changed_by (flat_after s w.told.run) operation.effect)
+      effected = has_its_effect s (records_in s old.sites) (flat_after s w.told.run) k who (length (site_in s old.sites).log) (stands_in s) (w.form s) (w.standalone s) (w.mapped s) (known s) o permits
 
-      here : StandsFor [] (records_after s (does_it ∷ w.run)) (flat_after s (does_it ∷ w.run))
+      here : StandsFor [] (records_after s (does_it ∷ w.told.run)) (flat_after s (does_it ∷ w.told.run))
       here =
-          subst (λ b. StandsFor [] (cond b (after (records_after s w.run) who o) (records_after s w.run)) (cond b (changed_by (flat_after s w.run) operation.effect) (flat_after s w.run))) (sym (same_site_itself s))
-          (subst (λ r. StandsFor [] (after r who o) (changed_by (flat_after s w.run) operation.effect)) (w.records s) effected)
+          subst (λ b. StandsFor [] (cond b (after (records_after s w.told.run) who o) (records_after s w.told.run)) (cond b (changed_by (flat_after s w.told.run) operation.effect) (flat_after s w.told.run))) (sym (same_site_itself s))
+          (subst (λ r. StandsFor [] (after r who o) (changed_by (flat_after s w.told.run) operation.effect)) (w.told.records s) effected)
 
-      elsewhere : (t : SiteId) → same_site s t ≡ false → StandsFor [] (records_after t (does_it ∷ w.run)) (flat_after t (does_it ∷ w.run))
+      elsewhere : (t : SiteId) → same_site s t ≡ false → StandsFor [] (records_after t (does_it ∷ w.told.run)) (flat_after t (does_it ∷ w.told.run))
       elsewhere t differ =
-          subst (λ b. StandsFor [] (cond b (after (records_after t w.run) who o) (records_after t w.run)) (cond b (changed_by (flat_after t w.run) operation.effect) (flat_after t w.run))) (sym differ) (stood t)
+          subst (λ b. StandsFor [] (cond b (after (records_after t w.told.run) who o) (records_after t w.told.run)) (cond b (changed_by (flat_after t w.told.run) operation.effect) (flat_after t w.told.run))) (sym differ) (stood t)
 
   pub whole_then : (t : SiteId) → HasWholeImages (records_in t new.sites)
   whole_then =
@@ -100,7 +100,7 @@ module _ {R : Type 0} (stands : R → Standing) (old new : WorldView R) (w : IsS
       here : HasWholeImages (after (records_in s old.sites) who o)
       here = record {
         standalone = standalone_stays s (records_in s old.sites) k who o (w.standalone s) permits;
-        mapped = mapped_stays s (records_in s old.sites) (flat_after s w.run) k who o (length (site_in s old.sites).log) (stands_in s) (w.form s) (w.mapped s) (known s) permits;
+        mapped = mapped_stays s (records_in s old.sites) (flat_after s w.told.run) k who o (length (site_in s old.sites).log) (stands_in s) (w.form s) (w.mapped s) (known s) permits;
       }
 
   pub can_give : IsGiven o answered
@@ -111,19 +111,19 @@ module _ {R : Type 0} (stands : R → Standing) (old new : WorldView R) (w : IsS
   tells_alone = told_standalone (records_in s old.sites) who (w.standalone s) o can_give
 
   -- it is the one that its site does there
-  pub is_done : ((image : ℕ) → is_drawn k.drawn s image ≡ true → HadNoHeader s image w.run) → RecallsBy by s o k w.run → IsOf by who s o w.run → IsNextOf by who s o w.run → IsDone operation w.run
+  pub is_done : ((image : ℕ) → is_drawn k.drawn s image ≡ true → HadNoHeader s image w.told.run) → RecallsBy by s o k w.told.run → IsOf by who s o w.told.run → IsNextOf by who s o w.told.run → IsDone operation w.told.run
   is_done new recalls whose next = record {
     whose = whose;
     next = next;
-    number = ap (λ ds. length ds + 1) (w.logs s);
-    answer = ap (λ (x : Records). answer_to x who o) (w.records s);
-    effect = ap (λ (x : Records). effect_of x (done.Op o) answered) (w.records s);
+    number = ap (λ ds. length ds + 1) (w.told.logs s);
+    answer = ap (λ (x : Records). answer_to x who o) (w.told.records s);
+    effect = ap (λ (x : Records). effect_of x (done.Op o) answered) (w.told.records s);
     knows = k;
-    truth = subst (λ r. IsTrueAt s r who k) (w.records s) (known s);
+    truth = subst (λ r. IsTrueAt s r who k) (w.told.records s) (known s);
     permits = permits;
     new = new;
     recalls = recalls;
-    owned = subst (λ r. IsOwnedStep r who o answered) (w.records s) (is_owned s (records_in s old.sites) who k (known s) locked o permits);
+    owned = subst (λ r. IsOwnedStep r who o answered) (w.told.records s) (is_owned s (records_in s old.sites) who k (known s) locked o permits);
   }
 
   -- ---- what others know

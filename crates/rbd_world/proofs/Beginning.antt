@@ -27,6 +27,7 @@ use Rattle.rbd_stands.proofs.Nothing.{nothing_stands}
 use Rattle.rbd_world.specs.LetGo.{release_of}
 use Rattle.rbd_world.specs.Owing.{owed_in}
 use Rattle.rbd_world.specs.Run.{Happening}
+use Rattle.rbd_world.specs.Closes.{StandsFirstIf}
 use Rattle.rbd_world.specs.Seats.{seat_of_home}
 use Rattle.rbd_world.specs.Sound.{HasLearnedIf, AreLivesOf, Holder, InSlot, Sending, IsFirst, IsHeldRightly, IsLiving, IsNewWorld, IsRunning, IsSoundWorld, KeepsToItsWay, first_life, held_of, line_at}
 use Rattle.rbd_world.specs.Step.{IsFresh}
@@ -54,6 +55,7 @@ module _ {R : Type 0} (stands : R → Standing) where
         counts = λ s image watched. absurd (true≢false (sym watched ∙ ap (λ (l : LockState). l.watched) (fresh.locks s image)));
         ways = λ slot. subst (λ (s : SlotState). HasWatchedOn s.way c.session.instance run) (sym (fresh.sound.free slot (fresh.slots slot))) tt;
       };
+      first = λ slot. subst (λ o. StandsFirstIf run slot c.session.lines (running_in o)) (sym (fresh.slots slot)) tt;
     }
 
     pub fresh_true : (s : SiteId) (r : Records) (me : Instance) → IsTrueOf s r me (λ slot. nothing_known) c
@@ -124,36 +126,38 @@ module _ {R : Type 0} (stands : R → Standing) where
 
   pub new_world_is_sound : (w : WorldView R) → IsNewWorld stands w → IsSoundWorld stands w
   new_world_is_sound w new = record {
-    run = [];
-    homes = λ session. home_of (lives_in session w.lives);
+    told = record {
+      run = [];
+      homes = λ session. home_of (lives_in session w.lives);
+      calls = new.calls;
+      history = new.history;
+      ids = new.ids;
+      logs = new.sites;
+      records = λ s. ap (after_all no_records) (new.sites s);
+      mail = new.mail;
+      right = λ s. record { stands = nothing_stands; standalone = none_standalone; mapped = none_mapped; form = form_at_first };
+      exact = λ calm s. subst (λ log. IsExactBut (IsOwed (owed_in []) s) (after_all no_records log)) (sym (new.sites s)) (none_exact (IsOwed (owed_in []) s));
+      lives = first_lives w new;
+      order = tt;
+    };
     who = first_of;
     knows = λ h. nothing_known;
-    calls = new.calls;
-    history = new.history;
-    ids = new.ids;
-    logs = new.sites;
-    records = λ s. ap (after_all no_records) (new.sites s);
-    mail = new.mail;
-    right = λ s. record { stands = nothing_stands; standalone = none_standalone; mapped = none_mapped; form = form_at_first };
     form = λ s. subst (λ log. AreInForm (after_all no_records log) (length log)) (sym (new.sites s)) form_at_first;
     standalone = λ s. subst (λ log. AreStandalone (after_all no_records log)) (sym (new.sites s)) none_standalone;
     mapped = λ s. subst (λ log. AreMapped (after_all no_records log)) (sym (new.sites s)) none_mapped;
-    exact = λ calm s. subst (λ log. IsExactBut (IsOwed (owed_in []) s) (after_all no_records log)) (sym (new.sites s)) (none_exact (IsOwed (owed_in []) s));
-    lives = first_lives w new;
     clients = first_living w new;
     in_slots = λ session slot c is. sym (has_first w new session c is).fresh.instance;
     nobody = λ session none slot. refl;
     apart = λ line session slot other there is also. absurd (none-some line (sym (no_line w new session slot) ∙ is));
     slots = λ line begun. absurd (none-some begun.asked begun.is);
     truth = λ session c is s. let has = has_first w new session c is in fresh_true (first_life session) has.lives.home c has.fresh s _ c.session.instance;
+    owns = λ session c is s image. ap (λ (l : LockState). l.owned) ((has_first w new session c is).fresh.locks s image);
     late = none_late w new;
     sending = λ session slot x is. absurd (none-some x (sym (none_late w new session slot) ∙ is));
     unsent = λ session slot none. refl;
     drops = λ session slot there x differ is. absurd (none-some x (sym (none_late w new session slot) ∙ is));
-    takes = λ session slot x is. absurd (none-some x (sym (none_late w new session slot) ∙ is));
     new = λ h s image drawn. tt;
     beside = λ h g strangers s. nothing_is_beside s _ _ _ nothing_known;
-    order = tt;
     in_order = λ session c is.
         let has = has_first w new session c is in
         none_in_order stands (home_of (lives_in session w.lives)) c.session.instance [] c.session (fresh_runs_none (first_life session) has.lives.home c has.fresh);

@@ -39,9 +39,9 @@ use Rattle.rbd_world.specs.Past.{HadNoHeader}
 use Rattle.rbd_world.specs.Run.{Happening, Nothing, Waited, Began, Did, Refused, Trimmed, Expired, Heard, Stopped, Restarted, Sent, IsOfEvent, entries_of, flat_after, lines_at, log_of, mail_of, records_after, records_behind, sent_after}
 use Rattle.rbd_world.specs.Sound.{AreApart, AreInSlots, AreLivesOf, AreStrangers, Holder, InSlot, Sending, IsDue, IsLiving, IsSoundWorld, IsStanding, MayStillCome, known_in}
 use Rattle.rbd_world.specs.Step.{Does, DoesAtSites, begins_of, call_of, come, delivered, done_by, ended_watch, goes_on_by, happening, heard_by, is_begun, mail_then, polled, polled_in, releases, restarted, restarted_of, stopped, submitted}
-use Rattle.rbd_world.specs.Watched.{TakesBehindWatch}
 use Rattle.rbd_world.specs.World.{LivesView, WorldView, client_in, late_at, lives_in, records_in, site_in}
 use Rattle.rbd_world.proofs.Exactly.{IsOwedFor, exact_then}
+use Rattle.rbd_world.proofs.OwningNow.{IsByItsClient, owns_now}
 
 -- each site stands for its flat site
 abbrev pub StandFlat : List Happening → Type 0
@@ -154,7 +154,7 @@ module _ {R : Type 0} (stands : R → Standing) where
   of_event (event.Expire session s image) w sound = expired_of_it session s image (site_in s w.sites) (oldest_of session ((records_in s w.sites).watchers image)) refl
   of_event (event.Stop session) w sound = stopped_of session (client_in session w.lives) (λ client is. (sound.clients session client is).whose)
   of_event (event.Late session slot) w sound = come_of session slot w.sites (late_at session slot w.lives) (λ x is. ((sound.sending session slot x is).1).whose)
-  of_event (event.Restart session) w sound = restarted_of_it session (lives_in session w.lives) (λ l is. (sound.lives session l is).whose)
+  of_event (event.Restart session) w sound = restarted_of_it session (lives_in session w.lives) (λ l is. (sound.told.lives session l is).whose)
   of_event (event.Trim s image object) w sound = by (is_some ((records_in s w.sites).objects image object))
     where
       by : (b : Bool) → IsOfEvent (event.Trim s image object) (cond b (Trimmed s (length (site_in s w.sites).log + 1) image object) Nothing)
@@ -167,28 +167,27 @@ module _ {R : Type 0} (stands : R → Standing) where
   -- ---- what has to be shown
 
   pub record Carries (old new : WorldView R) (w : IsSoundWorld stands old) (h : Happening) (who : Holder → Instance) (knows : Holder → Knowledge) : Type 0 where
-    pub standing : StandFlat (h ∷ w.run)
-    pub due : IsDue w.homes h w.run
+    pub standing : StandFlat (h ∷ w.told.run)
+    pub due : IsDue w.told.homes h w.told.run
     pub whole : (s : SiteId) → HasWholeImages (records_in s new.sites)
-    pub lives : (session : ℕ) (l : LivesView R) → lives_in session new.lives ≡ Some l → AreLivesOf (h ∷ w.run) (w.homes session) session l
-    pub clients : (session : ℕ) (c : ClientView R) → client_in session new.lives ≡ Some c → IsLiving stands (w.homes session) session (h ∷ w.run) (known_in knows session) c
+    pub lives : (session : ℕ) (l : LivesView R) → lives_in session new.lives ≡ Some l → AreLivesOf (h ∷ w.told.run) (w.told.homes session) session l
+    pub clients : (session : ℕ) (c : ClientView R) → client_in session new.lives ≡ Some c → IsLiving stands (w.told.homes session) session (h ∷ w.told.run) (known_in knows session) c
     pub in_slots : (session slot : ℕ) (c : ClientView R) → client_in session new.lives ≡ Some c → who (InSlot session slot) ≡ c.session.instance
     pub nobody : (session : ℕ) → client_in session new.lives ≡ None → (slot : ℕ) → knows (InSlot session slot) ≡ nothing_known
     pub apart : AreApart new.lives
-    pub slots : AreInSlots (h ∷ w.run) new.lives
+    pub slots : AreInSlots (h ∷ w.told.run) new.lives
     pub truth : (session : ℕ) (c : ClientView R) → client_in session new.lives ≡ Some c → (s : SiteId) → IsTrueOf s (records_in s new.sites) c.session.instance (known_in knows session) c
-    pub late : (session slot : ℕ) → late_at session slot new.lives ≡ sent_after session slot (h ∷ w.run)
+    pub late : (session slot : ℕ) → late_at session slot new.lives ≡ sent_after session slot (h ∷ w.told.run)
     pub sending : (session slot : ℕ) (x : Sent) → late_at session slot new.lives ≡ Some x
         → (who (Sending session slot) ≡ x.instance) × MayStillCome session (λ s. records_in s new.sites) x (knows (Sending session slot))
     pub unsent : (session slot : ℕ) → late_at session slot new.lives ≡ None → knows (Sending session slot) ≡ nothing_known
     pub drops : (session slot there : ℕ) (x : Sent) → slot ≢ there → late_at session slot new.lives ≡ Some x → (r : Records)
         → MayAct x.site r (who (Sending session slot)) (who (Sending session there)) (knows (Sending session slot)) (knows (Sending session there)) x.op
-    pub takes : (session slot : ℕ) (x : Sent) → late_at session slot new.lives ≡ Some x → TakesBehindWatch x.instance x.site x.op (h ∷ w.run)
-    pub none_yet : (g : Holder) (s : SiteId) (image : ℕ) → is_drawn (knows g).drawn s image ≡ true → HadNoHeader s image w.run
+    pub none_yet : (g : Holder) (s : SiteId) (image : ℕ) → is_drawn (knows g).drawn s image ≡ true → HadNoHeader s image w.told.run
     pub beside : (h g : Holder) → AreStrangers h g → (s : SiteId) → AreBeside s (records_in s new.sites) (who h) (who g) (knows h) (knows g)
-    pub owes : IsOwedFor h w.run
-    pub turn : IsInTurn h w.run
-    pub in_order : (session : ℕ) (c : ClientView R) → client_in session new.lives ≡ Some c → IsInOrder stands (w.homes session) c.session.instance (h ∷ w.run) c.session
+    pub owes : IsOwedFor h w.told.run
+    pub turn : IsInTurn h w.told.run
+    pub in_order : (session : ℕ) (c : ClientView R) → client_in session new.lives ≡ Some c → IsInOrder stands (w.told.homes session) c.session.instance (h ∷ w.told.run) c.session
 
   -- it keeps what has to be shown, by what is known then
   pub record IsCarried (old new : WorldView R) (w : IsSoundWorld stands old) (h : Happening) : Type 0 where
@@ -196,84 +195,86 @@ module _ {R : Type 0} (stands : R → Standing) where
     pub knows : Holder → Knowledge
     pub carries : Carries old new w h who knows
 
-  mail_goes : (h : Happening) (old : WorldView R) (w : IsSoundWorld stands old) → mail_then h old.sites ≡ mail_of (h ∷ w.run)
+  mail_goes : (h : Happening) (old : WorldView R) (w : IsSoundWorld stands old) → mail_then h old.sites ≡ mail_of (h ∷ w.told.run)
   mail_goes (Did o reply) old w =
-      ap (λ s. mail_after s (records_in o.site old.sites) o.instance o.op old.sites.mail) (w.ids o.site)
-      ∙ ap (λ r. mail_after o.site r o.instance o.op old.sites.mail) (w.records o.site)
-      ∙ ap (mail_after o.site (records_after o.site w.run) o.instance o.op) w.mail
-  mail_goes Nothing old w = w.mail
-  mail_goes Waited old w = w.mail
-  mail_goes (Began asked slot) old w = w.mail
-  mail_goes (Refused s line reply) old w = w.mail
-  mail_goes (Trimmed s number image object) old w = w.mail
-  mail_goes (Expired s number image who) old w = w.mail
-  mail_goes (Heard notice) old w = w.mail
-  mail_goes (Stopped who wanted lost) old w = w.mail
-  mail_goes (Restarted who) old w = w.mail
+      ap (λ s. mail_after s (records_in o.site old.sites) o.instance o.op old.sites.mail) (w.told.ids o.site)
+      ∙ ap (λ r. mail_after o.site r o.instance o.op old.sites.mail) (w.told.records o.site)
+      ∙ ap (mail_after o.site (records_after o.site w.told.run) o.instance o.op) w.told.mail
+  mail_goes Nothing old w = w.told.mail
+  mail_goes Waited old w = w.told.mail
+  mail_goes (Began asked slot) old w = w.told.mail
+  mail_goes (Refused s line reply) old w = w.told.mail
+  mail_goes (Trimmed s number image object) old w = w.told.mail
+  mail_goes (Expired s number image who) old w = w.told.mail
+  mail_goes (Heard notice) old w = w.told.mail
+  mail_goes (Stopped who wanted lost) old w = w.told.mail
+  mail_goes (Restarted who) old w = w.told.mail
 
-  pub carried : (e : Event) (h : Happening) (old new : WorldView R) (w : IsSoundWorld stands old) → IsOfEvent e h
+  pub carried : (e : Event) (h : Happening) (old new : WorldView R) (w : IsSoundWorld stands old) → IsOfEvent e h → IsByItsClient old e h
       → Does stands e h old new → DoesAtSites h old.sites new.sites → IsCarried old new w h → IsSoundWorld stands new
-  carried e h old new w is_of does at_sites is_carried =
+  carried e h old new w is_of by_client does at_sites is_carried =
       let carries : Carries old new w h is_carried.who is_carried.knows = is_carried.carries in
       record {
-        run = h ∷ w.run;
-        homes = w.homes;
+        told = record {
+          run = h ∷ w.told.run;
+          homes = w.told.homes;
+          calls = (old.calls, record { last = call_of e h; are = does.calls; is = record { event = is_of; outcome = refl } }, w.told.calls);
+          history = does.history ∙ ap (λ es. es ++ entries_of h) w.told.history;
+          ids = λ s. ap (λ (l : SiteLog). l.id) (does.sites s) ∙ w.told.ids s;
+          logs = logs_now;
+          records = records_now;
+          mail = does.mail ∙ mail_goes h old w;
+          right = (λ s. standing_now carries.standing carries.whole s, carries.due, w.told.right);
+          exact = exact_then stands old new w h at_sites carries.due carries.owes;
+          lives = carries.lives;
+          order = (carries.turn, w.told.order);
+        };
         who = is_carried.who;
         knows = is_carried.knows;
-        calls = (old.calls, record { last = call_of e h; are = does.calls; is = record { event = is_of; outcome = refl } }, w.calls);
-        history = does.history ∙ ap (λ es. es ++ entries_of h) w.history;
-        ids = λ s. ap (λ (l : SiteLog). l.id) (does.sites s) ∙ w.ids s;
-        logs = logs_now;
-        records = records_now;
-        mail = does.mail ∙ mail_goes h old w;
-        right = (λ s. standing_now carries.standing carries.whole s, carries.due, w.right);
         form = λ s. at_sites.form s (w.form s);
         standalone = λ s. (carries.whole s).standalone;
         mapped = λ s. (carries.whole s).mapped;
-        exact = exact_then stands old new w h at_sites carries.due carries.owes;
-        lives = carries.lives;
         clients = carries.clients;
         in_slots = carries.in_slots;
         nobody = carries.nobody;
         apart = carries.apart;
         slots = carries.slots;
         truth = carries.truth;
+        owns = λ m d is. owns_now stands old new w e h is_of by_client carries.due does m d is (carries.clients m d is).whose;
         late = carries.late;
         sending = carries.sending;
         unsent = carries.unsent;
         drops = carries.drops;
-        takes = carries.takes;
         new = λ g s image drawn. (none_now g s image drawn, carries.none_yet g s image drawn);
         beside = carries.beside;
-        order = (carries.turn, w.order);
         in_order = carries.in_order;
       }
     where
-      logs_now : (s : SiteId) → (site_in s new.sites).log ≡ log_of s (h ∷ w.run)
-      logs_now s = ap (λ (l : SiteLog). l.log) (does.sites s) ∙ ap (λ ds. ds ++ lines_at s h) (w.logs s)
+      logs_now : (s : SiteId) → (site_in s new.sites).log ≡ log_of s (h ∷ w.told.run)
+      logs_now s = ap (λ (l : SiteLog). l.log) (does.sites s) ∙ ap (λ ds. ds ++ lines_at s h) (w.told.logs s)
 
-      records_now : (s : SiteId) → records_in s new.sites ≡ records_after s (h ∷ w.run)
-      records_now s = at_sites.records s ∙ ap (λ r. records_behind s r h) (w.records s)
+      records_now : (s : SiteId) → records_in s new.sites ≡ records_after s (h ∷ w.told.run)
+      records_now s = at_sites.records s ∙ ap (λ r. records_behind s r h) (w.told.records s)
 
       -- nobody drew an id that has a header
-      none_now : (g : Holder) (s : SiteId) (image : ℕ) → is_drawn (is_carried.knows g).drawn s image ≡ true → (records_after s (h ∷ w.run)).headers image ≡ None
+      none_now : (g : Holder) (s : SiteId) (image : ℕ) → is_drawn (is_carried.knows g).drawn s image ≡ true → (records_after s (h ∷ w.told.run)).headers image ≡ None
       none_now (InSlot m x) s image drawn = by (client_in m new.lives) refl
         where
-          by : (o : Option (ClientView R)) → client_in m new.lives ≡ o → (records_after s (h ∷ w.run)).headers image ≡ None
+          by : (o : Option (ClientView R)) → client_in m new.lives ≡ o → (records_after s (h ∷ w.told.run)).headers image ≡ None
           by None is = absurd (true≢false (sym drawn ∙ ap (λ (k : Knowledge). is_drawn k.drawn s image) (is_carried.carries.nobody m is x)))
           by (Some c) is = ap (λ (r : Records). r.headers image) (sym (records_now s)) ∙ (((is_carried.carries.truth m c is s).requests x).drawn image drawn).header
       none_now (Sending m x) s image drawn = by (late_at m x new.lives) refl
         where
-          by : (o : Option Sent) → late_at m x new.lives ≡ o → (records_after s (h ∷ w.run)).headers image ≡ None
+          by : (o : Option Sent) → late_at m x new.lives ≡ o → (records_after s (h ∷ w.told.run)).headers image ≡ None
           by None is = absurd (true≢false (sym drawn ∙ ap (λ (k : Knowledge). is_drawn k.drawn s image) (is_carried.carries.unsent m x is)))
           by (Some y) is = ap (λ (r : Records). r.headers image) (sym (records_now s)) ∙ (((is_carried.carries.sending m x y is).1.truth s).drawn image drawn).header
 
-      standing_now : StandFlat (h ∷ w.run) → ((s : SiteId) → HasWholeImages (records_in s new.sites)) → (s : SiteId) → IsStanding s (h ∷ w.run)
+      standing_now : StandFlat (h ∷ w.told.run) → ((s : SiteId) → HasWholeImages (records_in s new.sites)) → (s : SiteId) → IsStanding s (h ∷ w.told.run)
       standing_now standing whole s = record {
         stands = standing s;
         standalone = subst AreStandalone (records_now s) (whole s).standalone;
         mapped = subst AreMapped (records_now s) (whole s).mapped;
         form =
-            subst (λ ds. AreInForm (records_after s (h ∷ w.run)) (length ds)) (logs_now s)
+            subst (λ ds. AreInForm (records_after s (h ∷ w.told.run)) (length ds)) (logs_now s)
             (subst (λ r. AreInForm r (length (site_in s new.sites).log)) (records_now s) (at_sites.form s (w.form s)));
       }

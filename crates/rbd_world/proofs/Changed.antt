@@ -13,7 +13,9 @@ use Rattle.rbd_machine.specs.Plan.{Standing}
 use Rattle.rbd_session.specs.declared.running.Occupant.{Occupant}
 use Rattle.rbd_session.specs.declared.running.Occupant.TheVariants as occupant
 use Rattle.rbd_session.specs.Session.{SessionView, held_in, running_at, running_in, script_line}
+use Rattle.rbd_session.specs.Lines.{lines_of}
 use Rattle.rbd_world.specs.declared.event.Event.{Event}
+use Rattle.rbd_world.specs.Closes.{StandsFirst, StandsFirstIf}
 use Rattle.rbd_world.specs.LetGo.{moves_house, release_of}
 use Rattle.rbd_world.specs.Run.{Happening, Life, Sent, life_after, life_behind, sent_behind}
 use Rattle.rbd_world.specs.Seats.{seat_at, seat_of_home}
@@ -24,7 +26,8 @@ use Rattle.rbd_world.specs.Watched.{CountsItsWatches}
 use Rattle.rbd_world.specs.World.{LateView, LivesView, WorldView, client_in, late_at, late_of, lives_in, running_of, sent_in, session_of}
 use Rattle.rbd_world.proofs.LetGo.{still_releases}
 use Rattle.rbd_world.proofs.Quiet.{IsQuiet, held_on, learned_on}
-use Rattle.rbd_world.proofs.Watching.{counts_on}
+use Rattle.rbd_world.proofs.StaysFirst.{first_on}
+use Rattle.rbd_world.proofs.Watching.{EndsNone, counts_on}
 use Rattle.rbd_world.proofs.Ways.{ways_on}
 
 -- ---- this slot, or another one
@@ -194,23 +197,23 @@ module _ {R : Type 0} (old new : WorldView R) (session : ℕ) (c d : ClientView 
   -- ---- lives
 
   module _ (stands : R → Standing) (w : IsSoundWorld stands old) (h : Happening) (lifeless : IsLifeless h) where
-    pub lives_go_on : d.session.instance ≡ c.session.instance → (m : ℕ) (l : LivesView R) → lives_in m new.lives ≡ Some l → AreLivesOf (h ∷ w.run) (w.homes m) m l
+    pub lives_go_on : d.session.instance ≡ c.session.instance → (m : ℕ) (l : LivesView R) → lives_in m new.lives ≡ Some l → AreLivesOf (h ∷ w.told.run) (w.told.homes m) m l
     lives_go_on instance m l is = by (same_or_other m session)
       where
-        on : (m : ℕ) (l : LivesView R) → AreLivesOf w.run (w.homes m) m l → AreLivesOf (h ∷ w.run) (w.homes m) m l
+        on : (m : ℕ) (l : LivesView R) → AreLivesOf w.told.run (w.told.homes m) m l → AreLivesOf (h ∷ w.told.run) (w.told.homes m) m l
         on m l a = record {
           home_is = a.home_is;
           whose = a.whose;
-          life = lifeless m (life_after m w.run) ∙ a.life;
+          life = lifeless m (life_after m w.told.run) ∙ a.life;
           latest = a.latest;
           most = a.most;
           older = a.older;
         }
 
-        mine : AreLivesOf w.run (w.homes session) session goes.before
-        mine = w.lives session goes.before goes.was
+        mine : AreLivesOf w.told.run (w.told.homes session) session goes.before
+        mine = w.told.lives session goes.before goes.was
 
-        there : AreLivesOf w.run (w.homes session) session goes.behind
+        there : AreLivesOf w.told.run (w.told.homes session) session goes.behind
         there = record {
           home_is = goes.home ∙ mine.home_is;
           whose = ap (λ (i : Instance). i.session) goes.latest ∙ mine.whose;
@@ -223,11 +226,11 @@ module _ {R : Type 0} (old new : WorldView R) (session : ℕ) (c d : ClientView 
           older = λ v late q runs. subst (λ (i : Instance). v.instance.life < i.life) (sym goes.latest) (mine.older v (sym goes.late ∙ late) c goes.ran);
         }
 
-        by : (m ≡ session) ⊎ (m ≢ session) → AreLivesOf (h ∷ w.run) (w.homes m) m l
-        by (inr differ) = on m l (w.lives m l (sym (goes.others m differ) ∙ is))
+        by : (m ≡ session) ⊎ (m ≢ session) → AreLivesOf (h ∷ w.told.run) (w.told.homes m) m l
+        by (inr differ) = on m l (w.told.lives m l (sym (goes.others m differ) ∙ is))
         by (inl same) =
-            subst (λ i. AreLivesOf (h ∷ w.run) (w.homes i) i l) (sym same)
-            (subst (AreLivesOf (h ∷ w.run) (w.homes session) session) (same_Some goes.behind l (sym goes.is ∙ ap (λ i. lives_in i new.lives) (sym same) ∙ is)) (on session goes.behind there))
+            subst (λ i. AreLivesOf (h ∷ w.told.run) (w.told.homes i) i l) (sym same)
+            (subst (AreLivesOf (h ∷ w.told.run) (w.told.homes session) session) (same_Some goes.behind l (sym goes.is ∙ ap (λ i. lives_in i new.lives) (sym same) ∙ is)) (on session goes.behind there))
 
 -- ---- what is held is open
 
@@ -237,12 +240,12 @@ module _ {R : Type 0} (stands : R → Standing) where
   held_open seat who run (Some (occupant.Refused number refusal)) line is held = subst (λ l. IsOpen l run) (same_Some number line is) held.begun
   held_open seat who run (Some (occupant.Running r)) line is held = subst (λ l. IsOpen l run) (same_Some r.line line is) held.begun
 
-  pub open_there : (old : WorldView R) (w : IsSoundWorld stands old) (m x line : ℕ) → line_at m x old.lives ≡ Some line → IsOpen line w.run
+  pub open_there : (old : WorldView R) (w : IsSoundWorld stands old) (m x line : ℕ) → line_at m x old.lives ≡ Some line → IsOpen line w.told.run
   open_there old w m x line = by (client_in m old.lives) refl
     where
-      by : (o : Option (ClientView R)) → client_in m old.lives ≡ o → script_line (held_of x (session_of o)) ≡ Some line → IsOpen line w.run
+      by : (o : Option (ClientView R)) → client_in m old.lives ≡ o → script_line (held_of x (session_of o)) ≡ Some line → IsOpen line w.told.run
       by None there is = absurd (none-some line is)
-      by (Some c) there is = let living = w.clients m c there in held_open (seat_at w.homes m) c.session.instance w.run (held_in x c.session.slots) line is (living.held x)
+      by (Some c) there is = let living = w.clients m c there in held_open (seat_at w.told.homes m) c.session.instance w.told.run (held_in x c.session.slots) line is (living.held x)
 
   -- ---- a client that goes on
 
@@ -260,7 +263,7 @@ module _ {R : Type 0} (stands : R → Standing) where
   module _ (home : SiteId) (session : ℕ) (h : Happening) (run : List Happening) (lifeless : IsLifeless h) where
     -- one for which it is nothing
     pub living_on : (knows : (x : ℕ) → Knowledge) (c : ClientView R) → ((x line : ℕ) → script_line (held_in x c.session.slots) ≡ Some line → IsQuiet line h)
-        → moves_house c.session.instance h ≡ false → IsLiving stands home session run knows c → IsLiving stands home session (h ∷ run) knows c
+        → (moves_house c.session.instance h ≡ false) × EndsNone c.session.instance h → IsLiving stands home session run knows c → IsLiving stands home session (h ∷ run) knows c
     living_on knows c quiet still living = record {
       whose = living.whose;
       runs = running_on c.session.instance h run lifeless living.runs;
@@ -270,8 +273,9 @@ module _ {R : Type 0} (stands : R → Standing) where
       held = λ x. held_on stands (seat_of_home session home) c.session.instance h run (held_in x c.session.slots) (quiet x) (living.held x);
       ways = λ x. ways_on stands h run (state_in x c.slots).way (held_in x c.session.slots) (quiet x) (living.ways x);
       learned = λ x. learned_on stands (seat_of_home session home) c.session.instance h run (held_in x c.session.slots) (knows x) (quiet x) (living.learned x);
-      releases = living.releases ∙ sym (still_releases c.session.instance h run still);
-      watches = counts_on c.session.instance h run c living.watches;
+      releases = living.releases ∙ sym (still_releases c.session.instance h run still.0);
+      watches = counts_on c.session.instance h run c still.1 living.watches;
+      first = λ x. first_on h run x c.session.lines c.session.lines (held_in x c.session.slots) (quiet x) (λ s image first. first) (living.first x);
     }
 
     -- one of which a slot changed
@@ -281,8 +285,10 @@ module _ {R : Type 0} (stands : R → Standing) where
         → IsSoundClient stands d → AllKnow stands knows' d.session → IsHeldRightly stands (seat_of_home session home) c.session.instance (h ∷ run) (held_in slot d.session.slots)
         → KeepsToItsWay stands (h ∷ run) (state_in slot d.slots).way (running_at slot d.session)
         → ((x : ℕ) → x ≢ slot → knows' x ≡ knows x) → HasLearnedIf stands (h ∷ run) (running_at slot d.session) (knows' slot) → d.release ≡ release_of c.session.instance (h ∷ run)
-        → CountsItsWatches c.session.instance (h ∷ run) d → IsLiving stands home session (h ∷ run) knows' d
-    living_of knows knows' slot c d living slots states client quiet sound know own keeps others learns release watches = record {
+        → CountsItsWatches c.session.instance (h ∷ run) d → StandsFirstIf (h ∷ run) slot d.session.lines (running_at slot d.session)
+        → ((x : ℕ) → x ≢ slot → (s : SiteId) (image : ℕ) → StandsFirst x (lines_of c.session.lines s image) → StandsFirst x (lines_of d.session.lines s image))
+        → IsLiving stands home session (h ∷ run) knows' d
+    living_of knows knows' slot c d living slots states client quiet sound know own keeps others learns release watches first stay_first = record {
       whose = ap (λ (i : Instance). i.session) client.instance ∙ living.whose;
       runs = subst (λ i. IsRunning i (h ∷ run)) (sym client.instance) (running_on c.session.instance h run lifeless living.runs);
       at_home = client.home ∙ living.at_home;
@@ -293,8 +299,15 @@ module _ {R : Type 0} (stands : R → Standing) where
       learned = λ x. learned_by x (same_or_other x slot);
       releases = release ∙ ap (λ i. release_of i (h ∷ run)) (sym client.instance);
       watches = subst (λ i. CountsItsWatches i (h ∷ run) d) (sym client.instance) watches;
+      first = λ x. first_by x (same_or_other x slot);
     }
       where
+        first_by : (x : ℕ) → (x ≡ slot) ⊎ (x ≢ slot) → StandsFirstIf (h ∷ run) x d.session.lines (running_at x d.session)
+        first_by x (inl here) = subst (λ i. StandsFirstIf (h ∷ run) i d.session.lines (running_at i d.session)) (sym here) first
+        first_by x (inr differ) =
+            subst (λ o. StandsFirstIf (h ∷ run) x d.session.lines (running_in o)) (sym (slots x differ))
+            (first_on h run x c.session.lines d.session.lines (held_in x c.session.slots) (λ line is. quiet x line differ is) (stay_first x differ) (living.first x))
+
         learned_by : (x : ℕ) → (x ≡ slot) ⊎ (x ≢ slot) → HasLearnedIf stands (h ∷ run) (running_at x d.session) (knows' x)
         learned_by x (inl here) = subst (λ i. HasLearnedIf stands (h ∷ run) (running_at i d.session) (knows' i)) (sym here) learns
         learned_by x (inr differ) =

@@ -44,7 +44,7 @@ use Rattle.rbd_world.proofs.Debts.{none_sent}
 use Rattle.rbd_world.proofs.Elsewhere.{IsAs, Same, Silent, beside_still, unknown_looks, new_still}
 use Rattle.rbd_world.proofs.OrderedWorld.{no_turn, order_on}
 use Rattle.rbd_world.proofs.Quiet.{IsQuiet, quiet_did}
-use Rattle.rbd_world.proofs.Watching.{takes_on}
+use Rattle.rbd_world.proofs.Watching.{EndsNone, others_end_none}
 use Rattle.rbd_world.proofs.Slots.{open_back, same_slots}
 
 -- ---- slots that are let go
@@ -107,7 +107,7 @@ module _ {R : Type 0} (stands : R → Standing) (old : WorldView R) (w : IsSound
           let has = late_there session slot old.lives x sent in
           let runs = lives_there session old.lives q (ap (λ i. client_in i old.lives) (sym here) ∙ is) in
           let one : runs.lives_are ≡ has.lives_are = same_Some runs.lives_are has.lives_are (sym runs.there ∙ has.there) in
-          let lives : AreLivesOf w.run (w.homes session) session has.lives_are = w.lives session has.lives_are has.there in
+          let lives : AreLivesOf w.told.run (w.told.homes session) session has.lives_are = w.told.lives session has.lives_are has.there in
           let ran : has.lives_are.running ≡ Some q = ap (λ (l : LivesView R). l.running) (sym one) ∙ runs.runs in
           let less : has.late.instance.life < has.lives_are.latest.life = lives.older has.late has.is q ran in
           let mine : has.late.instance ≡ has.lives_are.latest = has.instance ∙ same ∙ lives.latest q ran in
@@ -211,11 +211,11 @@ module _ {R : Type 0} (stands : R → Standing) (old new : WorldView R) (w : IsS
   quiet : (line : ℕ) → IsQuiet line h
   quiet line = quiet_did line (operation_at (site_in x.site old.sites) x.instance (AfterStop slot) x.site x.op) None refl
 
-  due : IsDone (operation_at (site_in x.site old.sites) x.instance (AfterStop slot) x.site x.op) w.run
+  due : IsDone (operation_at (site_in x.site old.sites) x.instance (AfterStop slot) x.site x.op) w.told.run
   due =
       is_done stands old new w x.instance (AfterStop slot) x.site x.op None goes_by known permits locked at_sites
       (λ image drawn. w.new (Sending session slot) x.site image (less_drawn x.op k x.site image drawn)) tt
-      (ap (λ i. sent_after i slot w.run) may.whose ∙ sym (w.late session slot) ∙ sent) (w.takes session slot x sent)
+      (ap (λ i. sent_after i slot w.told.run) may.whose ∙ sym (w.late session slot) ∙ sent) tt
 
   -- ---- who is where
 
@@ -246,16 +246,16 @@ module _ {R : Type 0} (stands : R → Standing) (old new : WorldView R) (w : IsS
           subst (λ i. late_at i y new.lives ≡ late_at i y old.lives) (sym same)
           (ap (λ o. sent_in y (late_of o)) goes.is ∙ ap (sent_in y) goes.late ∙ sent_set_other slot y l.late differ ∙ sym (ap (λ o. sent_in y (late_of o)) there))
 
-  lives_now : (m : ℕ) (v : LivesView R) → lives_in m new.lives ≡ Some v → AreLivesOf (h ∷ w.run) (w.homes m) m v
+  lives_now : (m : ℕ) (v : LivesView R) → lives_in m new.lives ≡ Some v → AreLivesOf (h ∷ w.told.run) (w.told.homes m) m v
   lives_now m v is = by (same_or_other m session)
     where
-      mine : AreLivesOf w.run (w.homes session) session l
-      mine = w.lives session l there
+      mine : AreLivesOf w.told.run (w.told.homes session) session l
+      mine = w.told.lives session l there
 
-      on : AreLivesOf w.run (w.homes m) m v → AreLivesOf (h ∷ w.run) (w.homes m) m v
+      on : AreLivesOf w.told.run (w.told.homes m) m v → AreLivesOf (h ∷ w.told.run) (w.told.homes m) m v
       on a = record { home_is = a.home_is; whose = a.whose; life = a.life; latest = a.latest; most = a.most; older = a.older }
 
-      here : AreLivesOf (h ∷ w.run) (w.homes session) session goes.behind
+      here : AreLivesOf (h ∷ w.told.run) (w.told.homes session) session goes.behind
       here = record {
         home_is = goes.home ∙ mine.home_is;
         whose = ap (λ (i : Instance). i.session) goes.latest ∙ mine.whose;
@@ -271,11 +271,16 @@ module _ {R : Type 0} (stands : R → Standing) (old new : WorldView R) (w : IsS
             (without_is slot l.late u (sym goes.late ∙ late) (λ (i : Instance). i.life < l.latest.life) (λ z at. mine.older z at q (sym goes.runs ∙ runs)));
       }
 
-      by : (m ≡ session) ⊎ (m ≢ session) → AreLivesOf (h ∷ w.run) (w.homes m) m v
-      by (inr differ) = on (w.lives m v (sym (others m differ) ∙ is))
+      by : (m ≡ session) ⊎ (m ≢ session) → AreLivesOf (h ∷ w.told.run) (w.told.homes m) m v
+      by (inr differ) = on (w.told.lives m v (sym (others m differ) ∙ is))
       by (inl same) =
-          subst (λ i. AreLivesOf (h ∷ w.run) (w.homes i) i v) (sym same)
-          (subst (AreLivesOf (h ∷ w.run) (w.homes session) session) (same_Some goes.behind v (sym goes.is ∙ ap (λ i. lives_in i new.lives) (sym same) ∙ is)) here)
+          subst (λ i. AreLivesOf (h ∷ w.told.run) (w.told.homes i) i v) (sym same)
+          (subst (AreLivesOf (h ∷ w.told.run) (w.told.homes session) session) (same_Some goes.behind v (sym goes.is ∙ ap (λ i. lives_in i new.lives) (sym same) ∙ is)) here)
+
+  -- it ends no watch of a life that runs
+  ends_none : (m : ℕ) (q : ClientView R) → client_in m old.lives ≡ Some q → EndsNone q.session.instance h
+  ends_none m q is s image =
+      others_end_none q.session.instance (operation_at (site_in x.site old.sites) x.instance (AfterStop slot) x.site x.op) None s image (sent_by_another stands old w session slot x sent m q is)
 
   -- ---- what is known then
 
@@ -410,7 +415,7 @@ module _ {R : Type 0} (stands : R → Standing) (old new : WorldView R) (w : IsS
       by (inr elsewhere) before =
           subst (λ q. MayAct z.site r (w.who (Sending m y)) (w.who (Sending m at)) (w.knows (Sending m y)) q z.op) (sym (knows_there m at elsewhere)) (w.drops m y at z differ before r)
 
-  late_now : (m y : ℕ) → late_at m y new.lives ≡ sent_after m y (h ∷ w.run)
+  late_now : (m y : ℕ) → late_at m y new.lives ≡ sent_after m y (h ∷ w.told.run)
   late_now m y = by (here_or_elsewhere session slot m y)
     where
       -- it comes from here
@@ -420,12 +425,12 @@ module _ {R : Type 0} (stands : R → Standing) (old new : WorldView R) (w : IsS
           flipped : (session == m && slot == y) ≡ (m == session && y == slot)
           flipped = ap (λ c. c && slot == y) (eqb_flip session m) ∙ ap (λ c. m == session && c) (eqb_flip slot y)
 
-      by : ((m ≡ session) × (y ≡ slot)) ⊎ IsElsewhere session slot m y → late_at m y new.lives ≡ sent_after m y (h ∷ w.run)
+      by : ((m ≡ session) × (y ≡ slot)) ⊎ IsElsewhere session slot m y → late_at m y new.lives ≡ sent_after m y (h ∷ w.told.run)
       by (inl (one, two)) =
           ap (λ i. late_at i y new.lives) one ∙ ap (λ i. late_at session i new.lives) two ∙ late_here
-          ∙ sym (ap (λ b. cond b None (sent_after m y w.run)) (from true (it_is m y one two)))
+          ∙ sym (ap (λ b. cond b None (sent_after m y w.told.run)) (from true (it_is m y one two)))
       by (inr apart) =
-          late_elsewhere m y apart ∙ w.late m y ∙ sym (ap (λ b. cond b None (sent_after m y w.run)) (from false (it_isnt m y apart)))
+          late_elsewhere m y apart ∙ w.late m y ∙ sym (ap (λ b. cond b None (sent_after m y w.told.run)) (from false (it_isnt m y apart)))
 
   -- ---- all of it
 
@@ -438,24 +443,23 @@ module _ {R : Type 0} (stands : R → Standing) (old new : WorldView R) (w : IsS
       due = (due, tt);
       whole = whole_then stands old new w x.instance (AfterStop slot) x.site x.op None goes_by known permits locked at_sites;
       lives = lives_now;
-      clients = λ m q is. living_on stands (w.homes m) m h w.run (λ n life. refl) (known_in w.knows m) q (λ y line at. quiet line) refl (w.clients m q (was m q is));
+      clients = λ m q is. living_on stands (w.told.homes m) m h w.told.run (λ n life. refl) (known_in w.knows m) q (λ y line at. quiet line) (refl, ends_none m q (was m q is)) (w.clients m q (was m q is));
       in_slots = λ m y q is. w.in_slots m y q (was m q is);
       nobody = λ m is y. w.nobody m (sym (client_same m) ∙ is) y;
       apart = λ line m y other there one two. w.apart line m y other there (sym (line_same m y) ∙ one) (sym (line_same other there) ∙ two);
-      slots = λ line begun. same_slots old.lives new.lives line_same line (w.slots line (open_back line h w.run (quiet line) begun));
+      slots = λ line begun. same_slots old.lives new.lives line_same line (w.slots line (open_back line h w.told.run (quiet line) begun));
       truth = λ m q is s. truth_now m q (was m q is) s;
       late = late_now;
       sending = sending_now;
       unsent = unsent_now;
       drops = drops_now;
-      takes = λ m y z is. takes_on z.instance z.site z.op h w.run (w.takes m y z (sym (late_elsewhere m y (elsewhere m y z is)) ∙ is));
       beside = beside_still w.who w.who w.knows knows_then (λ s. records_in s new.sites)
           (λ a g apart s.
           beside_then stands old new w x.instance (AfterStop slot) x.site x.op None goes_by known permits locked at_sites (w.who a) (w.who g) (w.knows a) (w.knows g) (w.beside a g apart) s)
           each_is;
-      none_yet = new_still w.who w.who w.knows knows_then (λ s image. HadNoHeader s image w.run) w.new each_is;
-      owes = λ calm. absurd (none-some x (sym (none_sent session slot w.run calm.1) ∙ sym (w.late session slot) ∙ sent));
-      turn = no_turn (operation_at (site_in x.site old.sites) x.instance (AfterStop slot) x.site x.op) None w.run (λ line. refl);
+      none_yet = new_still w.who w.who w.knows knows_then (λ s image. HadNoHeader s image w.told.run) w.new each_is;
+      owes = λ calm. absurd (none-some x (sym (none_sent session slot w.told.run calm.1) ∙ sym (w.late session slot) ∙ sent));
+      turn = no_turn (operation_at (site_in x.site old.sites) x.instance (AfterStop slot) x.site x.op) None w.told.run (λ line. refl);
       in_order = λ m q is. order_on stands old new w h (due, tt) m q (was m q is) (λ y line at. quiet line) (λ other writer. refl);
     };
   }

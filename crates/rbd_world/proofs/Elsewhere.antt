@@ -24,14 +24,15 @@ use Rattle.rbd_world.specs.Sound.{AreLivesOf, AreStrangers, Holder, InSlot, IsLi
 use Rattle.rbd_world.specs.World.{LivesView}
 use Rattle.rbd_world.proofs.LetGo.{still_releases}
 use Rattle.rbd_world.proofs.Quiet.{IsQuiet, held_on, learned_on}
-use Rattle.rbd_world.proofs.Watching.{counts_on}
+use Rattle.rbd_world.proofs.StaysFirst.{first_on}
+use Rattle.rbd_world.proofs.Watching.{EndsNone, counts_on}
 use Rattle.rbd_world.proofs.Ways.{ways_on}
 
 -- ---- lives
 
 module _ {R : Type 0} (stands : R → Standing) (home : SiteId) (session : ℕ) (h : Happening) (run : List Happening) (still : (l : Life) → life_behind session h l ≡ l) where
   pub living_still : (knows : (x : ℕ) → Knowledge) (c : ClientView R) → ((x line : ℕ) → script_line (held_in x c.session.slots) ≡ Some line → IsQuiet line h)
-      → moves_house c.session.instance h ≡ false → IsLiving stands home session run knows c → IsLiving stands home session (h ∷ run) knows c
+      → (moves_house c.session.instance h ≡ false) × EndsNone c.session.instance h → IsLiving stands home session run knows c → IsLiving stands home session (h ∷ run) knows c
   living_still knows c quiet unmoved living = record {
     whose = living.whose;
     runs =
@@ -43,8 +44,9 @@ module _ {R : Type 0} (stands : R → Standing) (home : SiteId) (session : ℕ) 
     held = λ x. held_on stands (seat_of_home session home) c.session.instance h run (held_in x c.session.slots) (quiet x) (living.held x);
     ways = λ x. ways_on stands h run (state_in x c.slots).way (held_in x c.session.slots) (quiet x) (living.ways x);
     learned = λ x. learned_on stands (seat_of_home session home) c.session.instance h run (held_in x c.session.slots) (knows x) (quiet x) (living.learned x);
-    releases = living.releases ∙ sym (still_releases c.session.instance h run unmoved);
-    watches = counts_on c.session.instance h run c living.watches;
+    releases = living.releases ∙ sym (still_releases c.session.instance h run unmoved.0);
+    watches = counts_on c.session.instance h run c unmoved.1 living.watches;
+    first = λ x. first_on h run x c.session.lines c.session.lines (held_in x c.session.slots) (quiet x) (λ s image first. first) (living.first x);
   }
 
   pub lives_still : (l : LivesView R) → AreLivesOf run home session l → AreLivesOf (h ∷ run) home session l

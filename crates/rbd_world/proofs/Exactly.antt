@@ -45,22 +45,22 @@ IsOwedFor h run = Unit {0}
 
 module _ {R : Type 0} (stands : R → Standing) (old new : WorldView R) (w : IsSoundWorld stands old) where
   -- an operation, at its site and at the other
-  module _ (o : Operation) (reply : Option Reply) (at_sites : DoesAtSites (Did o reply) old.sites new.sites) (done : IsDone o w.run) (calm : IsUnhindered w.run) (owes : OwesAsItGoes o reply w.run) where
+  module _ (o : Operation) (reply : Option Reply) (at_sites : DoesAtSites (Did o reply) old.sites new.sites) (done : IsDone o w.told.run) (calm : IsUnhindered w.told.run) (owes : OwesAsItGoes o reply w.told.run) where
     here_now : records_in o.site new.sites ≡ after (records_in o.site old.sites) o.instance o.op
     here_now = at_sites.records o.site ∙ ap (λ b. cond b (after (records_in o.site old.sites) o.instance o.op) (records_in o.site old.sites)) (same_site_itself o.site)
 
     abbrev now : SiteId → (image number state : ℕ) → Type 0
-    now t = IsOwed (owed_in (Did o reply ∷ w.run)) t
+    now t = IsOwed (owed_in (Did o reply ∷ w.told.run)) t
 
     abbrev was : SiteId → (image number state : ℕ) → Type 0
-    was t = IsOwed (owed_in w.run) t
+    was t = IsOwed (owed_in w.told.run) t
 
     goes : GoesWith (records_in o.site old.sites).headers o.op (was o.site) (now o.site)
     goes = record {
       made = λ image number is. paid (owes.made o.site image number is);
       lowered = λ image number is. paid (owes.lowered o.site image number is);
       new = owes.new;
-      gone = λ image number h removes is. owes.gone image number h removes (ap (λ (r : Records). r.headers image) (sym (w.records o.site)) ∙ is);
+      gone = λ image number h removes is. owes.gone image number h removes (ap (λ (r : Records). r.headers image) (sym (w.told.records o.site)) ∙ is);
       free = owes.free;
     }
       where
@@ -71,11 +71,11 @@ module _ {R : Type 0} (stands : R → Standing) (old new : WorldView R) (w : IsS
     exact_here : IsExactBut (now o.site) (records_in o.site new.sites)
     exact_here =
         subst (IsExactBut (now o.site)) (sym here_now)
-        (exact_stays o.site (records_in o.site old.sites) (flat_after o.site w.run) done.knows o.instance o.op (length (site_in o.site old.sites).log) (was o.site) (now o.site)
-        (subst (λ r. StandsFor [] r (flat_after o.site w.run)) (sym (w.records o.site)) (standing_at w.homes w.run w.right o.site).stands)
-        (w.form o.site) (w.mapped o.site) (subst (λ r. IsTrueAt o.site r o.instance done.knows) (sym (w.records o.site)) done.truth) done.permits
-        (ap (λ r. is_fenced r o.instance) (w.records o.site) ∙ none_fenced w.homes w.run w.right calm o.site o.instance)
-        goes (w.exact calm o.site))
+        (exact_stays o.site (records_in o.site old.sites) (flat_after o.site w.told.run) done.knows o.instance o.op (length (site_in o.site old.sites).log) (was o.site) (now o.site)
+        (subst (λ r. StandsFor [] r (flat_after o.site w.told.run)) (sym (w.told.records o.site)) (standing_at w.told.homes w.told.run w.told.right o.site).stands)
+        (w.form o.site) (w.mapped o.site) (subst (λ r. IsTrueAt o.site r o.instance done.knows) (sym (w.told.records o.site)) done.truth) done.permits
+        (ap (λ r. is_fenced r o.instance) (w.told.records o.site) ∙ none_fenced w.told.homes w.told.run w.told.right calm o.site o.instance)
+        goes (w.told.exact calm o.site))
 
     exact_elsewhere : (t : SiteId) → same_site o.site t ≡ false → IsExactBut (now t) (records_in t new.sites)
     exact_elsewhere t differ =
@@ -84,7 +84,7 @@ module _ {R : Type 0} (stands : R → Standing) (old new : WorldView R) (w : IsS
         (record {
           images = λ image h is.
               exact_more (was t image) (now t image) h ((records_in t old.sites).maps image) (object_at (records_in t old.sites) image)
-              (λ number. record { made = λ is. more (owes.made t image number is); lowered = λ is. more (owes.lowered t image number is) }) ((w.exact calm t).images image h is);
+              (λ number. record { made = λ is. more (owes.made t image number is); lowered = λ is. more (owes.lowered t image number is) }) ((w.told.exact calm t).images image h is);
         })
       where
         more : {A B : Type 0} → A ⊎ ((same_site o.site t ≡ true) × B) → A
@@ -99,37 +99,37 @@ module _ {R : Type 0} (stands : R → Standing) (old new : WorldView R) (w : IsS
         by (inr differ) = exact_elsewhere t differ
 
   -- the others leave what is owed
-  same_owed : (h : Happening) → ((line : ℕ) → steps_in line h ≡ []) → (s : SiteId) (image number state : ℕ) → IsOwed (owed_in w.run) s image number state
-      → IsOwed (owed_in (h ∷ w.run)) s image number state
-  same_owed h none s image number state is = record { who = is.who; due = is.due; owes = no_steps_owe is.who h w.run (none is.who) ∙ is.owes; is = is.is }
+  same_owed : (h : Happening) → ((line : ℕ) → steps_in line h ≡ []) → (s : SiteId) (image number state : ℕ) → IsOwed (owed_in w.told.run) s image number state
+      → IsOwed (owed_in (h ∷ w.told.run)) s image number state
+  same_owed h none s image number state is = record { who = is.who; due = is.due; owes = no_steps_owe is.who h w.told.run (none is.who) ∙ is.owes; is = is.is }
 
-  exact_then_too : (h : Happening) → ((line : ℕ) → steps_in line h ≡ []) → (s : SiteId) (r : Records) → IsExactBut (IsOwed (owed_in w.run) s) r → IsExactBut (IsOwed (owed_in (h ∷ w.run)) s) r
+  exact_then_too : (h : Happening) → ((line : ℕ) → steps_in line h ≡ []) → (s : SiteId) (r : Records) → IsExactBut (IsOwed (owed_in w.told.run) s) r → IsExactBut (IsOwed (owed_in (h ∷ w.told.run)) s) r
   exact_then_too h none s r exact = record {
     images = λ image at is.
-        exact_more (IsOwed (owed_in w.run) s image) (IsOwed (owed_in (h ∷ w.run)) s image) at (r.maps image) (object_at r image)
+        exact_more (IsOwed (owed_in w.told.run) s image) (IsOwed (owed_in (h ∷ w.told.run)) s image) at (r.maps image) (object_at r image)
         (λ number. record { made = same_owed h none s image number 1; lowered = same_owed h none s image number 2 }) (exact.images image at is);
   }
 
-  trimmed_exact : (s : SiteId) (b : Bool) (image object : ℕ) → IsExactBut (IsOwed (owed_in w.run) s) (records_in s old.sites)
-      → IsExactBut (IsOwed (owed_in w.run) s) (cond b (trimmed image object (records_in s old.sites)) (records_in s old.sites))
-  trimmed_exact s true image object exact = exact_trimmed (records_in s old.sites) image object (IsOwed (owed_in w.run) s) exact
+  trimmed_exact : (s : SiteId) (b : Bool) (image object : ℕ) → IsExactBut (IsOwed (owed_in w.told.run) s) (records_in s old.sites)
+      → IsExactBut (IsOwed (owed_in w.told.run) s) (cond b (trimmed image object (records_in s old.sites)) (records_in s old.sites))
+  trimmed_exact s true image object exact = exact_trimmed (records_in s old.sites) image object (IsOwed (owed_in w.told.run) s) exact
   trimmed_exact s false image object exact = exact
 
-  expired_exact : (s : SiteId) (b : Bool) (image : ℕ) (who : Instance) → IsExactBut (IsOwed (owed_in w.run) s) (records_in s old.sites)
-      → IsExactBut (IsOwed (owed_in w.run) s) (cond b (expired image who (records_in s old.sites)) (records_in s old.sites))
-  expired_exact s true image who exact = exact_expired (records_in s old.sites) image who (IsOwed (owed_in w.run) s) exact
+  expired_exact : (s : SiteId) (b : Bool) (image : ℕ) (who : Instance) → IsExactBut (IsOwed (owed_in w.told.run) s) (records_in s old.sites)
+      → IsExactBut (IsOwed (owed_in w.told.run) s) (cond b (expired image who (records_in s old.sites)) (records_in s old.sites))
+  expired_exact s true image who exact = exact_expired (records_in s old.sites) image who (IsOwed (owed_in w.told.run) s) exact
   expired_exact s false image who exact = exact
 
-  pub exact_then : (h : Happening) → DoesAtSites h old.sites new.sites → IsDue w.homes h w.run → IsOwedFor h w.run → IsUnhindered (h ∷ w.run)
-      → (s : SiteId) → IsExactBut (IsOwed (owed_in (h ∷ w.run)) s) (records_in s new.sites)
-  exact_then (Did o reply) at_sites due owed calm s = exact_did o reply at_sites (done_of w.homes o reply w.run due) calm.1 (owed calm) s
+  pub exact_then : (h : Happening) → DoesAtSites h old.sites new.sites → IsDue w.told.homes h w.told.run → IsOwedFor h w.told.run → IsUnhindered (h ∷ w.told.run)
+      → (s : SiteId) → IsExactBut (IsOwed (owed_in (h ∷ w.told.run)) s) (records_in s new.sites)
+  exact_then (Did o reply) at_sites due owed calm s = exact_did o reply at_sites (done_of w.told.homes o reply w.told.run due) calm.1 (owed calm) s
   exact_then (Trimmed site number image object) at_sites due owed calm s =
       let h : Happening = Trimmed site number image object in
       exact_then_too h (λ line. refl) s (records_in s new.sites)
-      (subst (IsExactBut (IsOwed (owed_in w.run) s)) (sym (at_sites.records s)) (trimmed_exact s (same_site site s) image object (w.exact calm.1 s)))
+      (subst (IsExactBut (IsOwed (owed_in w.told.run) s)) (sym (at_sites.records s)) (trimmed_exact s (same_site site s) image object (w.told.exact calm.1 s)))
   exact_then (Expired site number image who) at_sites due owed calm s =
       let h : Happening = Expired site number image who in
       exact_then_too h (λ line. refl) s (records_in s new.sites)
-      (subst (IsExactBut (IsOwed (owed_in w.run) s)) (sym (at_sites.records s)) (expired_exact s (same_site site s) image who (w.exact calm.1 s)))
+      (subst (IsExactBut (IsOwed (owed_in w.told.run) s)) (sym (at_sites.records s)) (expired_exact s (same_site site s) image who (w.told.exact calm.1 s)))
   exact_then (Stopped who wanted lost) at_sites due owed calm s = absurd (true≢false calm.0)
-  exact_then h at_sites due owed calm s = exact_then_too h (λ line. refl) s (records_in s new.sites) (subst (IsExactBut (IsOwed (owed_in w.run) s)) (sym (at_sites.records s)) (w.exact calm.1 s))
+  exact_then h at_sites due owed calm s = exact_then_too h (λ line. refl) s (records_in s new.sites) (subst (IsExactBut (IsOwed (owed_in w.told.run) s)) (sym (at_sites.records s)) (w.told.exact calm.1 s))

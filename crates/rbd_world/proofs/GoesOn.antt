@@ -21,7 +21,7 @@ use Rattle.rbd_world.proofs.Changed.{GoesOnAs, IsLifeless, SendsNothing, client_
 use Rattle.rbd_world.proofs.Exactly.{IsOwedFor}
 use Rattle.rbd_world.proofs.OrderedWorld.{orders_of}
 use Rattle.rbd_world.proofs.Quiet.{IsQuiet}
-use Rattle.rbd_world.proofs.Watching.{takes_on}
+use Rattle.rbd_world.proofs.Watching.{EndsNone}
 
 module _ {R : Type 0} (stands : R → Standing) (old new : WorldView R) (w : IsSoundWorld stands old) (h : Happening) (session : ℕ) (c d : ClientView R) (goes : GoesOnAs old new session c d)
     (there : client_in session old.lives ≡ Some c) (instance : d.session.instance ≡ c.session.instance) (lifeless : IsLifeless h) (sends : SendsNothing h) (knows_now : ℕ → Knowledge) where
@@ -82,18 +82,18 @@ module _ {R : Type 0} (stands : R → Standing) (old new : WorldView R) (w : IsS
 
     -- ---- all of it
 
-    pub goes_carries : StandFlat (h ∷ w.run) → (due : IsDue w.homes h w.run) → ((s : SiteId) → HasWholeImages (records_in s new.sites))
-        → IsLiving stands (w.homes session) session (h ∷ w.run) knows_now d
+    pub goes_carries : StandFlat (h ∷ w.told.run) → (due : IsDue w.told.homes h w.told.run) → ((s : SiteId) → HasWholeImages (records_in s new.sites))
+        → IsLiving stands (w.told.homes session) session (h ∷ w.told.run) knows_now d
         → ((m : ℕ) (q : ClientView R) → m ≢ session → client_in m old.lives ≡ Some q → (x line : ℕ) → script_line (held_in x q.session.slots) ≡ Some line → IsQuiet line h)
-        → AreApart new.lives → AreInSlots (h ∷ w.run) new.lives
+        → AreApart new.lives → AreInSlots (h ∷ w.told.run) new.lives
         → ((s : SiteId) → IsTrueOf s (records_in s new.sites) d.session.instance knows_now d)
         → ((m : ℕ) (q : ClientView R) → m ≢ session → client_in m old.lives ≡ Some q → (s : SiteId) → IsTrueOf s (records_in s new.sites) q.session.instance (known_in w.knows m) q)
         → ((m x : ℕ) (y : Sent) → late_at m x old.lives ≡ Some y → MayStillCome m (λ s. records_in s new.sites) y (w.knows (Sending m x)))
-        → IsOwedFor h w.run → IsInTurn h w.run
-        → ((m : ℕ) (q : ClientView R) → m ≢ session → client_in m old.lives ≡ Some q → (other : ℕ) → IsWriterOf q.session.instance other (h ∷ w.run) → steps_in other h ≡ [])
-        → IsInOrder stands (w.homes session) d.session.instance (h ∷ w.run) d.session
-        → ((x : ℕ) (s : SiteId) (image : ℕ) → is_drawn (knows_now x).drawn s image ≡ true → HadNoHeader s image w.run)
-        → ((m : ℕ) (q : ClientView R) → m ≢ session → client_in m old.lives ≡ Some q → moves_house q.session.instance h ≡ false)
+        → IsOwedFor h w.told.run → IsInTurn h w.told.run
+        → ((m : ℕ) (q : ClientView R) → m ≢ session → client_in m old.lives ≡ Some q → (other : ℕ) → IsWriterOf q.session.instance other (h ∷ w.told.run) → steps_in other h ≡ [])
+        → IsInOrder stands (w.told.homes session) d.session.instance (h ∷ w.told.run) d.session
+        → ((x : ℕ) (s : SiteId) (image : ℕ) → is_drawn (knows_now x).drawn s image ≡ true → HadNoHeader s image w.told.run)
+        → ((m : ℕ) (q : ClientView R) → m ≢ session → client_in m old.lives ≡ Some q → (moves_house q.session.instance h ≡ false) × EndsNone q.session.instance h)
         → IsCarried stands old new w h
     goes_carries standing due whole living quiet apart slots truth others sending owes turn foreign order none_yet unmoved = record {
       who = w.who;
@@ -109,21 +109,20 @@ module _ {R : Type 0} (stands : R → Standing) (old new : WorldView R) (w : IsS
         apart = apart;
         slots = slots;
         truth = λ m q is s. truth_by m q is s (same_or_other m session);
-        late = λ m x. late_same m x ∙ w.late m x ∙ sym (sends m x (sent_after m x w.run));
+        late = λ m x. late_same m x ∙ w.late m x ∙ sym (sends m x (sent_after m x w.told.run));
         sending = λ m x y is. let before = sym (late_same m x) ∙ is in ((w.sending m x y before).0, sending m x y before);
         unsent = λ m x none. w.unsent m x (sym (late_same m x) ∙ none);
         drops = λ m x z y differ is. w.drops m x z y differ (sym (late_same m x) ∙ is);
-        takes = λ m x y is. takes_on y.instance y.site y.op h w.run (w.takes m x y (sym (late_same m x) ∙ is));
         none_yet = λ g s image. new_by g s image (whose g);
         beside = beside_then;
         owes = owes;
         turn = turn;
         in_order = orders_of stands old new w h due session (clients_stay old new session c d goes) quiet foreign
-            (λ q is. subst (λ (v : ClientView R). IsInOrder stands (w.homes session) v.session.instance (h ∷ w.run) v.session) (same_Some d q (sym here ∙ is)) order);
+            (λ q is. subst (λ (v : ClientView R). IsInOrder stands (w.told.homes session) v.session.instance (h ∷ w.told.run) v.session) (same_Some d q (sym here ∙ is)) order);
       };
     }
       where
-        new_by : (g : Holder) (s : SiteId) (image : ℕ) → Whose g → is_drawn (knows_then g).drawn s image ≡ true → HadNoHeader s image w.run
+        new_by : (g : Holder) (s : SiteId) (image : ℕ) → Whose g → is_drawn (knows_then g).drawn s image ≡ true → HadNoHeader s image w.told.run
         new_by g s image (Mine x one) drawn =
             none_yet x s image (ap (λ (k : Knowledge). is_drawn k.drawn s image) (sym (mine_knows x) ∙ ap knows_then (sym one)) ∙ drawn)
         new_by g s image (Others strange same) drawn = w.new g s image (ap (λ (k : Knowledge). is_drawn k.drawn s image) (sym same) ∙ drawn)
@@ -140,15 +139,15 @@ module _ {R : Type 0} (stands : R → Standing) (old new : WorldView R) (w : IsS
         mine : (m : ℕ) (q : ClientView R) → client_in m new.lives ≡ Some q → m ≡ session → d ≡ q
         mine m q is same = same_Some d q (sym here ∙ ap (λ i. client_in i new.lives) (sym same) ∙ is)
 
-        client_by : (m : ℕ) (q : ClientView R) → client_in m new.lives ≡ Some q → (m ≡ session) ⊎ (m ≢ session) → IsLiving stands (w.homes m) m (h ∷ w.run) (known_in knows_then m) q
+        client_by : (m : ℕ) (q : ClientView R) → client_in m new.lives ≡ Some q → (m ≡ session) ⊎ (m ≢ session) → IsLiving stands (w.told.homes m) m (h ∷ w.told.run) (known_in knows_then m) q
         client_by m q is (inl same) =
-            subst (λ i. IsLiving stands (w.homes i) i (h ∷ w.run) (known_in knows_then i) q) (sym same)
-            (subst (λ k. IsLiving stands (w.homes session) session (h ∷ w.run) k q) (sym known_here)
-            (subst (IsLiving stands (w.homes session) session (h ∷ w.run) knows_now) (mine m q is same) living))
+            subst (λ i. IsLiving stands (w.told.homes i) i (h ∷ w.told.run) (known_in knows_then i) q) (sym same)
+            (subst (λ k. IsLiving stands (w.told.homes session) session (h ∷ w.told.run) k q) (sym known_here)
+            (subst (IsLiving stands (w.told.homes session) session (h ∷ w.told.run) knows_now) (mine m q is same) living))
         client_by m q is (inr differ) =
             let before = was m q differ is in
-            subst (λ k. IsLiving stands (w.homes m) m (h ∷ w.run) k q) (sym (known_there m differ))
-            (living_on stands (w.homes m) m h w.run lifeless (known_in w.knows m) q (quiet m q differ before) (unmoved m q differ before) (w.clients m q before))
+            subst (λ k. IsLiving stands (w.told.homes m) m (h ∷ w.told.run) k q) (sym (known_there m differ))
+            (living_on stands (w.told.homes m) m h w.told.run lifeless (known_in w.knows m) q (quiet m q differ before) (unmoved m q differ before) (w.clients m q before))
 
         slot_by : (m x : ℕ) (q : ClientView R) → client_in m new.lives ≡ Some q → (m ≡ session) ⊎ (m ≢ session) → w.who (InSlot m x) ≡ q.session.instance
         slot_by m x q is (inl same) =

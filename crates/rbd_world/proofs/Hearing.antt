@@ -33,6 +33,7 @@ use Rattle.rbd_world.proofs.Quiet.{quiet_heard}
 use Rattle.rbd_world.proofs.Rest.{StaysTrue, same_true, still_may_come, where_standing}
 use Rattle.rbd_world.proofs.Slots.{open_back, same_slots}
 use Rattle.rbd_world.proofs.Watching.{counts_alike, heard_watches}
+use Rattle.rbd_world.specs.Closes.{StandsFirstIf}
 
 module _ {R : Type 0} (stands : R → Standing) (old new : WorldView R) (w : IsSoundWorld stands old) (notice : Notice) (c d : ClientView R) (there : client_in notice.to.session old.lives ≡ Some c)
     (goes : GoesOnAs old new notice.to.session c d) (hears : Hears stands notice c d) (at_sites : DoesAtSites (Heard notice) old.sites new.sites) where
@@ -50,10 +51,10 @@ module _ {R : Type 0} (stands : R → Standing) (old new : WorldView R) (w : IsS
 
   -- ---- it is due
 
-  delivered : (number : ℕ) → numbered number old.sites.mail ≡ Some notice → same_instance c.session.instance notice.to ≡ true → IsDelivered notice w.run
+  delivered : (number : ℕ) → numbered number old.sites.mail ≡ Some notice → same_instance c.session.instance notice.to ≡ true → IsDelivered notice w.told.run
   delivered number is same = record {
-    posted = ap (λ n. numbered n (mail_of w.run)) (numbered_is number old.sites.mail notice is) ∙ ap (numbered number) (sym w.mail) ∙ is;
-    runs = subst (λ i. IsRunning i w.run) (same_instance_is c.session.instance notice.to same) (w.clients session c there).runs;
+    posted = ap (λ n. numbered n (mail_of w.told.run)) (numbered_is number old.sites.mail notice is) ∙ ap (numbered number) (sym w.told.mail) ∙ is;
+    runs = subst (λ i. IsRunning i w.told.run) (same_instance_is c.session.instance notice.to same) (w.clients session c there).runs;
   }
 
   -- ---- its requests stay
@@ -68,27 +69,28 @@ module _ {R : Type 0} (stands : R → Standing) (old new : WorldView R) (w : IsS
           (line_is old new session c d goes x ∙ ap (λ (v : SessionView R). script_line (held_in x v.slots)) hears.session
           ∙ sym (ap (λ o. script_line (held_of x (session_of o))) (client_was old new session c d goes)))
 
-  living_now : IsSoundClient stands d → IsLiving stands (w.homes session) session (Heard notice ∷ w.run) knew d
+  living_now : IsSoundClient stands d → IsLiving stands (w.told.homes session) session (Heard notice ∷ w.told.run) knew d
   living_now sound = record {
     whose = ap (λ (i : Instance). i.session) same_who ∙ still.whose;
-    runs = subst (λ i. IsRunning i (Heard notice ∷ w.run)) (sym same_who) still.runs;
+    runs = subst (λ i. IsRunning i (Heard notice ∷ w.told.run)) (sym same_who) still.runs;
     at_home = ap (λ (v : SessionView R). v.home) hears.session ∙ still.at_home;
     sound = sound;
     know = subst (AllKnow stands knew) (sym hears.session) still.know;
-    held = subst (λ (v : SessionView R). (x : ℕ) → IsHeldRightly stands (seat_at w.homes session) v.instance (Heard notice ∷ w.run) (held_in x v.slots)) (sym hears.session) still.held;
+    held = subst (λ (v : SessionView R). (x : ℕ) → IsHeldRightly stands (seat_at w.told.homes session) v.instance (Heard notice ∷ w.told.run) (held_in x v.slots)) (sym hears.session) still.held;
     ways = λ x.
-        subst (λ ss. KeepsToItsWay stands (Heard notice ∷ w.run) (state_in x ss).way (running_at x d.session)) (sym hears.slots)
-        (subst (λ (v : SessionView R). KeepsToItsWay stands (Heard notice ∷ w.run) (state_in x c.slots).way (running_at x v)) (sym hears.session) (still.ways x));
-    learned = λ x. subst (λ (v : SessionView R). HasLearnedIf stands (Heard notice ∷ w.run) (running_at x v) (knew x)) (sym hears.session) (still.learned x);
-    releases = hears.release ∙ still.releases ∙ ap (λ i. release_of i (Heard notice ∷ w.run)) (sym same_who);
+        subst (λ ss. KeepsToItsWay stands (Heard notice ∷ w.told.run) (state_in x ss).way (running_at x d.session)) (sym hears.slots)
+        (subst (λ (v : SessionView R). KeepsToItsWay stands (Heard notice ∷ w.told.run) (state_in x c.slots).way (running_at x v)) (sym hears.session) (still.ways x));
+    learned = λ x. subst (λ (v : SessionView R). HasLearnedIf stands (Heard notice ∷ w.told.run) (running_at x v) (knew x)) (sym hears.session) (still.learned x);
+    releases = hears.release ∙ still.releases ∙ ap (λ i. release_of i (Heard notice ∷ w.told.run)) (sym same_who);
     watches =
-        subst (λ i. CountsItsWatches i (Heard notice ∷ w.run) d) (sym same_who)
-        (counts_alike c.session.instance (Heard notice ∷ w.run) c d
+        subst (λ i. CountsItsWatches i (Heard notice ∷ w.told.run) d) (sym same_who)
+        (counts_alike c.session.instance (Heard notice ∷ w.told.run) c d
         (λ s image. ap (λ (l : LockState). l.watched) (hears.locks s image) ∙ heard_watches notice s image (state_at s image c.locks)) hears.slots still.watches);
+    first = λ x. subst (λ (v : SessionView R). StandsFirstIf (Heard notice ∷ w.told.run) x v.lines (running_at x v)) (sym hears.session) (still.first x);
   }
     where
-      still : IsLiving stands (w.homes session) session (Heard notice ∷ w.run) knew c
-      still = living_on stands (w.homes session) session (Heard notice) w.run (λ m l. refl) knew c (λ x line at. quiet_heard line notice) refl (w.clients session c there)
+      still : IsLiving stands (w.told.homes session) session (Heard notice ∷ w.told.run) knew c
+      still = living_on stands (w.told.homes session) session (Heard notice) w.told.run (λ m l. refl) knew c (λ x line at. quiet_heard line notice) (refl, λ s image. refl) (w.clients session c there)
 
   truth_now : (s : SiteId) → IsTrueOf s (records_in s new.sites) d.session.instance knew d
   truth_now s =
@@ -101,17 +103,17 @@ module _ {R : Type 0} (stands : R → Standing) (old new : WorldView R) (w : IsS
       (stays s).beside c.session.instance (w.who g) (knew x) (w.knows g)
       (subst (λ i. AreBeside s (records_in s old.sites) i (w.who g) (knew x) (w.knows g)) (w.in_slots session x c there) (w.beside (InSlot session x) g apart s))
 
-  hearing_keeps : IsDelivered notice w.run → IsSoundClient stands d → IsCarried stands old new w (Heard notice)
+  hearing_keeps : IsDelivered notice w.told.run → IsSoundClient stands d → IsCarried stands old new w (Heard notice)
   hearing_keeps due sound =
       goes_carries stands old new w (Heard notice) session c d goes there same_who (λ m l. refl) (λ m x o. refl) knew beside_now
       (λ a g apart s. (stays s).beside (w.who a) (w.who g) (w.knows a) (w.knows g) (w.beside a g apart s))
-      (where_standing w.homes w.run w.right) due (λ s. (stays s).whole (whole_in stands old w s)) (living_now sound) (λ m q differ is x line at. quiet_heard line notice)
+      (where_standing w.told.homes w.told.run w.told.right) due (λ s. (stays s).whole (whole_in stands old w s)) (living_now sound) (λ m q differ is x line at. quiet_heard line notice)
       (λ line m x other y one two. w.apart line m x other y (sym (line_same m x) ∙ one) (sym (line_same other y) ∙ two))
-      (λ line begun. same_slots old.lives new.lives line_same line (w.slots line (open_back line (Heard notice) w.run (quiet_heard line notice) begun)))
+      (λ line begun. same_slots old.lives new.lives line_same line (w.slots line (open_back line (Heard notice) w.told.run (quiet_heard line notice) begun)))
       truth_now (λ m q differ is s. (stays s).clients q.session.instance (known_in w.knows m) q (w.truth m q is s))
       (λ m x y is. still_may_come stands old new w (λ s. records_in s new.sites) stays m y _ (w.sending m x y is).1) tt tt (λ m q differ is other writer. refl)
       (still_in_order stands old new w (Heard notice) due session c d there hears.session (λ line before. refl) (λ other writer. refl))
-      (λ x t image drawn. w.new (InSlot session x) t image drawn) (λ m q differ is. refl)
+      (λ x t image drawn. w.new (InSlot session x) t image drawn) (λ m q differ is. (refl, λ s image. refl))
 
 module _ {R : Type 0} (stands : R → Standing) where
   pub heard_keeps : (old new : WorldView R) (w : IsSoundWorld stands old) (number : ℕ) (notice : Notice) (c : ClientView R) → numbered number old.sites.mail ≡ Some notice

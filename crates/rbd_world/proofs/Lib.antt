@@ -8,6 +8,7 @@ pub mod Beginning
 pub mod BothSites
 pub mod Carried
 pub mod Changed
+pub mod Closing
 pub mod Coming
 pub mod Debts
 pub mod Elsewhere
@@ -22,7 +23,9 @@ pub mod InLine
 pub mod InOrder
 pub mod KeptAhead
 pub mod Latest
+pub mod LeftWanted
 pub mod LetGo
+pub mod LetsGoFirst
 pub mod Lost
 pub mod LostLines
 pub mod Newcomer
@@ -36,6 +39,9 @@ pub mod OrderedWorld
 pub mod Orderly
 pub mod Owes
 pub mod Owned
+pub mod OwnersCount
+pub mod OwningNow
+pub mod OwnersKeep
 pub mod OwnersWatch
 pub mod Parts
 pub mod Polling
@@ -46,7 +52,9 @@ pub mod Releasing
 pub mod Rest
 pub mod Restarting
 pub mod Runs
+pub mod Sent
 pub mod Slots
+pub mod StaysFirst
 pub mod Stepping
 pub mod StillWatching
 pub mod Steps
@@ -59,9 +67,13 @@ pub mod Told
 pub mod Turned
 pub mod Unborn
 pub mod Undone
+pub mod Unowned
 pub mod Walks
 pub mod Wanted
 pub mod Watching
 pub mod Ways
 pub mod WaysOfLines
 pub mod WritesFirst
+pub mod SeenLives
+pub mod SeenParts
+pub mod SeenWorld

@@ -39,7 +39,7 @@ use Rattle.rbd_world.specs.Sound.{IsDue, IsHeldRightly, IsInSlot, IsLiving, IsOp
 use Rattle.rbd_world.specs.Step.{Does, DoesAtSites, Goes, IsSoundIf, next_number, operation_at, reply_at}
 use Rattle.rbd_world.specs.Ways.{GoesWith}
 use Rattle.rbd_world.specs.World.{WorldView, client_in, records_in, session_of, site_in}
-use Rattle.rbd_world.proofs.Acting.{alone, all_know, beside_now, beside_of_others, can, done_so, knows_now, sending_now, standing, truth_now, truth_of_others, whole, new_now, others_know}
+use Rattle.rbd_world.proofs.Acting.{alone, all_know, beside_now, beside_of_others, can, done_so, knows_now, permits, sending_now, standing, truth_now, truth_of_others, whole, new_now, others_know}
 use Rattle.rbd_world.proofs.Answered.{answer_due, answer_held, answer_line, went_on, answer_learned}
 use Rattle.rbd_world.proofs.Carried.{IsCarried}
 use Rattle.rbd_world.proofs.Changed.{GoesOnAs, apart_of, client_is, has_become, line_apart, living_of}
@@ -50,8 +50,19 @@ use Rattle.rbd_world.proofs.OrderedWorld.{running_line}
 use Rattle.rbd_world.proofs.Owes.{own_owes}
 use Rattle.rbd_world.proofs.Quiet.{IsQuiet, quiet_did}
 use Rattle.rbd_world.proofs.Slots.{in_this_slot, not_open, open_back, other_slots}
-use Rattle.rbd_world.proofs.Watching.{counts_fed}
+use Rattle.rbd_world.proofs.Closing.{first_behind, ways_spared}
+use Rattle.rbd_world.proofs.StaysFirst.{drops_first, feeding_may, stands_still}
+use Rattle.rbd_world.proofs.Unowned.{lets_go_image, lets_go_there}
+use Rattle.rbd_world.proofs.Watching.{counts_fed, ends_own_is, others_end_none}
 use Rattle.rbd_world.proofs.Ways.{goes_on_itself, way_is_over}
+use Rattle.rbd_world.specs.Closes.{StandsFirst, StandsFirstIf, has_let_go, lets_go}
+use Rattle.rbd_session.specs.Lines.{lines_of}
+use Rattle.rbd_client.specs.declared.slot_state.Way.TheVariants as way_of_slot
+use Rattle.rbd_owner.specs.declared.acquire.Acquire.{Acquire}
+use Rattle.rbd_owner.specs.Steps.{lock_drop}
+use Rattle.rbd_machine.specs.Permits.{Permits}
+use Rattle.rbd_kinds.proofs.Images.{same_site_is}
+use Rattle.rbd_world.specs.Watched.{unwatches_by}
 
 module _ {R : Type 0} (stands : R → Standing) (old new : WorldView R) (w : IsSoundWorld stands old) (session slot : ℕ) (c : ClientView R) (there : client_in session old.lives ≡ Some c)
     (r : Running R) (holds : held_in slot c.session.slots ≡ Some (occupant.Running r)) (acts : actor_at stands slot c ≡ actor.Request) (goes : waits slot (track_of r c.session.lines) ≡ false)
@@ -60,7 +71,7 @@ module _ {R : Type 0} (stands : R → Standing) (old new : WorldView R) (w : IsS
   me = c.session.instance
 
   abbrev home : SiteId
-  home = w.homes session
+  home = w.told.homes session
 
   abbrev a : Answer
   a = answer_to (records_in s old.sites) me o
@@ -79,28 +90,28 @@ module _ {R : Type 0} (stands : R → Standing) (old new : WorldView R) (w : IsS
       ap (op_by stands slot c.session) acts ∙ ap (λ h. of_going stands op_asked (going_in slot h c.session.lines)) holds
       ∙ ap (λ b. of_going stands op_asked (cond b None (Some r))) goes ∙ ap op_asked asks
 
-  living : IsLiving stands home session w.run (known_in w.knows session) c
+  living : IsLiving stands home session w.told.run (known_in w.knows session) c
   living = w.clients session c there
 
   runs : running_at slot c.session ≡ Some r
   runs = ap running_in holds
 
-  way : IsUnderWay stands (seat_at w.homes session) me w.run r
-  way = subst (IsHeldRightly stands (seat_at w.homes session) me w.run) holds (living.held slot)
+  way : IsUnderWay stands (seat_at w.told.homes session) me w.told.run r
+  way = subst (IsHeldRightly stands (seat_at w.told.homes session) me w.told.run) holds (living.held slot)
 
   -- its way goes with its slot's state
-  keeps : GoesWith (stands r.request).plan (state_in slot c.slots).way (way_of r.line w.run)
-  keeps = subst (KeepsToItsWay stands w.run (state_in slot c.slots).way) runs (living.ways slot)
+  keeps : GoesWith (stands r.request).plan (state_in slot c.slots).way (way_of r.line w.told.run)
+  keeps = subst (KeepsToItsWay stands w.told.run (state_in slot c.slots).way) runs (living.ways slot)
 
   -- its line is the instance's
-  is_mine : (asked : Asked) → asked_by r.line w.run ≡ Some asked → asked.who ≡ me
+  is_mine : (asked : Asked) → asked_by r.line w.told.run ≡ Some asked → asked.who ≡ me
   is_mine asked is = ap (λ (x : Asked). x.who) (same_Some asked way.begun.asked (sym is ∙ way.begun.is)) ∙ way.mine
 
   -- what it knows its command learned
-  has : HasLearned stands w.run r (known_in w.knows session slot)
-  has = subst (λ x. HasLearnedIf stands w.run x (known_in w.knows session slot)) runs (living.learned slot)
+  has : HasLearned stands w.told.run r (known_in w.knows session slot)
+  has = subst (λ x. HasLearnedIf stands w.told.run x (known_in w.knows session slot)) runs (living.learned slot)
 
-  recalls : Recalls r.line s o (known_to (known_in w.knows session slot) (actor_at stands slot c)) w.run
+  recalls : Recalls r.line s o (known_to (known_in w.knows session slot) (actor_at stands slot c)) w.told.run
   recalls = record {
     begun = has.begun;
     seat = has.seat;
@@ -109,7 +120,7 @@ module _ {R : Type 0} (stands : R → Standing) (old new : WorldView R) (w : IsS
     feds = has.feds;
     why = why;
     next = next;
-    walk = subst (IsWalk has.start.labels has.start.plan has.feds (steps_of r.line w.run)) asks has.walk;
+    walk = subst (IsWalk has.start.labels has.start.plan has.feds (steps_of r.line w.told.run)) asks has.walk;
     known = ap (known_to (known_in w.knows session slot)) acts ∙ has.known;
   }
 
@@ -140,26 +151,26 @@ module _ {R : Type 0} (stands : R → Standing) (old new : WorldView R) (w : IsS
     tells_alone : TellsStandalone a
     tells_alone = alone stands old new w session slot c there s o wanted (Itself r.line) result d became at_sites sound_then
 
-    due : IsDue w.homes does_it w.run
+    due : IsDue w.told.homes does_it w.told.run
     due =
-        answer_due stands w.homes session slot w.run me living.whose r way s why o next asks a can_give tells_alone (next_number (site_in s old.sites)) (effect_of (records_in s old.sites) (done.Op o) a)
+        answer_due stands w.told.homes session slot w.told.run me living.whose r way s why o next asks a can_give tells_alone (next_number (site_in s old.sites)) (effect_of (records_in s old.sites) (done.Op o) a)
         (done_so stands old new w session slot c there s o wanted (Itself r.line) result d became at_sites sound_then recalls (λ asked is. sym (is_mine asked is))
-        (way_is_over stands slot c living.sound r runs (way_of r.line w.run) keeps acts))
+        (way_is_over stands slot c living.sound r runs (way_of r.line w.told.run) keeps acts))
 
     -- its way isn't begun, or over, and it is past its look under the lock then
     still_over : (n : Option (Occupant R)) → ComesToIn stands slot c.session.lines (fed.Answer a) result r n d.session.lines
-        → KeepsToItsWay stands (does_it ∷ w.run) (state_in slot d.slots).way (running_in n)
+        → KeepsToItsWay stands (does_it ∷ w.told.run) (state_in slot d.slots).way (running_in n)
     still_over None behind = tt
     still_over (Some (occupant.Refused line refusal)) behind = absurd behind
     still_over (Some (occupant.Running q)) behind =
         let on = went_on stands slot (stands r.request).labels _ _ result r q d.session.lines behind.0 behind.1 in
-        subst (λ (p : Plan). GoesWith p (state_in slot d.slots).way (way_of q.line w.run ++ []))
+        subst (λ (p : Plan). GoesWith p (state_in slot d.slots).way (way_of q.line w.told.run ++ []))
         (ap (λ p. at_operation (stands r.request).labels (plan_after p (fed.Answer a))) (sym asks) ∙ sym (ap (λ (st : Standing). st.plan) on.stand))
         (subst (λ (xs : List Answered). GoesWith (at_operation (stands r.request).labels (next a)) (state_in slot d.slots).way xs)
-        (sym (append-nil (way_of r.line w.run)) ∙ ap (λ l. way_of l w.run ++ []) (sym on.line))
-        (subst (λ (s : SlotState). GoesWith (at_operation (stands r.request).labels (next a)) s.way (way_of r.line w.run))
+        (sym (append-nil (way_of r.line w.told.run)) ∙ ap (λ l. way_of l w.told.run ++ []) (sym on.line))
+        (subst (λ (s : SlotState). GoesWith (at_operation (stands r.request).labels (next a)) s.way (way_of r.line w.told.run))
         (sym (is_fed.state ∙ ap (λ x. state_behind (is_some x) (is_some (own_look_at stands slot c.session)) (state_in slot c.slots)) behind.0))
-        (goes_on_itself stands slot c living.sound r runs (seat_at w.homes session) me w.run way a (subst (λ p. CanBeFed p (fed.Answer a)) (sym asks) can_give.can) (way_of r.line w.run) keeps acts
+        (goes_on_itself stands slot c living.sound r runs (seat_at w.told.homes session) me w.told.run way a (subst (λ p. CanBeFed p (fed.Answer a)) (sym asks) can_give.can) (way_of r.line w.told.run) keeps acts
         (subst (OfRunning (λ q. waits slot (track_of q c.session.lines) ≡ false)) (sym holds) goes) s why o next asks (stands r.request).labels)))
 
     -- it knows then what it was taught
@@ -172,41 +183,77 @@ module _ {R : Type 0} (stands : R → Standing) (old new : WorldView R) (w : IsS
         ∙ ap (λ p. known_behind (known_in w.knows session slot) p (fed.Answer a)) (ap (plan_of stands) runs ∙ asks)
 
     learned_then : (n : Option (Occupant R)) → ComesToIn stands slot c.session.lines (fed.Answer a) result r n d.session.lines
-        → HasLearnedIf stands (does_it ∷ w.run) (running_in n) (knows_now stands old new w session slot c there s o wanted (Itself r.line) result d became at_sites sound_then slot)
+        → HasLearnedIf stands (does_it ∷ w.told.run) (running_in n) (knows_now stands old new w session slot c there s o wanted (Itself r.line) result d became at_sites sound_then slot)
     learned_then None behind = tt
     learned_then (Some (occupant.Refused line refusal)) behind = absurd behind
     learned_then (Some (occupant.Running q)) behind =
-        subst (HasLearned stands (does_it ∷ w.run) q) (sym (knows_behind behind.0))
-        (subst (λ x. HasLearned stands (Did operation x ∷ w.run) q (known_behind (known_in w.knows session slot) (Ask s why o next) (fed.Answer a))) (sym behind.0)
-        (answer_learned stands w.homes session slot w.run me living.whose r way s why o next asks a can_give tells_alone (next_number (site_in s old.sites)) (effect_of (records_in s old.sites) (done.Op o) a)
+        subst (HasLearned stands (does_it ∷ w.told.run) q) (sym (knows_behind behind.0))
+        (subst (λ x. HasLearned stands (Did operation x ∷ w.told.run) q (known_behind (known_in w.knows session slot) (Ask s why o next) (fed.Answer a))) (sym behind.0)
+        (answer_learned stands w.told.homes session slot w.told.run me living.whose r way s why o next asks a can_give tells_alone (next_number (site_in s old.sites)) (effect_of (records_in s old.sites) (done.Op o) a)
         (known_in w.knows session slot) has c.session.lines d.session.lines q
         (subst (λ x. ComesToIn stands slot c.session.lines (fed.Answer a) x r (Some (occupant.Running q)) d.session.lines) behind.0 behind)))
 
-    living_then : IsLiving stands home session (does_it ∷ w.run) (knows_now stands old new w session slot c there s o wanted (Itself r.line) result d became at_sites sound_then) d
+    -- where it ends a watch, nobody is on its way to that lock
+    spares : (x : ℕ) (b : Acquire) → (state_in x c.slots).way ≡ way_of_slot.On b → unwatches_by me b.site b.image does_it ≡ false
+    spares x b on = by (unwatches_by me b.site b.image does_it) refl
+      where
+        by : (t : Bool) → unwatches_by me b.site b.image does_it ≡ t → t ≡ false
+        by false is = refl
+        by true is =
+            let own = ends_own_is me s me o a b.site b.image is in
+            absurd
+            (ways_spared stands c living.sound (seat_at w.told.homes session) me w.told.run living.held living.first slot x s b.image b (wanted ∙ ap (λ q. Some (s, q)) own.is) on (sym own.here) refl)
+
+    -- who drops a lock stands first in the image's line
+    drops : (t : SiteId) (i : ℕ) → lets_go s o a t i ≡ true → StandsFirst slot (lines_of c.session.lines t i)
+    drops t i lets =
+        let here : t ≡ s = same_site_is t s (lets_go_there s o a t i lets) in
+        let is : o ≡ lock_drop i = lets_go_image s o a i (subst (λ u. lets_go s o a u i ≡ true) here lets) in
+        subst (λ u. StandsFirst slot (lines_of c.session.lines u i)) (sym here)
+        (drops_first stands c living.sound (known_in w.knows session) living.know slot s i o (sym (ap (op_by stands slot c.session) acts) ∙ wanted)
+        (subst (λ q. Permits (known_in w.knows session slot) s q) is (subst (λ m. Permits (known_to (known_in w.knows session slot) m) s o) acts (permits stands old new w session slot c there s o wanted))))
+
+    first_then : (n : Option (Occupant R)) → ComesToIn stands slot c.session.lines (fed.Answer a) result r n d.session.lines → StandsFirstIf (does_it ∷ w.told.run) slot d.session.lines (running_in n)
+    first_then None behind = tt
+    first_then (Some (occupant.Refused line refusal)) behind = absurd behind
+    first_then (Some (occupant.Running q)) behind =
+        let on = went_on stands slot (stands r.request).labels _ _ result r q d.session.lines behind.0 behind.1 in
+        subst (λ l. (t : SiteId) (i : ℕ) → has_let_go t i (steps_of l (does_it ∷ w.told.run)) ≡ true → StandsFirst slot (lines_of d.session.lines t i)) (sym on.line)
+        (λ t i gone.
+        first_behind stands (seat_at w.told.homes session) me w.told.run slot r way s why o next asks a c.session.lines d.session.lines result q behind drops (subst (StandsFirstIf w.told.run slot c.session.lines) runs (living.first slot)) t i
+        (ap (λ b. has_let_go t i (steps_of r.line w.told.run ++ cond b (step_of operation ∷ []) [])) (sym (eq-eqb r.line r.line refl)) ∙ gone))
+
+    stays_first : (x : ℕ) → x ≢ slot → (t : SiteId) (i : ℕ) → StandsFirst x (lines_of c.session.lines t i) → StandsFirst x (lines_of d.session.lines t i)
+    stays_first x apart t i first =
+        stands_still x (lines_of c.session.lines t i) (lines_of d.session.lines t i) (became.others x apart t i)
+        (feeding_may x slot (λ same. apart (sym same)) stands c.session.lines d.session.lines (fed.Answer a) result r (held_in slot d.session.slots) comes t i) first
+
+    living_then : IsLiving stands home session (does_it ∷ w.told.run) (knows_now stands old new w session slot c there s o wanted (Itself r.line) result d became at_sites sound_then) d
     living_then =
-        living_of stands home session does_it w.run (λ m l. refl) (known_in w.knows session)
+        living_of stands home session does_it w.told.run (λ m l. refl) (known_in w.knows session)
         (knows_now stands old new w session slot c there s o wanted (Itself r.line) result d became at_sites sound_then) slot c d living became.slots became.states became.client quiet
         sound_then (all_know stands old new w session slot c there s o wanted (Itself r.line) result d became at_sites sound_then)
-        (answer_held stands w.homes session slot w.run me living.whose r way s why o next asks a can_give tells_alone (next_number (site_in s old.sites)) (effect_of (records_in s old.sites) (done.Op o) a)
+        (answer_held stands w.told.homes session slot w.told.run me living.whose r way s why o next asks a can_give tells_alone (next_number (site_in s old.sites)) (effect_of (records_in s old.sites) (done.Op o) a)
         result c.session.lines d.session.lines (held_in slot d.session.slots) comes)
         (still_over (held_in slot d.session.slots) comes)
         (others_know stands old new w session slot c there s o wanted (Itself r.line) result d became at_sites sound_then)
         (learned_then (held_in slot d.session.slots) comes) (is_fed.release ∙ living.releases)
-        (counts_fed stands slot c me w.run living.watches operation result refl d became.states wanted became.fed)
+        (counts_fed stands slot c me w.told.run living.watches operation result refl d became.states spares wanted became.fed)
+        (first_then (held_in slot d.session.slots) comes) stays_first
 
     -- its line stays in its slot, unless it has its reply
-    slots_then : (l : ℕ) → IsOpen l (does_it ∷ w.run) → (b : Bool) → (r.line == l) ≡ b → IsInSlot l new.lives
+    slots_then : (l : ℕ) → IsOpen l (does_it ∷ w.told.run) → (b : Bool) → (r.line == l) ≡ b → IsInSlot l new.lives
     slots_then l now true own =
         in_this_slot old new session c d goes_on slot became.slots l
         (line_stays stands slot c.session.lines (fed.Answer a) result r (held_in slot d.session.slots) d.session.lines comes (unreplied result refl) ∙ ap Some (eqb-true r.line l own))
       where
         unreplied : (x : Option Reply) → result ≡ x → result ≡ None
         unreplied None is = is
-        unreplied (Some reply) is = absurd (not_open l does_it w.run (ap (λ x. replies_to l (Did operation x) || false) is ∙ ap (λ b. (b || false) || false) own) now)
+        unreplied (Some reply) is = absurd (not_open l does_it w.told.run (ap (λ x. replies_to l (Did operation x) || false) is ∙ ap (λ b. (b || false) || false) own) now)
     slots_then l now false other =
         other_slots old new session c d goes_on slot became.slots l
         (λ is. true≢false (sym (eq-eqb r.line l (same_Some r.line l (sym (ap script_line holds) ∙ is))) ∙ other))
-        (w.slots l (open_back l does_it w.run (quiet_did l operation result (ap (λ b. b || false) other)) now))
+        (w.slots l (open_back l does_it w.told.run (quiet_did l operation result (ap (λ b. b || false) other)) now))
 
     lines_apart : (x : ℕ) (q : Running R) → x ≢ slot → running_at x c.session ≡ Some q → (r.line == q.line) ≡ false
     lines_apart x q differ is =
@@ -214,18 +261,18 @@ module _ {R : Type 0} (stands : R → Standing) (old new : WorldView R) (w : IsS
         (ap (λ v. script_line (held_of x (session_of v))) there ∙ running_line stands (held_in x c.session.slots) q is)
 
     -- no other instance's write has a step
-    foreign : (m : ℕ) (q : ClientView R) → m ≢ session → client_in m old.lives ≡ Some q → (other : ℕ) → IsWriterOf q.session.instance other (does_it ∷ w.run) → steps_in other does_it ≡ []
+    foreign : (m : ℕ) (q : ClientView R) → m ≢ session → client_in m old.lives ≡ Some q → (other : ℕ) → IsWriterOf q.session.instance other (does_it ∷ w.told.run) → steps_in other does_it ≡ []
     foreign m q differ at other writer =
         ap (λ b. cond b (step_of operation ∷ []) [])
         (ne_eqb r.line other
         (λ same. differ
-        (sym (w.clients m q at).whose ∙ ap (λ (i : Instance). i.session) (sym writer.mine ∙ is_mine writer.asked (ap (λ l. asked_by l w.run) same ∙ writer.is)) ∙ living.whose)))
+        (sym (w.clients m q at).whose ∙ ap (λ (i : Instance). i.session) (sym writer.mine ∙ is_mine writer.asked (ap (λ l. asked_by l w.told.run) same ∙ writer.is)) ∙ living.whose)))
 
-    order : IsInOrder stands home d.session.instance (does_it ∷ w.run) d.session
+    order : IsInOrder stands home d.session.instance (does_it ∷ w.told.run) d.session
     order =
-        subst (λ i. IsInOrder stands home i (does_it ∷ w.run) d.session) (sym became.client.instance)
-        (did_order stands w.homes home me slot w.run c.session d.session r runs living.sound.session goes s why o next asks a result (next_number (site_in s old.sites))
-        (effect_of (records_in s old.sites) (done.Op o) a) w.order (w.in_order session c there) became.others became.slots lines_apart due w.right
+        subst (λ i. IsInOrder stands home i (does_it ∷ w.told.run) d.session) (sym became.client.instance)
+        (did_order stands w.told.homes home me slot w.told.run c.session d.session r runs living.sound.session goes s why o next asks a result (next_number (site_in s old.sites))
+        (effect_of (records_in s old.sites) (done.Op o) a) w.told.order (w.in_order session c there) became.others became.slots lines_apart due w.told.right
         (came stands slot c.session d.session r s why o next a result asks (held_in slot d.session.slots) refl comes))
 
     did_carries : IsCarried stands old new w does_it
@@ -239,16 +286,18 @@ module _ {R : Type 0} (stands : R → Standing) (old new : WorldView R) (w : IsS
         living_then quiet_others
         (apart_of old new session c d goes_on slot became.slots w.apart
         (λ line is. ap script_line holds ∙ ap Some
-        (answer_line stands w.homes session slot w.run me living.whose r way s why o next asks a can_give tells_alone (next_number (site_in s old.sites)) (effect_of (records_in s old.sites) (done.Op o) a)
+        (answer_line stands w.told.homes session slot w.told.run me living.whose r way s why o next asks a can_give tells_alone (next_number (site_in s old.sites)) (effect_of (records_in s old.sites) (done.Op o) a)
         result c.session.lines d.session.lines (held_in slot d.session.slots) comes line is)))
         (λ l now. slots_then l now (r.line == l) refl)
         (truth_now stands old new w session slot c there s o wanted (Itself r.line) result d became at_sites sound_then)
         (truth_of_others stands old new w session slot c there s o wanted (Itself r.line) result d became at_sites sound_then)
         (sending_now stands old new w session slot c there s o wanted (Itself r.line) result d became at_sites sound_then)
         (λ calm. own_owes stands old w calm.1 session slot c there r holds s why o next asks result can_give)
-        (in_turn stands w.homes home me slot w.run c.session d.session r runs living.sound.session goes s why o next asks a result (next_number (site_in s old.sites))
-        (effect_of (records_in s old.sites) (done.Op o) a) w.order (w.in_order session c there) is_mine)
-        foreign order (new_now stands old new w session slot c there s o wanted (Itself r.line) result d became at_sites sound_then) (λ m q apart is. refl)
+        (in_turn stands w.told.homes home me slot w.told.run c.session d.session r runs living.sound.session goes s why o next asks a result (next_number (site_in s old.sites))
+        (effect_of (records_in s old.sites) (done.Op o) a) w.told.order (w.in_order session c there) is_mine)
+        foreign order (new_now stands old new w session slot c there s o wanted (Itself r.line) result d became at_sites sound_then)
+        (λ m q apart is.
+        (refl, λ t image. others_end_none q.session.instance operation result t image (λ same. apart (sym (w.clients m q is).whose ∙ ap (λ (i : Instance). i.session) (sym same) ∙ living.whose))))
 
   pub did_keeps : Does stands (event.Poll session slot) does_it old new → DoesAtSites does_it old.sites new.sites → ((m : ℕ) → IsSoundIf stands (client_in m new.lives)) → IsCarried stands old new w does_it
   did_keeps does at_sites sound =

@@ -144,54 +144,54 @@ module _ {R : Type 0} (stands : R → Standing) where
 
   -- ---- a world where something happened
 
-  module _ (old new : WorldView R) (w : IsSoundWorld stands old) (h : Happening) (due : IsDue w.homes h w.run) where
+  module _ (old new : WorldView R) (w : IsSoundWorld stands old) (h : Happening) (due : IsDue w.told.homes h w.told.run) where
     -- a client for whose requests it is nothing
     pub order_on : (m : ℕ) (q : ClientView R) → client_in m old.lives ≡ Some q → ((x line : ℕ) → script_line (held_in x q.session.slots) ≡ Some line → IsQuiet line h)
-        → ((other : ℕ) → IsWriterOf q.session.instance other (h ∷ w.run) → steps_in other h ≡ []) → IsInOrder stands (w.homes m) q.session.instance (h ∷ w.run) q.session
+        → ((other : ℕ) → IsWriterOf q.session.instance other (h ∷ w.told.run) → steps_in other h ≡ []) → IsInOrder stands (w.told.homes m) q.session.instance (h ∷ w.told.run) q.session
     order_on m q there quiet foreign =
-        quiet_order stands w.homes (w.homes m) q.session.instance h w.run q.session due w.right foreign
+        quiet_order stands w.told.homes (w.told.homes m) q.session.instance h w.told.run q.session due w.told.right foreign
         (λ x r runs. quiet x r.line (running_line (held_in x q.session.slots) r runs)) (w.in_order m q there)
 
     -- one whose requests stay, where it is no operation of a write itself: on the way to a lock, of
     -- its house, or none
     pub still_in_order : (m : ℕ) (c d : ClientView R) → client_in m old.lives ≡ Some c → d.session ≡ c.session → ((line : ℕ) (before : Option Asked) → or_asked line h before ≡ before)
-        → ((other : ℕ) → IsWriterOf c.session.instance other (h ∷ w.run) → steps_in other h ≡ []) → IsInOrder stands (w.homes m) d.session.instance (h ∷ w.run) d.session
+        → ((other : ℕ) → IsWriterOf c.session.instance other (h ∷ w.told.run) → steps_in other h ≡ []) → IsInOrder stands (w.told.homes m) d.session.instance (h ∷ w.told.run) d.session
     still_in_order m c d there same asks foreign =
-        subst (λ (v : SessionView R). IsInOrder stands (w.homes m) v.instance (h ∷ w.run) v) (sym same)
-        (still_order stands w.homes (w.homes m) c.session.instance h w.run c.session due w.right foreign
-        (λ x r runs. asks r.line (asked_by r.line w.run)) (λ x r runs writes. foreign r.line (writer x r runs writes)) in_order)
+        subst (λ (v : SessionView R). IsInOrder stands (w.told.homes m) v.instance (h ∷ w.told.run) v) (sym same)
+        (still_order stands w.told.homes (w.told.homes m) c.session.instance h w.told.run c.session due w.told.right foreign
+        (λ x r runs. asks r.line (asked_by r.line w.told.run)) (λ x r runs writes. foreign r.line (writer x r runs writes)) in_order)
       where
-        in_order : IsInOrder stands (w.homes m) c.session.instance w.run c.session
+        in_order : IsInOrder stands (w.told.homes m) c.session.instance w.told.run c.session
         in_order = w.in_order m c there
 
-        writer : (x : ℕ) (r : Running R) → running_at x c.session ≡ Some r → IsSome r.extent → IsWriterOf c.session.instance r.line (h ∷ w.run)
+        writer : (x : ℕ) (r : Running R) → running_at x c.session ≡ Some r → IsSome r.extent → IsWriterOf c.session.instance r.line (h ∷ w.told.run)
         writer x r runs writes =
-            let way = held_under_way (seat_at w.homes m) c.session.instance w.run (held_in x c.session.slots) r runs ((w.clients m c there).held x) in
+            let way = held_under_way (seat_at w.told.homes m) c.session.instance w.told.run (held_in x c.session.slots) r runs ((w.clients m c there).held x) in
             record {
               asked = way.begun.asked;
-              is = asks r.line (asked_by r.line w.run) ∙ way.begun.is;
+              is = asks r.line (asked_by r.line w.told.run) ∙ way.begun.is;
               mine = way.mine;
               writes = subst IsSome (in_order.extents x r runs way.begun.asked way.begun.is) writes;
             }
 
     -- a session itself, where its slot's request doesn't run
     pub order_beside : (home : SiteId) (who : Instance) (slot : ℕ) (c : SessionView R) → ((x line : ℕ) → x ≢ slot → script_line (held_in x c.slots) ≡ Some line → IsQuiet line h)
-        → running_at slot c ≡ None → ((other : ℕ) → IsWriterOf who other (h ∷ w.run) → steps_in other h ≡ []) → IsInOrder stands home who w.run c → IsInOrder stands home who (h ∷ w.run) c
+        → running_at slot c ≡ None → ((other : ℕ) → IsWriterOf who other (h ∷ w.told.run) → steps_in other h ≡ []) → IsInOrder stands home who w.told.run c → IsInOrder stands home who (h ∷ w.told.run) c
     order_beside home who slot c quiet none foreign =
-        quiet_order stands w.homes home who h w.run c due w.right foreign
+        quiet_order stands w.told.homes home who h w.told.run c due w.told.right foreign
         (λ x r runs. quiet x r.line (λ same. none-some r (sym none ∙ sym (ap (λ i. running_at i c) same) ∙ runs)) (running_line (held_in x c.slots) r runs))
 
     -- all clients, where all but one stay
     pub orders_of : (session : ℕ) → ((m : ℕ) → m ≢ session → client_in m new.lives ≡ client_in m old.lives)
         → ((m : ℕ) (q : ClientView R) → m ≢ session → client_in m old.lives ≡ Some q → (x line : ℕ) → script_line (held_in x q.session.slots) ≡ Some line → IsQuiet line h)
-        → ((m : ℕ) (q : ClientView R) → m ≢ session → client_in m old.lives ≡ Some q → (other : ℕ) → IsWriterOf q.session.instance other (h ∷ w.run) → steps_in other h ≡ [])
-        → ((d : ClientView R) → client_in session new.lives ≡ Some d → IsInOrder stands (w.homes session) d.session.instance (h ∷ w.run) d.session)
-        → (m : ℕ) (q : ClientView R) → client_in m new.lives ≡ Some q → IsInOrder stands (w.homes m) q.session.instance (h ∷ w.run) q.session
+        → ((m : ℕ) (q : ClientView R) → m ≢ session → client_in m old.lives ≡ Some q → (other : ℕ) → IsWriterOf q.session.instance other (h ∷ w.told.run) → steps_in other h ≡ [])
+        → ((d : ClientView R) → client_in session new.lives ≡ Some d → IsInOrder stands (w.told.homes session) d.session.instance (h ∷ w.told.run) d.session)
+        → (m : ℕ) (q : ClientView R) → client_in m new.lives ≡ Some q → IsInOrder stands (w.told.homes m) q.session.instance (h ∷ w.told.run) q.session
     orders_of session others quiet foreign own m q is = by (same_or_other m session)
       where
-        by : (m ≡ session) ⊎ (m ≢ session) → IsInOrder stands (w.homes m) q.session.instance (h ∷ w.run) q.session
+        by : (m ≡ session) ⊎ (m ≢ session) → IsInOrder stands (w.told.homes m) q.session.instance (h ∷ w.told.run) q.session
         by (inl here) =
-            subst (λ i. IsInOrder stands (w.homes i) q.session.instance (h ∷ w.run) q.session) (sym here)
+            subst (λ i. IsInOrder stands (w.told.homes i) q.session.instance (h ∷ w.told.run) q.session) (sym here)
             (own q (ap (λ i. client_in i new.lives) (sym here) ∙ is))
         by (inr differ) =
             let before = sym (others m differ) ∙ is in

@@ -240,9 +240,9 @@ pub way_pays : {R : Type 0} (stands : R → Standing) (seat : Seat) (who : Insta
 way_pays stands seat who run r way =
     walk_pays way.start way.feds (steps_of r.line run) (stands r.request).plan (request_pays seat way.begun.asked.command way.start way.plan) way.given way.standalone way.walk
 
-module _ {R : Type 0} (stands : R → Standing) (old : WorldView R) (w : IsSoundWorld stands old) (calm : IsUnhindered w.run) where
+module _ {R : Type 0} (stands : R → Standing) (old : WorldView R) (w : IsSoundWorld stands old) (calm : IsUnhindered w.told.run) where
   all_free : (s : SiteId) (i : Instance) → is_fenced (records_in s old.sites) i ≡ false
-  all_free s i = ap (λ r. is_fenced r i) (w.records s) ∙ none_fenced w.homes w.run w.right calm s i
+  all_free s i = ap (λ r. is_fenced r i) (w.told.records s) ∙ none_fenced w.told.homes w.told.run w.told.right calm s i
 
   slot_knows : (session slot : ℕ) (c : ClientView R) → client_in session old.lives ≡ Some c → (r : Running R) → held_in slot c.session.slots ≡ Some (occupant.Running r)
       → KnowsBy stands slot r c.session.lines (w.knows (InSlot session slot))
@@ -261,24 +261,24 @@ module _ {R : Type 0} (stands : R → Standing) (old : WorldView R) (w : IsSound
     pays : PaysItsStates (Some spot) (stands r.request).plan
     knows : KnowsOrGone (w.knows (InSlot session slot)) s image
 
-  owing : (s : SiteId) (image number state : ℕ) → IsOwed (owed_in w.run) s image number state → IsOwing s image
+  owing : (s : SiteId) (image number state : ℕ) → IsOwed (owed_in w.told.run) s image number state → IsOwing s image
   owing s image number state is = in_slot (client_in at.session old.lives) refl at.is
     where
       spot : Spot
       spot = spot_at s image number is.due
 
       at : IsInSlot is.who old.lives
-      at = w.slots is.who (debt_open w.homes w.run w.right calm is.who spot is.owes)
+      at = w.slots is.who (debt_open w.told.homes w.told.run w.told.right calm is.who spot is.owes)
 
       holding : (c : ClientView R) → client_in at.session old.lives ≡ Some c → (o : Option (Occupant R)) → held_in at.slot c.session.slots ≡ o → script_line o ≡ Some is.who → IsOwing s image
       holding c there None held line = absurd (none-some is.who line)
       holding c there (Some (occupant.Refused other refusal)) held line = absurd (none_owes (same_Some other is.who line))
         where
-          refused : IsRefusedAtOnce (seat_at w.homes at.session) c.session.instance w.run other refusal
-          refused = subst (IsHeldRightly stands (seat_at w.homes at.session) c.session.instance w.run) held ((w.clients at.session c there).held at.slot)
+          refused : IsRefusedAtOnce (seat_at w.told.homes at.session) c.session.instance w.told.run other refusal
+          refused = subst (IsHeldRightly stands (seat_at w.told.homes at.session) c.session.instance w.told.run) held ((w.clients at.session c there).held at.slot)
 
           none_owes : other ≡ is.who → ⊥
-          none_owes same = none-some spot (sym (ap owed_behind refused.none) ∙ ap (λ l. owed_in w.run l) same ∙ is.owes)
+          none_owes same = none-some spot (sym (ap owed_behind refused.none) ∙ ap (λ l. owed_in w.told.run l) same ∙ is.owes)
       holding c there (Some (occupant.Running r)) held line = record {
         session = at.session;
         slot = at.slot;
@@ -296,9 +296,9 @@ module _ {R : Type 0} (stands : R → Standing) (old : WorldView R) (w : IsSound
 
           pays : PaysItsStates (Some spot) (stands r.request).plan
           pays =
-              subst (λ owed. PaysItsStates owed (stands r.request).plan) (ap (λ l. owed_in w.run l) (same_Some r.line is.who line) ∙ is.owes)
-              (way_pays stands (seat_at w.homes at.session) c.session.instance w.run r
-              (subst (IsHeldRightly stands (seat_at w.homes at.session) c.session.instance w.run) held ((w.clients at.session c there).held at.slot)))
+              subst (λ owed. PaysItsStates owed (stands r.request).plan) (ap (λ l. owed_in w.told.run l) (same_Some r.line is.who line) ∙ is.owes)
+              (way_pays stands (seat_at w.told.homes at.session) c.session.instance w.told.run r
+              (subst (IsHeldRightly stands (seat_at w.told.homes at.session) c.session.instance w.told.run) held ((w.clients at.session c there).held at.slot)))
 
       in_slot : (o : Option (ClientView R)) → client_in at.session old.lives ≡ o → script_line (held_of at.slot (session_of o)) ≡ Some is.who → IsOwing s image
       in_slot None there line = absurd (none-some is.who line)
@@ -317,10 +317,10 @@ module _ {R : Type 0} (stands : R → Standing) (old : WorldView R) (w : IsSound
     abbrev operation : Operation
     operation = operation_at (site_in s old.sites) me (Itself r.line) s o
 
-    paid : PaysItsStates (owed_in w.run r.line) (Ask s why o next)
+    paid : PaysItsStates (owed_in w.told.run r.line) (Ask s why o next)
     paid =
-        subst (PaysItsStates (owed_in w.run r.line)) asks
-        (way_pays stands (seat_at w.homes session) me w.run r (subst (IsHeldRightly stands (seat_at w.homes session) me w.run) holds ((w.clients session c there).held slot)))
+        subst (PaysItsStates (owed_in w.told.run r.line)) asks
+        (way_pays stands (seat_at w.told.homes session) me w.told.run r (subst (IsHeldRightly stands (seat_at w.told.homes session) me w.told.run) holds ((w.clients session c there).held slot)))
 
     mine : KnowsBy stands slot r c.session.lines (w.knows (InSlot session slot))
     mine = slot_knows session slot c there r holds
@@ -332,47 +332,47 @@ module _ {R : Type 0} (stands : R → Standing) (old : WorldView R) (w : IsSound
     unfenced fenced = true≢false (sym (refused_is_fenced (records_in s old.sites) me o fenced) ∙ all_free s me)
 
     abbrev run_then : List Happening
-    run_then = Did operation result ∷ w.run
+    run_then = Did operation result ∷ w.told.run
 
     -- what the line owes then
-    owed_then : owed_in run_then r.line ≡ owed_by (owed_in w.run r.line) s o a
-    owed_then = own_steps r.line operation result w.run (eq-eqb r.line r.line refl)
+    owed_then : owed_in run_then r.line ≡ owed_by (owed_in w.told.run r.line) s o a
+    owed_then = own_steps r.line operation result w.told.run (eq-eqb r.line r.line refl)
 
-    owes_then : (image number state : ℕ) → Owes (owed_by (owed_in w.run r.line) s o a) s image number state → IsOwed (owed_in run_then) s image number state
+    owes_then : (image number state : ℕ) → Owes (owed_by (owed_in w.told.run r.line) s o a) s image number state → IsOwed (owed_in run_then) s image number state
     owes_then image number state owes = record { who = r.line; due = owes.due; owes = owed_then ∙ owes.owes; is = owes.is }
 
     -- what another line owes it still does
-    other_owes : (t : SiteId) (image number state : ℕ) → (is : IsOwed (owed_in w.run) t image number state) → (r.line == is.who) ≡ false → IsOwed (owed_in run_then) t image number state
-    other_owes t image number state is other = record { who = is.who; due = is.due; owes = others_owe is.who operation result w.run other ∙ is.owes; is = is.is }
+    other_owes : (t : SiteId) (image number state : ℕ) → (is : IsOwed (owed_in w.told.run) t image number state) → (r.line == is.who) ≡ false → IsOwed (owed_in run_then) t image number state
+    other_owes t image number state is other = record { who = is.who; due = is.due; owes = others_owe is.who operation result w.told.run other ∙ is.owes; is = is.is }
 
     -- what the line owed it does
     module _ (given : IsGiven o a) (t : SiteId) (image number : ℕ) where
-      own_does : (due : Due) → owed_in w.run r.line ≡ Some (spot_at t image number due) → Does t image number s o a due
+      own_does : (due : Due) → owed_in w.told.run r.line ≡ Some (spot_at t image number due) → Does t image number s o a due
       own_does due owes = pays_so t image number s o a due (subst (λ owed. PaysItsStates owed (Ask s why o next)) owes paid).0 given unfenced
 
-      made : IsOwed (owed_in w.run) t image number 1 → IsOwed (owed_in run_then) t image number 1 ⊎ ((same_site s t ≡ true) × (makes_object image number o ≡ true))
+      made : IsOwed (owed_in w.told.run) t image number 1 → IsOwed (owed_in run_then) t image number 1 ⊎ ((same_site s t ≡ true) × (makes_object image number o ≡ true))
       made is = by (r.line == is.who) refl
         where
-          own : (due : Due) → state_of due ≡ 1 → owed_in w.run r.line ≡ Some (spot_at t image number due) → (same_site s t ≡ true) × (makes_object image number o ≡ true)
+          own : (due : Due) → state_of due ≡ 1 → owed_in w.told.run r.line ≡ Some (spot_at t image number due) → (same_site s t ≡ true) × (makes_object image number o ≡ true)
           own Made one owes = own_does Made owes
           own Gone one owes = cc
           own Lowered one owes = cc
 
           by : (b : Bool) → (r.line == is.who) ≡ b → IsOwed (owed_in run_then) t image number 1 ⊎ ((same_site s t ≡ true) × (makes_object image number o ≡ true))
           by false other = inl (other_owes t image number 1 is other)
-          by true same = inr (own is.due is.is (ap (owed_in w.run) (eqb-true r.line is.who same) ∙ is.owes))
+          by true same = inr (own is.due is.is (ap (owed_in w.told.run) (eqb-true r.line is.who same) ∙ is.owes))
 
-      lowered : IsOwed (owed_in w.run) t image number 2 → IsOwed (owed_in run_then) t image number 2 ⊎ ((same_site s t ≡ true) × (sets_state image number 0 o ≡ true))
+      lowered : IsOwed (owed_in w.told.run) t image number 2 → IsOwed (owed_in run_then) t image number 2 ⊎ ((same_site s t ≡ true) × (sets_state image number 0 o ≡ true))
       lowered is = by (r.line == is.who) refl
         where
-          own : (due : Due) → state_of due ≡ 2 → owed_in w.run r.line ≡ Some (spot_at t image number due) → IsOwed (owed_in run_then) t image number 2 ⊎ ((same_site s t ≡ true) × (sets_state image number 0 o ≡ true))
+          own : (due : Due) → state_of due ≡ 2 → owed_in w.told.run r.line ≡ Some (spot_at t image number due) → IsOwed (owed_in run_then) t image number 2 ⊎ ((same_site s t ≡ true) × (sets_state image number 0 o ≡ true))
           own Made two owes = cc
           own Gone two owes = inl (record { who = r.line; due = Lowered; owes = owed_then ∙ ap (λ owed. owed_by owed s o a) owes ∙ own_does Gone owes; is = refl })
           own Lowered two owes = inr (own_does Lowered owes)
 
           by : (b : Bool) → (r.line == is.who) ≡ b → IsOwed (owed_in run_then) t image number 2 ⊎ ((same_site s t ≡ true) × (sets_state image number 0 o ≡ true))
           by false other = inl (other_owes t image number 2 is other)
-          by true same = own is.due is.is (ap (owed_in w.run) (eqb-true r.line is.who same) ∙ is.owes)
+          by true same = own is.due is.is (ap (owed_in w.told.run) (eqb-true r.line is.who same) ∙ is.owes)
 
     -- an image that is gone has no header
     unheaded : (session slot image : ℕ) (d : ClientView R) → client_in session old.lives ≡ Some d → is_gone (w.knows (InSlot session slot)).gone s image ≡ true
@@ -380,15 +380,15 @@ module _ {R : Type 0} (stands : R → Standing) (old : WorldView R) (w : IsSound
     unheaded session slot image d at gone = (((w.truth session d at s).requests slot).gone image gone).header
 
     -- it removes an object of an image that has none, or owes the state
-    gone : IsGiven o a → (image number : ℕ) (h : HeaderView) → removes_object image number o ≡ true → (records_after s w.run).headers image ≡ Some h → IsOwed (owed_in run_then) s image number 2
-    gone given image number h removes is = by (removal_owes mine.known_at (w.knows (InSlot session slot)) (owed_in w.run r.line) s why o next a image number paid lawful given unfenced removes)
+    gone : IsGiven o a → (image number : ℕ) (h : HeaderView) → removes_object image number o ≡ true → (records_after s w.told.run).headers image ≡ Some h → IsOwed (owed_in run_then) s image number 2
+    gone given image number h removes is = by (removal_owes mine.known_at (w.knows (InSlot session slot)) (owed_in w.told.run r.line) s why o next a image number paid lawful given unfenced removes)
       where
-        by : (is_gone (w.knows (InSlot session slot)).gone s image ≡ true) ⊎ (owed_by (owed_in w.run r.line) s o a ≡ Some (spot_at s image number Lowered)) → IsOwed (owed_in run_then) s image number 2
-        by (inl gone) = absurd (none-some h (sym (unheaded session slot image c there gone) ∙ ap (λ (q : Records). q.headers image) (w.records s) ∙ is))
+        by : (is_gone (w.knows (InSlot session slot)).gone s image ≡ true) ⊎ (owed_by (owed_in w.told.run r.line) s o a ≡ Some (spot_at s image number Lowered)) → IsOwed (owed_in run_then) s image number 2
+        by (inl gone) = absurd (none-some h (sym (unheaded session slot image c there gone) ∙ ap (λ (q : Records). q.headers image) (w.told.records s) ∙ is))
         by (inr owes) = owes_then image number 2 (record { due = Lowered; owes = owes; is = refl })
 
     -- nobody owes an object of an image of which it takes a snapshot
-    free : (image number state : ℕ) → takes_snap image o ≡ true → IsOwed (owed_in w.run) s image number state → ⊥
+    free : (image number state : ℕ) → takes_snap image o ≡ true → IsOwed (owed_in w.told.run) s image number state → ⊥
     free image number state takes is = by (same_or_other owes.session session) (same_or_other owes.slot slot)
       where
         owes : IsOwing s image
@@ -425,28 +425,28 @@ module _ {R : Type 0} (stands : R → Standing) (old : WorldView R) (w : IsSound
                 same_Some owes.r r
                 (ap running_in (sym owes.holds ∙ ap (λ (v : ClientView R). held_in owes.slot v.session.slots) client ∙ ap (λ x. held_in x c.session.slots) also ∙ holds))
 
-    pub own_owes : IsGiven o a → OwesAsItGoes operation result w.run
+    pub own_owes : IsGiven o a → OwesAsItGoes operation result w.told.run
     own_owes given = record {
       made = λ t image number. made given t image number;
       lowered = λ t image number. lowered given t image number;
       new = λ image number state sets some.
-          owes_then image number state (set_owes (w.knows (InSlot session slot)) (owed_in w.run r.line) s o a image number state lawful.0 given unfenced sets some);
+          owes_then image number state (set_owes (w.knows (InSlot session slot)) (owed_in w.told.run r.line) s o a image number state lawful.0 given unfenced sets some);
       gone = gone given;
       free = free;
     }
 
   -- ---- at rest
 
-  pub rested_exact : (s : SiteId) (image : ℕ) (h : HeaderView) → (records_in s old.sites).headers image ≡ Some h → ((line : ℕ) → IsOpen line w.run → has_worked line s image w.run ≡ false)
+  pub rested_exact : (s : SiteId) (image : ℕ) (h : HeaderView) → (records_in s old.sites).headers image ≡ Some h → ((line : ℕ) → IsOpen line w.told.run → has_worked line s image w.told.run ≡ false)
       → AreExact h ((records_in s old.sites).maps image) (object_at (records_in s old.sites) image)
   rested_exact s image h is rests =
-      all_exact (IsOwed (owed_in w.run) s image) h ((records_in s old.sites).maps image) (object_at (records_in s old.sites) image) busy
-      ((w.exact calm s).images image h is)
+      all_exact (IsOwed (owed_in w.told.run) s image) h ((records_in s old.sites).maps image) (object_at (records_in s old.sites) image) busy
+      ((w.told.exact calm s).images image h is)
     where
-      busy : (number state : ℕ) → IsOwed (owed_in w.run) s image number state → ⊥
+      busy : (number state : ℕ) → IsOwed (owed_in w.told.run) s image number state → ⊥
       busy number state owed =
           let spot = spot_at s image number owed.due in
-          true≢false (sym (worked w.run owed.who spot owed.owes) ∙ rests owed.who (debt_open w.homes w.run w.right calm owed.who spot owed.owes))
+          true≢false (sym (worked w.told.run owed.who spot owed.owes) ∙ rests owed.who (debt_open w.told.homes w.told.run w.told.right calm owed.who spot owed.owes))
 
 -- ---- operations of others
 

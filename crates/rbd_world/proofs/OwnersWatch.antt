@@ -1,6 +1,6 @@
--- An owner of a lock has watched the image: who became it took the lock behind a watch.
-use Rattle.std.proofs.Common.{◌≡◌, ◌⊎◌, inl, inr, ℕ, ◌==◌, cond, Bool, true, false, List, [], ◌∷◌, Option, Some, None, is_some, refl, sym, ap, ◌∙◌, subst}
-use Rattle.std.proofs.lemmas.Bool.{eqb-true}
+-- Who owns the lock of an image did so before, or took it.
+use Rattle.std.proofs.Common.{◌≡◌, ◌⊎◌, inl, inr, ℕ, ◌==◌, cond, Bool, true, false, List, ◌∷◌, Option, Some, None, is_some, refl, sym, ap, ◌∙◌, subst}
+use Rattle.std.proofs.lemmas.Bool.{true≢false, eqb-true}
 use Rattle.std.proofs.lemmas.Option.{none-some, same_Some}
 use Rattle.rbd_header.specs.Header.{is_full, snap_in, with_snap, with_status, without_snap}
 use Rattle.rbd_kinds.specs.declared.header.HeaderView.{HeaderView}
@@ -17,20 +17,13 @@ use Rattle.rbd_kinds.proofs.Images.{same_site_is}
 use Rattle.rbd_machine.specs.Knowledge.{Knowledge}
 use Rattle.rbd_machine.specs.Permits.{Permits}
 use Rattle.rbd_owner.specs.Steps.{lock_take}
-use Rattle.rbd_owner.specs.declared.release.Release.{Release}
 use Rattle.rbd_site.specs.HeaderStep.{header_after, is_owner, where_made}
 use Rattle.rbd_site.specs.Log.{expired, trimmed}
 use Rattle.rbd_site.specs.Records.{Records}
 use Rattle.rbd_site.specs.Step.{after, after_served, is_fenced}
-use Rattle.rbd_world.specs.LetGo.{release_of}
-use Rattle.rbd_world.specs.Run.{Doer, Itself, OnWay, House, AfterStop, Happening, Nothing, Waited, Began, Did, Refused, Trimmed, Expired, Heard, Stopped, Restarted, Operation, records_after}
-use Rattle.rbd_world.specs.Sound.{IsDone, IsDue, IsNextOf, IsRight, RecallsBy}
-use Rattle.rbd_world.specs.Watched.{TakesBehindWatch, has_watched}
-use Rattle.rbd_world.specs.Ways.{IsNextOfRelease}
-use Rattle.rbd_world.proofs.Asking.{TakesNoLock}
+use Rattle.rbd_world.specs.Run.{Happening, Nothing, Waited, Began, Did, Refused, Trimmed, Expired, Heard, Stopped, Restarted, Operation, records_after}
+use Rattle.rbd_world.specs.Sound.{IsDone, IsDue}
 use Rattle.rbd_world.proofs.Runs.{done_of}
-use Rattle.rbd_world.proofs.TakesNone.{none_behind_watch, release_takes_none, walks_take_none}
-use Rattle.rbd_world.proofs.Watching.{watched_on}
 
 -- ---- the owner of an image's lock
 
@@ -38,19 +31,19 @@ abbrev pub owner_of : Option HeaderView → Option Instance
 owner_of None = None
 owner_of (Some h) = h.owner
 
-abbrev owner_at : Records → (image : ℕ) → Option Instance
+abbrev pub owner_at : Records → (image : ℕ) → Option Instance
 owner_at r image = owner_of (r.headers image)
 
 -- a header that is made has no owner
-abbrev MakesUnowned : HeaderOp → Type 0
+abbrev pub MakesUnowned : HeaderOp → Type 0
 MakesUnowned (header.Create view) = view.owner ≡ None
 MakesUnowned o = Unit {0}
 
 -- who has the lock had it before, or took it
-abbrev HadOrTook : (me : Instance) → (before : Option Instance) → HeaderOp → (who : Instance) → Type 0
+abbrev pub HadOrTook : (me : Instance) → (before : Option Instance) → HeaderOp → (who : Instance) → Type 0
 HadOrTook me before o who = (before ≡ Some who) ⊎ ((o ≡ header.LockTake) × (me ≡ who))
 
-header_owner : (me : Instance) (there : Option HeaderView) (o : HeaderOp) (who : Instance) → MakesUnowned o → owner_of (header_after me there o) ≡ Some who → HadOrTook me (owner_of there) o who
+pub header_owner : (me : Instance) (there : Option HeaderView) (o : HeaderOp) (who : Instance) → MakesUnowned o → owner_of (header_after me there o) ≡ Some who → HadOrTook me (owner_of there) o who
 header_owner me None (header.Create view) who none is = absurd (none-some who (sym none ∙ is))
 header_owner me None o who none is = absurd (none-some who is)
 header_owner me (Some h) header.LockTake who none is = by h.owner refl is
@@ -89,7 +82,7 @@ header_owner me (Some h) _ who none is = inl is
 
 -- ---- one operation
 
-makes_unowned : (k : Knowledge) (s : SiteId) (on : ℕ) (o : HeaderOp) → Permits k s (op.Header on o) → MakesUnowned o
+pub makes_unowned : (k : Knowledge) (s : SiteId) (on : ℕ) (o : HeaderOp) → Permits k s (op.Header on o) → MakesUnowned o
 makes_unowned k s on (header.Create view) permits = permits.new.owner
 makes_unowned k s on _ permits = tt
 
@@ -111,7 +104,7 @@ served_owner r me k s (op.Data on number o) image who permits is = inl is
 served_owner r me k s (op.Map on o) image who permits is = inl is
 served_owner r me k s _ image who permits is = inl is
 
-owner_then : (r : Records) (me : Instance) (k : Knowledge) (s : SiteId) (o : Op) (image : ℕ) (who : Instance) → Permits k s o → owner_at (after r me o) image ≡ Some who
+pub owner_then : (r : Records) (me : Instance) (k : Knowledge) (s : SiteId) (o : Op) (image : ℕ) (who : Instance) → Permits k s o → owner_at (after r me o) image ≡ Some who
     → (owner_at r image ≡ Some who) ⊎ ((o ≡ lock_take image) × (me ≡ who))
 owner_then r me k s o image who permits is = by (is_fenced r me) is
   where
@@ -119,60 +112,66 @@ owner_then r me k s o image who permits is = by (is_fenced r me) is
     by true is = inl is
     by false is = served_owner r me k s o image who permits is
 
--- whoever takes a lock has watched
-pub takes_watched : (o : Operation) (run : List Happening) → IsDone o run → TakesBehindWatch o.instance o.site o.op run
-takes_watched o run done = by o.by done.next done.recalls
+-- ---- whatever happens
+
+-- the happening is the take of the lock by the instance
+pub record Takes (who : Instance) (s : SiteId) (image : ℕ) (h : Happening) (run : List Happening) : Type 0 where
+  pub o : Operation
+  pub reply : Option Reply
+  pub is : h ≡ Did o reply
+  pub done : IsDone o run
+  pub takes : o.op ≡ lock_take image
+  pub mine : o.instance ≡ who
+  pub here : o.site ≡ s
+
+-- where it is this operation
+pub takes_did : (who : Instance) (s : SiteId) (image : ℕ) (o : Operation) (reply : Option Reply) (run : List Happening) → Takes who s image (Did o reply) run
+    → (o.op ≡ lock_take image) × (o.instance ≡ who) × (o.site ≡ s)
+takes_did who s image o reply run took =
+    let same : o ≡ took.o = ap did_or took.is in
+    (ap (λ (p : Operation). p.op) same ∙ took.takes, ap (λ (p : Operation). p.instance) same ∙ took.mine, ap (λ (p : Operation). p.site) same ∙ took.here)
   where
-    by : (d : Doer) → IsNextOf d o.instance o.site o.op run → RecallsBy d o.site o.op done.knows run → TakesBehindWatch o.instance o.site o.op run
-    by (Itself line) next recalls =
-        none_behind_watch o.instance o.site o.op run
-        (walks_take_none recalls.seat recalls.begun.asked.command recalls.start recalls.feds _ o.site recalls.why o.op recalls.next recalls.plan recalls.walk)
-    by (OnWay line) next recalls = next.1
-    by House next recalls = none_behind_watch o.instance o.site o.op run (house (release_of o.instance run) next)
-      where
-        house : (x : Option Release) → IsNextOfRelease x o.site o.op → TakesNoLock o.op
-        house None next = subst TakesNoLock (sym next.is) tt
-        house (Some x) next = subst TakesNoLock (sym next.1) (release_takes_none x)
-    by (AfterStop slot) next recalls = next
+    did_or : Happening → Operation
+    did_or (Did p told) = p
+    did_or h = o
 
--- ---- along a run
+abbrev is_did : Happening → Bool
+is_did (Did o reply) = true
+is_did h = false
 
-module _ (homes : ℕ → SiteId) (s : SiteId) (image : ℕ) (who : Instance) where
-  took : (o : Operation) (reply : Option Reply) (run : List Happening) → IsDone o run → (owner_at (records_after s run) image ≡ Some who → has_watched who s image run ≡ true)
-      → owner_at (records_after s (Did o reply ∷ run)) image ≡ Some who → has_watched who s image (Did o reply ∷ run) ≡ true
-  took o reply run done before is = watched_on who s image (Did o reply) run (by (same_site o.site s) refl is)
+-- and what isn't an operation takes none
+pub none_taken : (h : Happening) → is_did h ≡ false → (run : List Happening) (who : Instance) (s : SiteId) (image : ℕ) → Takes who s image h run → ⊥
+none_taken h none run who s image took = true≢false (sym (ap is_did took.is) ∙ none)
+
+module _ (homes : ℕ → SiteId) (s : SiteId) (image : ℕ) (who : Instance) (run : List Happening) where
+  did_own : (o : Operation) (reply : Option Reply) → IsDone o run → owner_at (records_after s (Did o reply ∷ run)) image ≡ Some who → (owner_at (records_after s run) image ≡ Some who) ⊎ Takes who s image (Did o reply) run
+  did_own o reply done is = by (same_site o.site s) refl is
     where
-      by : (b : Bool) → same_site o.site s ≡ b → owner_at (cond b (after (records_after s run) o.instance o.op) (records_after s run)) image ≡ Some who → has_watched who s image run ≡ true
-      by false apart is = before is
+      by : (b : Bool) → same_site o.site s ≡ b → owner_at (cond b (after (records_after s run) o.instance o.op) (records_after s run)) image ≡ Some who
+          → (owner_at (records_after s run) image ≡ Some who) ⊎ Takes who s image (Did o reply) run
+      by false apart is = inl is
       by true here is = go (owner_then (records_after s run) o.instance done.knows o.site o.op image who done.permits is)
         where
-          go : (owner_at (records_after s run) image ≡ Some who) ⊎ ((o.op ≡ lock_take image) × (o.instance ≡ who)) → has_watched who s image run ≡ true
-          go (inl had) = before had
-          go (inr (takes, mine)) =
-              subst (λ i. has_watched i s image run ≡ true) mine
-              (subst (λ t. has_watched o.instance t image run ≡ true) (same_site_is o.site s here) (takes_watched o run done image takes))
+          go : (owner_at (records_after s run) image ≡ Some who) ⊎ ((o.op ≡ lock_take image) × (o.instance ≡ who)) → (owner_at (records_after s run) image ≡ Some who) ⊎ Takes who s image (Did o reply) run
+          go (inl had) = inl had
+          go (inr (takes, mine)) = inr (record { o = o; reply = reply; is = refl; done = done; takes = takes; mine = mine; here = same_site_is o.site s here })
 
-  pub owner_has_watched : (run : List Happening) → IsRight homes run → owner_at (records_after s run) image ≡ Some who → has_watched who s image run ≡ true
-  owner_has_watched [] right is = absurd (none-some who is)
-  owner_has_watched (h ∷ run) (standing, due, right) is = by h due is (owner_has_watched run right)
+  pub owned_before : (h : Happening) → IsDue homes h run → owner_at (records_after s (h ∷ run)) image ≡ Some who → (owner_at (records_after s run) image ≡ Some who) ⊎ Takes who s image h run
+  owned_before (Did o reply) due is = did_own o reply (done_of homes o reply run due) is
+  owned_before (Trimmed there number on object) due is = inl (go (same_site there s) is)
     where
-      by : (h : Happening) → IsDue homes h run → owner_at (records_after s (h ∷ run)) image ≡ Some who → (owner_at (records_after s run) image ≡ Some who → has_watched who s image run ≡ true)
-          → has_watched who s image (h ∷ run) ≡ true
-      by (Did o reply) due is before = took o reply run (done_of homes o reply run due) before is
-      by (Trimmed there number on object) due is before = go (same_site there s) is
-        where
-          go : (b : Bool) → owner_at (cond b (trimmed on object (records_after s run)) (records_after s run)) image ≡ Some who → has_watched who s image run ≡ true
-          go true is = before is
-          go false is = before is
-      by (Expired there number on i) due is before = go (same_site there s) is
-        where
-          go : (b : Bool) → owner_at (cond b (expired on i (records_after s run)) (records_after s run)) image ≡ Some who → has_watched who s image run ≡ true
-          go true is = before is
-          go false is = before is
-      by Nothing due is before = before is
-      by Waited due is before = before is
-      by (Began asked slot) due is before = before is
-      by (Refused t line told) due is before = before is
-      by (Heard notice) due is before = before is
-      by (Stopped other wanted lost) due is before = before is
-      by (Restarted other) due is before = before is
+      go : (b : Bool) → owner_at (cond b (trimmed on object (records_after s run)) (records_after s run)) image ≡ Some who → owner_at (records_after s run) image ≡ Some who
+      go true is = is
+      go false is = is
+  owned_before (Expired there number on i) due is = inl (go (same_site there s) is)
+    where
+      go : (b : Bool) → owner_at (cond b (expired on i (records_after s run)) (records_after s run)) image ≡ Some who → owner_at (records_after s run) image ≡ Some who
+      go true is = is
+      go false is = is
+  owned_before Nothing due is = inl is
+  owned_before Waited due is = inl is
+  owned_before (Began asked slot) due is = inl is
+  owned_before (Refused t line told) due is = inl is
+  owned_before (Heard notice) due is = inl is
+  owned_before (Stopped other wanted lost) due is = inl is
+  owned_before (Restarted other) due is = inl is

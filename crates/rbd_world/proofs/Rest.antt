@@ -32,7 +32,7 @@ use Rattle.rbd_world.proofs.Exactly.{IsOwedFor}
 use Rattle.rbd_world.proofs.OrderedWorld.{order_on}
 use Rattle.rbd_world.proofs.Quiet.{IsQuiet, quiet_expired, quiet_nothing, quiet_trimmed, quiet_waited}
 use Rattle.rbd_world.proofs.Slots.{open_back, same_slots}
-use Rattle.rbd_world.proofs.Watching.{takes_on}
+use Rattle.rbd_world.proofs.Watching.{EndsNone}
 
 -- the sites stand for their flat sites behind each run that is right
 pub where_standing : (homes : ℕ → SiteId) (run : List Happening) → IsRight homes run → StandFlat run
@@ -102,7 +102,7 @@ module _ {R : Type 0} (stands : R → Standing) (old new : WorldView R) (w : IsS
       by true is = same_of e h leaves (lives_in session old.lives) (lives_in session new.lives) (does.named session is)
       by false is = does.others session is
 
-  rested : (h : Happening) → ((line : ℕ) → IsQuiet line h) → IsLifeless h → SendsNothing h → ((i : Instance) → moves_house i h ≡ false) → AreSame → StandFlat (h ∷ w.run) → IsDue w.homes h w.run → IsOwedFor h w.run → IsInTurn h w.run
+  rested : (h : Happening) → ((line : ℕ) → IsQuiet line h) → IsLifeless h → SendsNothing h → ((i : Instance) → (moves_house i h ≡ false) × EndsNone i h) → AreSame → StandFlat (h ∷ w.told.run) → IsDue w.told.homes h w.told.run → IsOwedFor h w.told.run → IsInTurn h w.told.run
       → ((s : SiteId) → StaysTrue s (records_in s new.sites)) → IsCarried stands old new w h
   rested h quiet lifeless sends unmoved same standing due owes turn stays = record {
     who = w.who;
@@ -111,21 +111,20 @@ module _ {R : Type 0} (stands : R → Standing) (old new : WorldView R) (w : IsS
       standing = standing;
       due = due;
       whole = λ s. (stays s).whole (whole_in stands old w s);
-      lives = λ session l is. lives_on session l (w.lives session l (sym (same session) ∙ is));
+      lives = λ session l is. lives_on session l (w.told.lives session l (sym (same session) ∙ is));
       clients = λ session c is.
-          living_on stands (w.homes session) session h w.run lifeless (known_in w.knows session) c (λ slot line at. quiet line) (unmoved c.session.instance) (w.clients session c (client_was session c is));
+          living_on stands (w.told.homes session) session h w.told.run lifeless (known_in w.knows session) c (λ slot line at. quiet line) (unmoved c.session.instance) (w.clients session c (client_was session c is));
       in_slots = λ session slot c is. w.in_slots session slot c (client_was session c is);
       nobody = λ session none slot. w.nobody session (sym (client_same session) ∙ none) slot;
       apart = λ line session slot other there one two. w.apart line session slot other there (sym (line_same session slot) ∙ one) (sym (line_same other there) ∙ two);
-      slots = λ line begun. same_slots old.lives new.lives line_same line (w.slots line (open_back line h w.run (quiet line) begun));
+      slots = λ line begun. same_slots old.lives new.lives line_same line (w.slots line (open_back line h w.told.run (quiet line) begun));
       truth = λ session c is s. (stays s).clients c.session.instance (known_in w.knows session) c (w.truth session c (client_was session c is) s);
-      late = λ session slot. late_same session slot ∙ w.late session slot ∙ sym (sends session slot (sent_after session slot w.run));
+      late = λ session slot. late_same session slot ∙ w.late session slot ∙ sym (sends session slot (sent_after session slot w.told.run));
       sending = λ session slot x is.
           let was = w.sending session slot x (sym (late_same session slot) ∙ is) in
           (was.0, still_may_come (λ s. records_in s new.sites) stays session x _ was.1);
       unsent = λ session slot none. w.unsent session slot (sym (late_same session slot) ∙ none);
       drops = λ session slot there x differ is. w.drops session slot there x differ (sym (late_same session slot) ∙ is);
-      takes = λ session slot x is. takes_on x.instance x.site x.op h w.run (w.takes session slot x (sym (late_same session slot) ∙ is));
       none_yet = w.new;
       beside = λ one other apart s. (stays s).beside (w.who one) (w.who other) (w.knows one) (w.knows other) (w.beside one other apart s);
       owes = owes;
@@ -146,11 +145,11 @@ module _ {R : Type 0} (stands : R → Standing) (old new : WorldView R) (w : IsS
       late_same : (session slot : ℕ) → late_at session slot new.lives ≡ late_at session slot old.lives
       late_same session slot = ap (λ o. sent_in slot (late_of o)) (same session)
 
-      lives_on : (session : ℕ) (l : LivesView R) → AreLivesOf w.run (w.homes session) session l → AreLivesOf (h ∷ w.run) (w.homes session) session l
+      lives_on : (session : ℕ) (l : LivesView R) → AreLivesOf w.told.run (w.told.homes session) session l → AreLivesOf (h ∷ w.told.run) (w.told.homes session) session l
       lives_on session l a = record {
         home_is = a.home_is;
         whose = a.whose;
-        life = lifeless session (life_after session w.run) ∙ a.life;
+        life = lifeless session (life_after session w.told.run) ∙ a.life;
         latest = a.latest;
         most = a.most;
         older = a.older;
@@ -158,19 +157,19 @@ module _ {R : Type 0} (stands : R → Standing) (old new : WorldView R) (w : IsS
 
   pub nothing_keeps : (e : Event) → ((a b : LivesView R) → LivesOn stands e Nothing a b → b ≡ a) → Does stands e Nothing old new → DoesAtSites Nothing old.sites new.sites → IsCarried stands old new w Nothing
   nothing_keeps e leaves does at_sites =
-      rested Nothing quiet_nothing (λ m l. refl) (λ m x o. refl) (λ i. refl) (lives_stay e Nothing leaves does) (where_standing w.homes w.run w.right) tt tt tt (λ s. same_true s (records_in s new.sites) (at_sites.records s))
+      rested Nothing quiet_nothing (λ m l. refl) (λ m x o. refl) (λ i. (refl, λ s image. refl)) (lives_stay e Nothing leaves does) (where_standing w.told.homes w.told.run w.told.right) tt tt tt (λ s. same_true s (records_in s new.sites) (at_sites.records s))
 
   pub waited_keeps : (e : Event) → ((a b : LivesView R) → LivesOn stands e Waited a b → b ≡ a) → Does stands e Waited old new → DoesAtSites Waited old.sites new.sites → IsCarried stands old new w Waited
   waited_keeps e leaves does at_sites =
-      rested Waited quiet_waited (λ m l. refl) (λ m x o. refl) (λ i. refl) (lives_stay e Waited leaves does) (where_standing w.homes w.run w.right) tt tt tt (λ s. same_true s (records_in s new.sites) (at_sites.records s))
+      rested Waited quiet_waited (λ m l. refl) (λ m x o. refl) (λ i. (refl, λ s image. refl)) (lives_stay e Waited leaves does) (where_standing w.told.homes w.told.run w.told.right) tt tt tt (λ s. same_true s (records_in s new.sites) (at_sites.records s))
 
   -- ---- the store trims an object that is there
 
   trim_due : (s : SiteId) (image object : ℕ) → is_some ((records_in s old.sites).objects image object) ≡ true
-      → IsTrimmed s (next_number (site_in s old.sites)) image object w.run
+      → IsTrimmed s (next_number (site_in s old.sites)) image object w.told.run
   trim_due s image object there = record {
-    is_number = ap (λ ds. length ds + 1) (w.logs s);
-    there = sym (ap (λ (x : Records). is_some (x.objects image object)) (w.records s)) ∙ there;
+    is_number = ap (λ ds. length ds + 1) (w.told.logs s);
+    there = sym (ap (λ (x : Records). is_some (x.objects image object)) (w.told.records s)) ∙ there;
   }
 
   pub trimmed_keeps : (e : Event) (site : SiteId) (image object : ℕ) → is_some ((records_in site old.sites).objects image object) ≡ true
@@ -178,16 +177,16 @@ module _ {R : Type 0} (stands : R → Standing) (old new : WorldView R) (w : IsS
       → Does stands e (Trimmed site (next_number (site_in site old.sites)) image object) old new
       → DoesAtSites (Trimmed site (next_number (site_in site old.sites)) image object) old.sites new.sites → IsCarried stands old new w (Trimmed site (next_number (site_in site old.sites)) image object)
   trimmed_keeps e site image object is_there leaves does at_sites =
-      rested (Trimmed site number image object) (λ line. quiet_trimmed line site number image object) (λ m l. refl) (λ m x o. refl) (λ i. refl) (lives_stay e (Trimmed site number image object) leaves does)
-      (λ s. stands_there s (same_site site s) (where_standing w.homes w.run w.right s)) (trim_due site image object is_there) tt tt
+      rested (Trimmed site number image object) (λ line. quiet_trimmed line site number image object) (λ m l. refl) (λ m x o. refl) (λ i. (refl, λ s image. refl)) (lives_stay e (Trimmed site number image object) leaves does)
+      (λ s. stands_there s (same_site site s) (where_standing w.told.homes w.told.run w.told.right s)) (trim_due site image object is_there) tt tt
       (λ s. subst (StaysTrue s) (sym (at_sites.records s)) (true_there s (same_site site s)))
     where
       number : ℕ
       number = next_number (site_in site old.sites)
 
-      stands_there : (s : SiteId) (b : Bool) → StandsFor [] (records_after s w.run) (flat_after s w.run)
-          → StandsFor [] (cond b (trimmed image object (records_after s w.run)) (records_after s w.run)) (flat_after s w.run)
-      stands_there s true stand = trim_stands [] (records_after s w.run) (flat_after s w.run) image object stand
+      stands_there : (s : SiteId) (b : Bool) → StandsFor [] (records_after s w.told.run) (flat_after s w.told.run)
+          → StandsFor [] (cond b (trimmed image object (records_after s w.told.run)) (records_after s w.told.run)) (flat_after s w.told.run)
+      stands_there s true stand = trim_stands [] (records_after s w.told.run) (flat_after s w.told.run) image object stand
       stands_there s false stand = stand
 
       true_there : (s : SiteId) (b : Bool) → StaysTrue s (cond b (trimmed image object (records_in s old.sites)) (records_in s old.sites))
@@ -201,22 +200,22 @@ module _ {R : Type 0} (stands : R → Standing) (old new : WorldView R) (w : IsS
       → Does stands e (Expired site (next_number (site_in site old.sites)) image who) old new
       → DoesAtSites (Expired site (next_number (site_in site old.sites)) image who) old.sites new.sites → IsCarried stands old new w (Expired site (next_number (site_in site old.sites)) image who)
   expired_keeps e site image who oldest leaves does at_sites =
-      rested (Expired site number image who) (λ line. quiet_expired line site number image who) (λ m l. refl) (λ m x o. refl) (λ i. refl) (lives_stay e (Expired site number image who) leaves does)
-      (λ s. stands_there s (same_site site s) (where_standing w.homes w.run w.right s)) due tt tt
+      rested (Expired site number image who) (λ line. quiet_expired line site number image who) (λ m l. refl) (λ m x o. refl) (λ i. (refl, λ s image. refl)) (lives_stay e (Expired site number image who) leaves does)
+      (λ s. stands_there s (same_site site s) (where_standing w.told.homes w.told.run w.told.right s)) due tt tt
       (λ s. subst (StaysTrue s) (sym (at_sites.records s)) (true_there s (same_site site s)))
     where
       number : ℕ
       number = next_number (site_in site old.sites)
 
-      due : IsExpired site number image who w.run
+      due : IsExpired site number image who w.told.run
       due = record {
-        is_number = ap (λ ds. length ds + 1) (w.logs site);
-        oldest = sym (ap (λ (x : Records). oldest_of who.session (x.watchers image)) (w.records site)) ∙ oldest;
+        is_number = ap (λ ds. length ds + 1) (w.told.logs site);
+        oldest = sym (ap (λ (x : Records). oldest_of who.session (x.watchers image)) (w.told.records site)) ∙ oldest;
       }
 
-      stands_there : (s : SiteId) (b : Bool) → StandsFor [] (records_after s w.run) (flat_after s w.run)
-          → StandsFor [] (cond b (expired image who (records_after s w.run)) (records_after s w.run)) (flat_after s w.run)
-      stands_there s true stand = expired_stands [] (records_after s w.run) (flat_after s w.run) image (Some who) stand
+      stands_there : (s : SiteId) (b : Bool) → StandsFor [] (records_after s w.told.run) (flat_after s w.told.run)
+          → StandsFor [] (cond b (expired image who (records_after s w.told.run)) (records_after s w.told.run)) (flat_after s w.told.run)
+      stands_there s true stand = expired_stands [] (records_after s w.told.run) (flat_after s w.told.run) image (Some who) stand
       stands_there s false stand = stand
 
       true_there : (s : SiteId) (b : Bool) → StaysTrue s (cond b (expired image who (records_in s old.sites)) (records_in s old.sites))

@@ -27,7 +27,6 @@ use Rattle.rbd_world.proofs.OrderedWorld.{none_in_order, order_on}
 use Rattle.rbd_world.proofs.Quiet.{quiet_restarted}
 use Rattle.rbd_world.proofs.Rest.{StaysTrue, same_true, still_may_come, where_standing}
 use Rattle.rbd_world.proofs.Slots.{open_back, same_slots}
-use Rattle.rbd_world.proofs.Watching.{takes_on}
 
 -- it begins a life of its own session alone
 pub begins_elsewhere : (who : Instance) (m : ℕ) (l : Life) → m ≢ who.session → life_behind m (Restarted who) l ≡ l
@@ -52,8 +51,8 @@ module _ {R : Type 0} (stands : R → Standing) (old new : WorldView R) (w : IsS
   abbrev h : Happening
   h = Restarted next
 
-  mine : AreLivesOf w.run (w.homes session) session l
-  mine = w.lives session l there
+  mine : AreLivesOf w.told.run (w.told.homes session) session l
+  mine = w.told.lives session l there
 
   stays : (s : SiteId) → StaysTrue stands old new w s (records_in s new.sites)
   stays s = same_true stands old new w s (records_in s new.sites) (at_sites.records s)
@@ -61,13 +60,13 @@ module _ {R : Type 0} (stands : R → Standing) (old new : WorldView R) (w : IsS
   still_elsewhere : (m : ℕ) → m ≢ session → (x : Life) → life_behind m h x ≡ x
   still_elsewhere m differ x = begins_elsewhere next m x (λ same. differ (same ∙ mine.whose))
 
-  begun_here : (m : ℕ) → l.latest.session ≡ m → life_after m (h ∷ w.run) ≡ record { number = next.life; runs = true }
-  begun_here m same = ap (λ b. cond b (record { number = next.life; runs = true }) (life_after m w.run)) (eq-eqb l.latest.session m same)
+  begun_here : (m : ℕ) → l.latest.session ≡ m → life_after m (h ∷ w.told.run) ≡ record { number = next.life; runs = true }
+  begun_here m same = ap (λ b. cond b (record { number = next.life; runs = true }) (life_after m w.told.run)) (eq-eqb l.latest.session m same)
 
-  due : IsRestart next w.run
+  due : IsRestart next w.told.run
   due = record {
     latest = l.latest.life;
-    stopped = ap (λ i. life_after i w.run) mine.whose ∙ mine.life ∙ ap (λ o. record { number = l.latest.life; runs = is_some o }) none;
+    stopped = ap (λ i. life_after i w.told.run) mine.whose ∙ mine.life ∙ ap (λ o. record { number = l.latest.life; runs = is_some o }) none;
     next = refl;
   }
 
@@ -103,10 +102,10 @@ module _ {R : Type 0} (stands : R → Standing) (old new : WorldView R) (w : IsS
           subst (λ i. line_at i x new.lives ≡ line_at i x old.lives) (sym same)
           (ap (λ o. script_line (held_of x (session_of o))) client_here ∙ ap script_line (born.fresh.slots x) ∙ sym (ap (λ o. script_line (held_of x (session_of o))) gone))
 
-  lives_now : (m : ℕ) (k : LivesView R) → lives_in m new.lives ≡ Some k → AreLivesOf (h ∷ w.run) (w.homes m) m k
+  lives_now : (m : ℕ) (k : LivesView R) → lives_in m new.lives ≡ Some k → AreLivesOf (h ∷ w.told.run) (w.told.homes m) m k
   lives_now m k is = by (same_or_other m session)
     where
-      here : AreLivesOf (h ∷ w.run) (w.homes session) session born.behind
+      here : AreLivesOf (h ∷ w.told.run) (w.told.homes session) session born.behind
       here = record {
         home_is = born.home ∙ mine.home_is;
         whose = ap (λ (i : Instance). i.session) born.latest ∙ mine.whose;
@@ -126,11 +125,11 @@ module _ {R : Type 0} (stands : R → Standing) (old new : WorldView R) (w : IsS
               below_next : (n k : ℕ) → n ≤ k → n < k + 1
               below_next n k least = omega (arith, least)
 
-      by : (m ≡ session) ⊎ (m ≢ session) → AreLivesOf (h ∷ w.run) (w.homes m) m k
-      by (inr differ) = lives_still stands (w.homes m) m h w.run (still_elsewhere m differ) k (w.lives m k (sym (others m differ) ∙ is))
+      by : (m ≡ session) ⊎ (m ≢ session) → AreLivesOf (h ∷ w.told.run) (w.told.homes m) m k
+      by (inr differ) = lives_still stands (w.told.homes m) m h w.told.run (still_elsewhere m differ) k (w.told.lives m k (sym (others m differ) ∙ is))
       by (inl same) =
-          subst (λ i. AreLivesOf (h ∷ w.run) (w.homes i) i k) (sym same)
-          (subst (AreLivesOf (h ∷ w.run) (w.homes session) session) (same_Some born.behind k (sym born.is ∙ ap (λ i. lives_in i new.lives) (sym same) ∙ is)) here)
+          subst (λ i. AreLivesOf (h ∷ w.told.run) (w.told.homes i) i k) (sym same)
+          (subst (AreLivesOf (h ∷ w.told.run) (w.told.homes session) session) (same_Some born.behind k (sym born.is ∙ ap (λ i. lives_in i new.lives) (sym same) ∙ is)) here)
 
   -- ---- what is known then
 
@@ -151,16 +150,16 @@ module _ {R : Type 0} (stands : R → Standing) (old new : WorldView R) (w : IsS
       by (inr differ) =
           Same (ap (λ b. cond b next (w.who (InSlot m x))) (ne_eqb m session differ)) (ap (λ b. cond b nothing_known (w.knows (InSlot m x))) (ne_eqb m session differ))
 
-  clients_now : (m : ℕ) (q : ClientView R) → client_in m new.lives ≡ Some q → (m ≡ session) ⊎ (m ≢ session) → IsLiving stands (w.homes m) m (h ∷ w.run) (known_but w.knows session m) q
+  clients_now : (m : ℕ) (q : ClientView R) → client_in m new.lives ≡ Some q → (m ≡ session) ⊎ (m ≢ session) → IsLiving stands (w.told.homes m) m (h ∷ w.told.run) (known_but w.knows session m) q
   clients_now m q is (inr differ) =
-      subst (λ k. IsLiving stands (w.homes m) m (h ∷ w.run) k q) (sym (known_there w.knows session m differ))
-      (living_still stands (w.homes m) m h w.run (still_elsewhere m differ) (known_in w.knows m) q (λ x line at. quiet_restarted line next)
-      (other_instance next q.session.instance (λ same. differ (sym (w.clients m q (was m q differ is)).whose ∙ sym same ∙ mine.whose))) (w.clients m q (was m q differ is)))
+      subst (λ k. IsLiving stands (w.told.homes m) m (h ∷ w.told.run) k q) (sym (known_there w.knows session m differ))
+      (living_still stands (w.told.homes m) m h w.told.run (still_elsewhere m differ) (known_in w.knows m) q (λ x line at. quiet_restarted line next)
+      (other_instance next q.session.instance (λ same. differ (sym (w.clients m q (was m q differ is)).whose ∙ sym same ∙ mine.whose)), λ s image. refl) (w.clients m q (was m q differ is)))
   clients_now m q is (inl same) =
-      subst (λ i. IsLiving stands (w.homes i) i (h ∷ w.run) (known_but w.knows session i) q) (sym same)
-      (subst (λ k. IsLiving stands (w.homes session) session (h ∷ w.run) k q) (sym (nothing_here w.knows session))
-      (subst (IsLiving stands (w.homes session) session (h ∷ w.run) (λ x. nothing_known)) (is_it m q same is)
-      (fresh_living stands next l.home born.client born.fresh (w.homes session) session (h ∷ w.run) mine.whose mine.home_is (begun_here next.session refl) (moved_releases next h w.run (same_instance_itself next)))))
+      subst (λ i. IsLiving stands (w.told.homes i) i (h ∷ w.told.run) (known_but w.knows session i) q) (sym same)
+      (subst (λ k. IsLiving stands (w.told.homes session) session (h ∷ w.told.run) k q) (sym (nothing_here w.knows session))
+      (subst (IsLiving stands (w.told.homes session) session (h ∷ w.told.run) (λ x. nothing_known)) (is_it m q same is)
+      (fresh_living stands next l.home born.client born.fresh (w.told.homes session) session (h ∷ w.told.run) mine.whose mine.home_is (begun_here next.session refl) (moved_releases next h w.told.run (same_instance_itself next)))))
 
   truth_now : (m : ℕ) (q : ClientView R) → client_in m new.lives ≡ Some q → (s : SiteId) → (m ≡ session) ⊎ (m ≢ session)
       → IsTrueOf s (records_in s new.sites) q.session.instance (known_but w.knows session m) q
@@ -183,18 +182,18 @@ module _ {R : Type 0} (stands : R → Standing) (old new : WorldView R) (w : IsS
   nobody_now m is x (inr differ) =
       ap (λ b. cond b nothing_known (w.knows (InSlot m x))) (ne_eqb m session differ) ∙ w.nobody m (sym (ap running_of (others m differ)) ∙ is) x
 
-  order_now : (m : ℕ) (q : ClientView R) → client_in m new.lives ≡ Some q → (m ≡ session) ⊎ (m ≢ session) → IsInOrder stands (w.homes m) q.session.instance (h ∷ w.run) q.session
+  order_now : (m : ℕ) (q : ClientView R) → client_in m new.lives ≡ Some q → (m ≡ session) ⊎ (m ≢ session) → IsInOrder stands (w.told.homes m) q.session.instance (h ∷ w.told.run) q.session
   order_now m q is (inr differ) = order_on stands old new w h due m q (was m q differ is) (λ x line at. quiet_restarted line next) (λ other writer. refl)
   order_now m q is (inl same) =
-      subst (λ (v : ClientView R). IsInOrder stands (w.homes m) v.session.instance (h ∷ w.run) v.session) (is_it m q same is)
-      (none_in_order stands (w.homes m) born.client.session.instance (h ∷ w.run) born.client.session (fresh_runs_none stands next l.home born.client born.fresh))
+      subst (λ (v : ClientView R). IsInOrder stands (w.told.homes m) v.session.instance (h ∷ w.told.run) v.session) (is_it m q same is)
+      (none_in_order stands (w.told.homes m) born.client.session.instance (h ∷ w.told.run) born.client.session (fresh_runs_none stands next l.home born.client born.fresh))
 
   reborn_keeps : IsCarried stands old new w h
   reborn_keeps = record {
     who = who_then;
     knows = knows_then;
     carries = record {
-      standing = where_standing w.homes w.run w.right;
+      standing = where_standing w.told.homes w.told.run w.told.right;
       due = due;
       whole = λ s. (stays s).whole (whole_in stands old w s);
       lives = lives_now;
@@ -202,7 +201,7 @@ module _ {R : Type 0} (stands : R → Standing) (old new : WorldView R) (w : IsS
       in_slots = λ m x q is. slot_now m x q is (same_or_other m session);
       nobody = λ m is x. nobody_now m is x (same_or_other m session);
       apart = λ line m x other y one two. w.apart line m x other y (sym (line_same m x) ∙ one) (sym (line_same other y) ∙ two);
-      slots = λ line begun. same_slots old.lives new.lives line_same line (w.slots line (open_back line h w.run (quiet_restarted line next) begun));
+      slots = λ line begun. same_slots old.lives new.lives line_same line (w.slots line (open_back line h w.told.run (quiet_restarted line next) begun));
       truth = λ m q is s. truth_now m q is s (same_or_other m session);
       late = λ m x. late_same m x ∙ w.late m x;
       sending = λ m x y is.
@@ -210,10 +209,9 @@ module _ {R : Type 0} (stands : R → Standing) (old new : WorldView R) (w : IsS
           (before.0, still_may_come stands old new w (λ s. records_in s new.sites) stays m y _ before.1);
       unsent = λ m x is. w.unsent m x (sym (late_same m x) ∙ is);
       drops = λ m x z y differ is. w.drops m x z y differ (sym (late_same m x) ∙ is);
-      takes = λ m x y is. takes_on y.instance y.site y.op h w.run (w.takes m x y (sym (late_same m x) ∙ is));
       beside = beside_still w.who who_then w.knows knows_then (λ s. records_in s new.sites)
           (λ a g apart s. (stays s).beside (w.who a) (w.who g) (w.knows a) (w.knows g) (w.beside a g apart s)) each_is;
-      none_yet = new_still w.who who_then w.knows knows_then (λ s image. HadNoHeader s image w.run) w.new each_is;
+      none_yet = new_still w.who who_then w.knows knows_then (λ s image. HadNoHeader s image w.told.run) w.new each_is;
       owes = tt;
       turn = tt;
       in_order = λ m q is. order_now m q is (same_or_other m session);

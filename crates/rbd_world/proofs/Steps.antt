@@ -32,6 +32,7 @@ use Rattle.rbd_world.proofs.Hearing.{heard_keeps}
 use Rattle.rbd_world.proofs.Newcomer.{began_keeps}
 use Rattle.rbd_world.proofs.OnWay.{way_keeps}
 use Rattle.rbd_world.proofs.Operated.{did_keeps}
+use Rattle.rbd_world.proofs.OwningNow.{IsBy, IsByItsClient, polled_by_it}
 use Rattle.rbd_world.proofs.Refusal.{refused_keeps}
 use Rattle.rbd_world.proofs.Releasing.{release_keeps}
 use Rattle.rbd_world.proofs.Rest.{expired_keeps, nothing_keeps, trimmed_keeps, waited_keeps}
@@ -216,8 +217,12 @@ module _ {R : Type 0} (stands : R → Standing) (old new : WorldView R) (w : IsS
   any (event.Restart session) built = restart_of session (lives_in session old.lives) refl
   any (event.Trim s image object) built = trim s image object
 
+by_client : {R : Type 0} (stands : R → Standing) (e : Event) (w : WorldView R) → IsByItsClient w e (happening stands e w)
+by_client stands (event.Poll session slot) w = λ c is. subst (λ o. IsBy c.session.instance (polled stands w.sites slot o)) (sym is) (polled_by_it stands slot w.sites c)
+by_client stands _ w = tt
+
 pub steps_keep : {R : Type 0} (stands : R → Standing) (e : Event) (old new : WorldView R) → IsSoundWorld stands old → IsBuiltEvent e
     → Does stands e (happening stands e old) old new → DoesAtSites (happening stands e old) old.sites new.sites
     → ((session : ℕ) → IsSoundIf stands (client_in session new.lives)) → IsSoundWorld stands new
 steps_keep stands e old new w built does at_sites sound =
-    carried stands e (happening stands e old) old new w (of_event stands e old w) does at_sites (any stands old new w sound e built does at_sites)
+    carried stands e (happening stands e old) old new w (of_event stands e old w) (by_client stands e old) does at_sites (any stands old new w sound e built does at_sites)

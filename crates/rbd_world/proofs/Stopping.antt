@@ -38,9 +38,8 @@ use Rattle.rbd_machine.specs.Standalone.{TellAllStandalone}
 use Rattle.rbd_machine.specs.declared.seat.Seat.{Seat}
 use Rattle.rbd_world.specs.Seats.{seat_at}
 use Rattle.rbd_world.specs.Past.{HadNoHeader}
-use Rattle.rbd_world.specs.Sound.{AreLivesOf, AreStrangers, Holder, InSlot, Sending, IsHeldRightly, IsInSlot, IsLedTo, IsLiving, IsLostOf, IsOpen, IsSoundWorld, IsStop, MayStillCome, held_of, known_in, line_at}
+use Rattle.rbd_world.specs.Sound.{AreLivesOf, AreStrangers, Holder, InSlot, Sending, IsHeldRightly, IsInSlot, IsLedTo, IsLiving, IsLostOf, IsOpen, IsSoundWorld, IsStop, MayStillCome, held_of, known_in, line_at, SendsRightly, TakesAlone}
 use Rattle.rbd_world.specs.Step.{Does, DoesAtSites, LivesOnIf, lost_by, stopped, wanted_by}
-use Rattle.rbd_world.specs.Watched.{TakesBehindWatch}
 use Rattle.rbd_world.specs.World.{LateView, LivesView, WorldView, client_in, late_at, late_of, lives_in, records_in, running_of, sent_in, session_of}
 use Rattle.rbd_world.proofs.Unborn.{acted_drawn}
 use Rattle.rbd_world.proofs.Acting.{by_no_lock}
@@ -48,13 +47,22 @@ use Rattle.rbd_world.proofs.Carried.{IsCarried, whole_in}
 use Rattle.rbd_world.proofs.Changed.{lives_there, same_or_other}
 use Rattle.rbd_world.proofs.Elsewhere.{beside_as, known_but, known_there, lives_still, living_still, nothing_beside, unknown_looks}
 use Rattle.rbd_world.proofs.LetGo.{other_instance}
+use Rattle.rbd_owner.specs.Acquire.{op_of}
+use Rattle.rbd_owner.specs.declared.acquire.Acquire.{Acquire}
+use Rattle.rbd_session.specs.declared.running.Running.{Running}
+use Rattle.rbd_world.proofs.OnWay.{takes_alone}
+use Rattle.rbd_world.proofs.LeftWanted.{for_whom, left_of, whose_slot}
 use Rattle.rbd_world.proofs.Lost.{among_ascending, are_distinct, ascending_increases, found_from, is_found, lines_in}
 use Rattle.rbd_world.proofs.OrderedWorld.{order_on}
 use Rattle.rbd_world.proofs.Quiet.{IsQuiet, quiet_stopped}
 use Rattle.rbd_world.proofs.Rest.{StaysTrue, same_true, still_may_come, where_standing}
 use Rattle.rbd_world.proofs.Slots.{not_open, open_back}
 use Rattle.rbd_world.proofs.TakesNone.{wanted_behind_watch}
-use Rattle.rbd_world.proofs.Watching.{takes_on}
+use Rattle.rbd_world.proofs.Unowned.{open_unowned}
+use Rattle.rbd_close.specs.Close.{unwatch}
+use Rattle.rbd_owner.specs.Steps.{lock_take}
+use Rattle.rbd_world.proofs.Closing.{none_takes_beside, who_unwatches}
+use Rattle.rbd_world.proofs.OwnersWatch.{owner_of}
 
 -- ---- what each slot wanted
 
@@ -136,11 +144,11 @@ module _ {R : Type 0} (stands : R → Standing) (old new : WorldView R) (w : IsS
   abbrev knew : ℕ → Knowledge
   knew = known_in w.knows session
 
-  living : IsLiving stands (w.homes session) session w.run knew c
+  living : IsLiving stands (w.told.homes session) session w.told.run knew c
   living = w.clients session c there
 
-  mine : AreLivesOf w.run (w.homes session) session l
-  mine = w.lives session l was_there
+  mine : AreLivesOf w.told.run (w.told.homes session) session l
+  mine = w.told.lives session l was_there
 
   stays : (s : SiteId) → StaysTrue stands old new w s (records_in s new.sites)
   stays s = same_true stands old new w s (records_in s new.sites) (at_sites.records s)
@@ -166,13 +174,13 @@ module _ {R : Type 0} (stands : R → Standing) (old new : WorldView R) (w : IsS
   in_slot line is =
       let found = found_from line_of 0 65 line (sym (among_ascending line (lines_in line_of (range_with_len 0 65))) ∙ is) in (found.slot, found.is)
 
-  lost_in : (m x line : ℕ) (q : ClientView R) → client_in m old.lives ≡ Some q → script_line (held_in x q.session.slots) ≡ Some line → IsLostOf w.homes q.session.instance line w.run
+  lost_in : (m x line : ℕ) (q : ClientView R) → client_in m old.lives ≡ Some q → script_line (held_in x q.session.slots) ≡ Some line → IsLostOf w.told.homes q.session.instance line w.told.run
   lost_in m x line q is at =
       let lives = w.clients m q is in
-      lost_of stands w.homes (seat_at w.homes m) q.session.instance w.run (held_in x q.session.slots) line (ap (seat_at w.homes) lives.whose) at (lives.held x)
+      lost_of stands w.told.homes (seat_at w.told.homes m) q.session.instance w.told.run (held_in x q.session.slots) line (ap (seat_at w.told.homes) lives.whose) at (lives.held x)
 
   -- whoever began a line is in its slot's session
-  whose_line : (m x line : ℕ) (asked : Asked) → line_at m x old.lives ≡ Some line → asked_by line w.run ≡ Some asked → asked.who.session ≡ m
+  whose_line : (m x line : ℕ) (asked : Asked) → line_at m x old.lives ≡ Some line → asked_by line w.told.run ≡ Some asked → asked.who.session ≡ m
   whose_line m x line asked at is = by (client_in m old.lives) refl at
     where
       by : (o : Option (ClientView R)) → client_in m old.lives ≡ o → script_line (held_of x (session_of o)) ≡ Some line → asked.who.session ≡ m
@@ -182,7 +190,29 @@ module _ {R : Type 0} (stands : R → Standing) (old new : WorldView R) (w : IsS
           ap (λ (a : Asked). a.who.session) (same_Some asked theirs.begun.asked (sym is ∙ theirs.begun.is)) ∙ ap (λ (i : Instance). i.session) theirs.mine
           ∙ (w.clients m q runs).whose
 
-  due : IsStop w.homes who lost w.run
+  in_one : (line x y : ℕ) → line_of x ≡ Some line → line_of y ≡ Some line → x ≡ y
+  in_one line x y one two = (w.apart line session x session y (at_session x ∙ one) (at_session y ∙ two)).1
+
+  -- what its slots want
+  wants_it : (slot : ℕ) (s : SiteId) (o : Op) → held_in slot (wanted_by stands c) ≡ Some (s, o) → op_wanted stands slot c ≡ Some (s, o)
+  wants_it slot s o is = wanted_at (λ x. op_wanted stands x c) 65 slot (s, o) is
+
+  sends : SendsRightly who (wanted_by stands c) w.told.run
+  sends = record {
+    takes = λ slot s o is. wanted_behind_watch stands (seat_at w.told.homes session) slot c who w.told.run living.watches (living.held slot) s o (wants_it slot s o is);
+    unowned = λ slot s image is lock.
+        let u = who_unwatches stands c living.sound (seat_at w.told.homes session) who w.told.run living.held living.first slot s image (wants_it slot s (unwatch image) is) in
+        let way = subst (IsHeldRightly stands (seat_at w.told.homes session) who w.told.run) u.is (living.held slot) in
+        open_unowned w.told.homes u.request.line s image w.told.run w.told.right way.begun u.gone (ap owner_of lock.there ∙ lock.owner ∙ ap Some (sym way.mine));
+    lone = λ slot there s image ends takes.
+        none_takes_beside stands c living.sound (seat_at w.told.homes session) who w.told.run living.held living.first slot there s image (wants_it slot s (unwatch image) ends)
+        (wants_it there s (lock_take image) takes);
+  }
+
+  alone : (x : ℕ) (r : Running R) → held_in x c.session.slots ≡ Some (occupant.Running r) → (a : Acquire) → actor_at stands x c ≡ actor.Way a → TakesAlone who a.site (op_of a) w.told.run
+  alone x r holds a acts = takes_alone stands old new w session x c there r holds a acts
+
+  due : IsStop w.told.homes who (wanted_by stands c) lost w.told.run
   due = record {
     runs = living.runs;
     each = λ line is. let (x, at) = in_slot line is in lost_in session x line c there at;
@@ -191,7 +221,12 @@ module _ {R : Type 0} (stands : R → Standing) (old new : WorldView R) (w : IsS
         let same : found.session ≡ session = sym (whose_line found.session found.slot line begun.asked found.is begun.is) ∙ ap (λ (i : Instance). i.session) own ∙ living.whose in
         is_lost found.slot line (sym (at_session found.slot) ∙ ap (λ i. line_at i found.slot old.lives) (sym same) ∙ found.is);
     ascends = ascending_increases (lines_in line_of (range_with_len 0 65))
-        (are_distinct line_of (λ x y line one two. (w.apart line session x session y (at_session x ∙ one) (at_session y ∙ two)).1) 0 65);
+        (are_distinct line_of (λ x y line one two. in_one line x y one two) 0 65);
+    by = for_whom stands w.told.homes session w.told.run knew c living lost is_lost alone;
+    left = λ x p is. left_of stands w.told.homes session w.told.run knew c living lost is_lost alone x p (wanted_at (λ slot. op_wanted stands slot c) 65 x p is);
+    apart = λ line x y one two.
+        in_one line x y (whose_slot stands w.told.homes session w.told.run knew c living lost is_lost alone line x one) (whose_slot stands w.told.homes session w.told.run knew c living lost is_lost alone line y two);
+    sends = sends;
   }
 
   -- ---- who is elsewhere
@@ -229,20 +264,20 @@ module _ {R : Type 0} (stands : R → Standing) (old new : WorldView R) (w : IsS
   quiet_of : (m : ℕ) (q : ClientView R) → m ≢ session → client_in m old.lives ≡ Some q → (x line : ℕ) → script_line (held_in x q.session.slots) ≡ Some line → IsQuiet line h
   quiet_of m q differ is x line at = quiet_at m x line differ (ap (λ o. script_line (held_of x (session_of o))) is ∙ at)
 
-  slots_now : (line : ℕ) → IsOpen line (h ∷ w.run) → IsInSlot line new.lives
+  slots_now : (line : ℕ) → IsOpen line (h ∷ w.told.run) → IsInSlot line new.lives
   slots_now line begun = by (is_among line lost) refl
     where
       by : (b : Bool) → is_among line lost ≡ b → IsInSlot line new.lives
-      by true is = absurd (not_open line h w.run is begun)
+      by true is = absurd (not_open line h w.told.run is begun)
       by false is =
-          let found = w.slots line (open_back line h w.run (quiet_stopped line who (wanted_by stands c) lost is) begun) in
+          let found = w.slots line (open_back line h w.told.run (quiet_stopped line who (wanted_by stands c) lost is) begun) in
           go found (same_or_other found.session session)
         where
           go : (found : IsInSlot line old.lives) → (found.session ≡ session) ⊎ (found.session ≢ session) → IsInSlot line new.lives
           go found (inr differ) = record { session = found.session; slot = found.slot; is = line_elsewhere found.session found.slot differ ∙ found.is }
           go found (inl same) =
               absurd
-              (not_open line h w.run (is_lost found.slot line (sym (at_session found.slot) ∙ ap (λ i. line_at i found.slot old.lives) (sym same) ∙ found.is)) begun)
+              (not_open line h w.told.run (is_lost found.slot line (sym (at_session found.slot) ∙ ap (λ i. line_at i found.slot old.lives) (sym same) ∙ found.is)) begun)
 
   -- ---- lives
 
@@ -250,15 +285,15 @@ module _ {R : Type 0} (stands : R → Standing) (old new : WorldView R) (w : IsS
   still_elsewhere m differ x =
       ap (λ b. cond b (record { number = x.number; runs = false }) x) (ne_eqb who.session m (λ same. differ (sym same ∙ living.whose)))
 
-  lives_now : (m : ℕ) (k : LivesView R) → lives_in m new.lives ≡ Some k → AreLivesOf (h ∷ w.run) (w.homes m) m k
+  lives_now : (m : ℕ) (k : LivesView R) → lives_in m new.lives ≡ Some k → AreLivesOf (h ∷ w.told.run) (w.told.homes m) m k
   lives_now m k is = by (same_or_other m session)
     where
-      here : AreLivesOf (h ∷ w.run) (w.homes session) session gone.behind
+      here : AreLivesOf (h ∷ w.told.run) (w.told.homes session) session gone.behind
       here = record {
         home_is = gone.home ∙ mine.home_is;
         whose = ap (λ (i : Instance). i.session) gone.latest ∙ mine.whose;
         life =
-            ap (λ b. cond b (record { number = (life_after session w.run).number; runs = false }) (life_after session w.run)) (eq-eqb who.session session living.whose)
+            ap (λ b. cond b (record { number = (life_after session w.told.run).number; runs = false }) (life_after session w.told.run)) (eq-eqb who.session session living.whose)
             ∙ ap (λ (x : Life). record { number = x.number; runs = false }) mine.life ∙ ap (λ (i : Instance). record { number = i.life; runs = false }) (sym gone.latest)
             ∙ ap (λ o. record { number = gone.behind.latest.life; runs = is_some o }) (sym gone.runs);
         latest = λ q runs. absurd (none-some q (sym gone.runs ∙ runs));
@@ -269,11 +304,11 @@ module _ {R : Type 0} (stands : R → Standing) (old new : WorldView R) (w : IsS
         older = λ v late q runs. absurd (none-some q (sym gone.runs ∙ runs));
       }
 
-      by : (m ≡ session) ⊎ (m ≢ session) → AreLivesOf (h ∷ w.run) (w.homes m) m k
-      by (inr differ) = lives_still stands (w.homes m) m h w.run (still_elsewhere m differ) k (w.lives m k (sym (others m differ) ∙ is))
+      by : (m ≡ session) ⊎ (m ≢ session) → AreLivesOf (h ∷ w.told.run) (w.told.homes m) m k
+      by (inr differ) = lives_still stands (w.told.homes m) m h w.told.run (still_elsewhere m differ) k (w.told.lives m k (sym (others m differ) ∙ is))
       by (inl same) =
-          subst (λ i. AreLivesOf (h ∷ w.run) (w.homes i) i k) (sym same)
-          (subst (AreLivesOf (h ∷ w.run) (w.homes session) session) (same_Some gone.behind k (sym gone.is ∙ ap (λ i. lives_in i new.lives) (sym same) ∙ is)) here)
+          subst (λ i. AreLivesOf (h ∷ w.told.run) (w.told.homes i) i k) (sym same)
+          (subst (AreLivesOf (h ∷ w.told.run) (w.told.homes session) session) (same_Some gone.behind k (sym gone.is ∙ ap (λ i. lives_in i new.lives) (sym same) ∙ is)) here)
 
   -- ---- what is known then
 
@@ -318,14 +353,14 @@ module _ {R : Type 0} (stands : R → Standing) (old new : WorldView R) (w : IsS
   late_at_it : (m x : ℕ) → m ≡ session → late_at m x new.lives ≡ sent_of who (wanted x)
   late_at_it m x same = ap (λ i. late_at i x new.lives) same ∙ late_here x
 
-  late_now : (m x : ℕ) → late_at m x new.lives ≡ sent_after m x (h ∷ w.run)
+  late_now : (m x : ℕ) → late_at m x new.lives ≡ sent_after m x (h ∷ w.told.run)
   late_now m x = by (same_or_other m session)
     where
-      by : (m ≡ session) ⊎ (m ≢ session) → late_at m x new.lives ≡ sent_after m x (h ∷ w.run)
-      by (inl same) = late_at_it m x same ∙ sym (ap (λ b. cond b (sent_of who (wanted x)) (sent_after m x w.run)) (eq-eqb who.session m (living.whose ∙ sym same)))
+      by : (m ≡ session) ⊎ (m ≢ session) → late_at m x new.lives ≡ sent_after m x (h ∷ w.told.run)
+      by (inl same) = late_at_it m x same ∙ sym (ap (λ b. cond b (sent_of who (wanted x)) (sent_after m x w.told.run)) (eq-eqb who.session m (living.whose ∙ sym same)))
       by (inr differ) =
           late_elsewhere m x differ ∙ w.late m x
-          ∙ sym (ap (λ b. cond b (sent_of who (wanted x)) (sent_after m x w.run)) (ne_eqb who.session m (λ same. differ (sym same ∙ living.whose))))
+          ∙ sym (ap (λ b. cond b (sent_of who (wanted x)) (sent_after m x w.told.run)) (ne_eqb who.session m (λ same. differ (sym same ∙ living.whose))))
 
   -- who goes by a header has its lock
   locks_by : (x : ℕ) (s : SiteId) (a : Actor) → KnowsByLock s (records_in s old.sites) who (known_to (knew x) a)
@@ -365,18 +400,6 @@ module _ {R : Type 0} (stands : R → Standing) (old new : WorldView R) (w : IsS
         who_elsewhere m x differ ∙ before.0,
         subst (MayStillCome m (λ s. records_in s new.sites) y) (sym (knows_elsewhere m x differ)) (still_may_come stands old new w (λ s. records_in s new.sites) stays m y _ before.1),
       )
-
-  -- it takes a lock only behind its watch
-  taken_now : (x : ℕ) (y : Sent) (o : Option (SiteId × Op)) → wanted x ≡ o → sent_of who o ≡ Some y → TakesBehindWatch y.instance y.site y.op (h ∷ w.run)
-  taken_now x y None is sent = absurd (none-some y sent)
-  taken_now x y (Some p) is sent =
-      subst (λ (z : Sent). TakesBehindWatch z.instance z.site z.op (h ∷ w.run)) (same_Some _ y sent)
-      (takes_on who p.0 p.1 h w.run
-      (wanted_behind_watch stands (seat_at w.homes session) x c who w.run living.watches (living.held x) p.0 p.1 (wanted_at (λ slot. op_wanted stands slot c) 65 x p is)))
-
-  takes_now : (m x : ℕ) (y : Sent) → late_at m x new.lives ≡ Some y → (m ≡ session) ⊎ (m ≢ session) → TakesBehindWatch y.instance y.site y.op (h ∷ w.run)
-  takes_now m x y is (inl same) = taken_now x y (wanted x) refl (sym (late_at_it m x same) ∙ is)
-  takes_now m x y is (inr differ) = takes_on y.instance y.site y.op h w.run (w.takes m x y (sym (late_elsewhere m x differ) ∙ is))
 
   none_sent : (o : Option (SiteId × Op)) (k : Knowledge) → sent_of who o ≡ None → sends_by o k ≡ nothing_known
   none_sent None k is = refl
@@ -500,13 +523,13 @@ module _ {R : Type 0} (stands : R → Standing) (old new : WorldView R) (w : IsS
 
   -- ---- all of it
 
-  clients_now : (m : ℕ) (q : ClientView R) → client_in m new.lives ≡ Some q → IsLiving stands (w.homes m) m (h ∷ w.run) (known_but w.knows session m) q
+  clients_now : (m : ℕ) (q : ClientView R) → client_in m new.lives ≡ Some q → IsLiving stands (w.told.homes m) m (h ∷ w.told.run) (known_but w.knows session m) q
   clients_now m q is =
       let differ = elsewhere m q is in
       let before = was m q differ is in
-      subst (λ k. IsLiving stands (w.homes m) m (h ∷ w.run) k q) (sym (known_there w.knows session m differ))
-      (living_still stands (w.homes m) m h w.run (still_elsewhere m differ) (known_in w.knows m) q (quiet_of m q differ before)
-      (other_instance who q.session.instance (λ same. differ (sym (w.clients m q before).whose ∙ sym same ∙ living.whose))) (w.clients m q before))
+      subst (λ k. IsLiving stands (w.told.homes m) m (h ∷ w.told.run) k q) (sym (known_there w.knows session m differ))
+      (living_still stands (w.told.homes m) m h w.told.run (still_elsewhere m differ) (known_in w.knows m) q (quiet_of m q differ before)
+      (other_instance who q.session.instance (λ same. differ (sym (w.clients m q before).whose ∙ sym same ∙ living.whose)), λ s image. refl) (w.clients m q before))
 
   truth_now : (m : ℕ) (q : ClientView R) → client_in m new.lives ≡ Some q → (s : SiteId) → IsTrueOf s (records_in s new.sites) q.session.instance (known_but w.knows session m) q
   truth_now m q is s =
@@ -519,7 +542,7 @@ module _ {R : Type 0} (stands : R → Standing) (old new : WorldView R) (w : IsS
   nobody_now m is x (inr differ) =
       ap (λ b. cond b nothing_known (w.knows (InSlot m x))) (ne_eqb m session differ) ∙ w.nobody m (sym (ap running_of (others m differ)) ∙ is) x
 
-  order_now : (m : ℕ) (q : ClientView R) → client_in m new.lives ≡ Some q → IsInOrder stands (w.homes m) q.session.instance (h ∷ w.run) q.session
+  order_now : (m : ℕ) (q : ClientView R) → client_in m new.lives ≡ Some q → IsInOrder stands (w.told.homes m) q.session.instance (h ∷ w.told.run) q.session
   order_now m q is =
       let differ = elsewhere m q is in
       let before = was m q differ is in
@@ -534,10 +557,10 @@ module _ {R : Type 0} (stands : R → Standing) (old new : WorldView R) (w : IsS
       by None drawn = absurd (true≢false (sym drawn))
       by (Some p) drawn = acted_drawn (knew x) (actor_at stands x c) s image drawn
 
-  new_now : (g : Holder) (s : SiteId) (image : ℕ) → is_drawn (knows_then g).drawn s image ≡ true → HadNoHeader s image w.run
+  new_now : (g : Holder) (s : SiteId) (image : ℕ) → is_drawn (knows_then g).drawn s image ≡ true → HadNoHeader s image w.told.run
   new_now g s image drawn = by (whose g)
     where
-      by : Whose g → HadNoHeader s image w.run
+      by : Whose g → HadNoHeader s image w.told.run
       by (Silent none) = absurd (true≢false (sym drawn ∙ ap (λ (k : Knowledge). is_drawn k.drawn s image) none))
       by (Mine x one) =
           w.new (InSlot session x) s image
@@ -549,7 +572,7 @@ module _ {R : Type 0} (stands : R → Standing) (old new : WorldView R) (w : IsS
     who = who_then;
     knows = knows_then;
     carries = record {
-      standing = where_standing w.homes w.run w.right;
+      standing = where_standing w.told.homes w.told.run w.told.right;
       due = due;
       whole = λ s. (stays s).whole (whole_in stands old w s);
       lives = lives_now;
@@ -563,7 +586,6 @@ module _ {R : Type 0} (stands : R → Standing) (old new : WorldView R) (w : IsS
       sending = λ m x y is. sending_now m x y is (same_or_other m session);
       unsent = λ m x is. unsent_now m x is (same_or_other m session);
       drops = λ m x y z differ is r. drops_now m x y z differ is r (same_or_other m session);
-      takes = λ m x y is. takes_now m x y is (same_or_other m session);
       beside = beside_now;
       none_yet = new_now;
       owes = tt;

@@ -1,56 +1,37 @@
 -- A command that begins, as the client tells it and as the world does.
-use Rattle.std.proofs.Common.{◌≡◌, ◌≢◌, ◌||◌, ℕ, Bool, false, cond, Option, Some, None, sym, ap, ◌∙◌, subst}
+use Rattle.std.proofs.Common.{◌≡◌, ◌≢◌, ◌||◌, ℕ, Bool, false, cond, Some, sym, ap, ◌∙◌, subst}
 use Rattle.std.specs.Prelude.{nat_lt}
 use Rattle.rbd_client.specs.Client.{ClientView, newcomer, state_in}
 use Rattle.rbd_commands.specs.declared.command.Command.{Command}
 use Rattle.rbd_commands.specs.declared.quiescing.Quiescing.{Quiescing}
 use Rattle.rbd_commands.specs.Quiescing.{quiescing_of}
-use Rattle.rbd_machine.specs.Plan.{Standing}
 use Rattle.rbd_requests.specs.declared.request.SessionRequest.{SessionRequest}
-use Rattle.rbd_requests.specs.declared.work.Work.TheVariants as work
 use Rattle.rbd_requests.specs.Served.{IsPlanFor}
-use Rattle.rbd_requests.specs.Session.{StandsFor, extent_for, stands_of}
+use Rattle.rbd_requests.specs.Session.{stands_of}
 use Rattle.rbd_requests.specs.Touched.{extent_of}
-use Rattle.rbd_session.specs.declared.running.Occupant.{Occupant}
-use Rattle.rbd_session.specs.declared.running.Occupant.TheVariants as occupant
-use Rattle.rbd_machine.specs.declared.seat.Seat.{Seat}
 use Rattle.rbd_session.specs.Session.{IsNewcomer, held_in, seat_of}
 use Rattle.rbd_world.specs.declared.event.Event.TheVariants as event
 use Rattle.rbd_world.specs.Run.{Nothing, Began}
 use Rattle.rbd_world.specs.Step.{Becomes, begins_of, submitted}
 
-module _ {E : Type 0} (extra : E → Standing) where
-  -- a command's work stands where its plan begins, and changes its extent
-  newcomer_of : (seat : Seat) (line : ℕ) (c : Command) (o : Option (Occupant (SessionRequest E)))
-      → IsNewcomer (stands_of extra) (StandsFor extra) extent_for seat line (work.Plain c) o → IsNewcomer (stands_of extra) IsPlanFor extent_of seat line c o
-  newcomer_of seat line c None n = n
-  newcomer_of seat line c (Some (occupant.Refused number refusal)) n = n
-  newcomer_of seat line c (Some (occupant.Running r)) n = record {
-    is_line = n.is_line;
-    stands_there = n.stands_there;
-    asks = n.asks;
-    extent = n.extent;
-    place = n.place;
-    turn = n.turn;
-  }
-
-  pub begins : (session line : ℕ) (c copy : Command) → copy ≡ c → (begun : Bool) → begun ≡ false → (old new : ClientView (SessionRequest E)) → nat_lt 64 old.session.lowest ≡ false
-      → IsNewcomer (stands_of extra) (StandsFor extra) extent_for (seat_of old.session) line (work.Plain copy) (held_in old.session.lowest new.session.slots)
-      → (q : Quiescing) → q ≡ quiescing_of c → state_in old.session.lowest new.slots ≡ newcomer q
-      → ((slot : ℕ) → slot ≢ old.session.lowest → (held_in slot new.session.slots ≡ held_in slot old.session.slots) × (state_in slot new.slots ≡ state_in slot old.slots))
-      → new.session.lines ≡ old.session.lines
-      → (new.session.instance ≡ old.session.instance) × (new.session.home ≡ old.session.home) × (new.locks ≡ old.locks) × (new.release ≡ old.release) × (new.heard ≡ old.heard)
-      → Becomes (stands_of extra) (event.Submit session line c) (submitted begun line c (Some old)) old new
-  begins session line c copy same begun first old new room held q q_is state others lines rest =
-      subst (λ b. Becomes (stands_of extra) (event.Submit session line c) (cond b Nothing (Began (begins_of old.session.instance line c) old.session.lowest)) old new) (sym (ap (λ f. f || nat_lt 64 old.session.lowest) first ∙ room))
-      (record {
-        begins = record {
-          held = newcomer_of (seat_of old.session) line c (held_in old.session.lowest new.session.slots) (subst (λ w. IsNewcomer (stands_of extra) (StandsFor extra) extent_for (seat_of old.session) line (work.Plain w) (held_in old.session.lowest new.session.slots)) same held);
-          slots = λ slot apart. (others slot apart).0;
-          lines = lines;
-          client = record { instance = rest.0; home = rest.1 };
-        };
-        state = state ∙ ap newcomer q_is;
-        states = λ slot apart. (others slot apart).1;
-        house = record { locks = rest.2; release = rest.3; heard = rest.4 };
-      })
+-- a command that a client took begins in the world
+pub begins : (session line : ℕ) (c copy : Command) → copy ≡ c → (begun : Bool) → begun ≡ false → (old new : ClientView SessionRequest) → nat_lt 64 old.session.lowest ≡ false
+    → IsNewcomer stands_of IsPlanFor extent_of (seat_of old.session) line copy (held_in old.session.lowest new.session.slots)
+    → (q : Quiescing) → q ≡ quiescing_of c → state_in old.session.lowest new.slots ≡ newcomer q
+    → ((slot : ℕ) → slot ≢ old.session.lowest → (held_in slot new.session.slots ≡ held_in slot old.session.slots) × (state_in slot new.slots ≡ state_in slot old.slots))
+    → new.session.lines ≡ old.session.lines
+    → (new.session.instance ≡ old.session.instance) × (new.session.home ≡ old.session.home) × (new.locks ≡ old.locks) × (new.release ≡ old.release) × (new.heard ≡ old.heard)
+    → Becomes stands_of (event.Submit session line c) (submitted begun line c (Some old)) old new
+begins session line c copy same begun first old new room held q q_is state others lines rest =
+    subst (λ b. Becomes stands_of (event.Submit session line c) (cond b Nothing (Began (begins_of old.session.instance line c) old.session.lowest)) old new) (sym (ap (λ f. f || nat_lt 64 old.session.lowest) first ∙ room))
+    (record {
+      begins = record {
+        held = subst (λ w. IsNewcomer stands_of IsPlanFor extent_of (seat_of old.session) line w (held_in old.session.lowest new.session.slots)) same held;
+        slots = λ slot apart. (others slot apart).0;
+        lines = lines;
+        client = record { instance = rest.0; home = rest.1 };
+      };
+      state = state ∙ ap newcomer q_is;
+      states = λ slot apart. (others slot apart).1;
+      house = record { locks = rest.2; release = rest.3; heard = rest.4 };
+    })

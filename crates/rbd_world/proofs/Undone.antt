@@ -28,6 +28,7 @@ use Rattle.rbd_site.specs.InForm.{AreInForm}
 use Rattle.rbd_world.specs.declared.sites.Sites.{Sites}
 use Rattle.rbd_world.specs.LetGo.{release_of}
 use Rattle.rbd_world.specs.Owing.{IsUnhindered, owed_in}
+use Rattle.rbd_world.specs.Owning.{CountsItsLocks, owns_in}
 use Rattle.rbd_world.specs.Run.{Happening, AreCalls, asked_by, log_of, records_after, steps_of, way_of}
 use Rattle.rbd_machine.specs.Standalone.{TellAllStandalone}
 use Rattle.rbd_machine.specs.declared.seat.Seat.{Seat}
@@ -40,6 +41,9 @@ use Rattle.rbd_world.specs.World.{LateView, LivesView, WorldView, client_in, lat
 use Rattle.rbd_world.proofs.OrderedWorld.{alike_order_if}
 use Rattle.rbd_world.proofs.Slots.{same_slots}
 use Rattle.rbd_world.proofs.Watching.{counts_alike}
+use Rattle.rbd_world.specs.Closes.{StandsFirst, StandsFirstIf, has_let_go}
+use Rattle.rbd_session.specs.Lines.{LinesView, lines_of}
+use Rattle.rbd_session.specs.Track.{Lines}
 
 module _ {R : Type 0} (stands : R → Standing) where
   -- ---- a slot
@@ -111,6 +115,15 @@ module _ {R : Type 0} (stands : R → Standing) where
   alike_learned run k (Some (occupant.Refused line refusal)) p alike has = subst (λ x. HasLearnedIf stands run (running_in x) k) (sym alike) has
   alike_learned run k None p alike has = subst (λ x. HasLearnedIf stands run (running_in x) k) (sym alike) has
 
+  alike_first : (run : List Happening) (slot : ℕ) (old new : LinesView) → lines_of new ≡ lines_of old → (o p : Option (Occupant R)) → IsAlikeIn stands o p
+      → StandsFirstIf run slot old (running_in o) → StandsFirstIf run slot new (running_in p)
+  alike_first run slot old new lines (Some (occupant.Running r)) (Some (occupant.Running q)) same first =
+      λ s image gone. subst (λ (ls : Lines). StandsFirst slot (ls s image)) (sym lines) (first s image (ap (λ line. has_let_go s image (steps_of line run)) (sym same.line) ∙ gone))
+  alike_first run slot old new lines (Some (occupant.Running r)) (Some (occupant.Refused line refusal)) alike first = tt
+  alike_first run slot old new lines (Some (occupant.Running r)) None alike first = tt
+  alike_first run slot old new lines (Some (occupant.Refused line refusal)) p alike first = subst (λ x. StandsFirstIf run slot new (running_in x)) (sym alike) tt
+  alike_first run slot old new lines None p alike first = subst (λ x. StandsFirstIf run slot new (running_in x)) (sym alike) tt
+
   -- ---- a client
 
   alike_client : (home : SiteId) (session : ℕ) (run : List Happening) (knows : ℕ → Knowledge) (c d : ClientView R) → IsClientAlike stands c d → IsSoundClient stands d
@@ -132,6 +145,7 @@ module _ {R : Type 0} (stands : R → Standing) where
     watches =
         subst (λ i. CountsItsWatches i run d) (sym alike.session.instance)
         (counts_alike c.session.instance run c d (λ s image. ap (λ (l : LockState). l.watched) (alike.locks s image)) alike.slots living.watches);
+    first = λ slot. alike_first run slot c.session.lines d.session.lines alike.session.lines (held_in slot c.session.slots) (held_in slot d.session.slots) (alike.session.slots slot) (living.first slot);
   }
 
   -- of one that is there, or of none
@@ -201,25 +215,28 @@ module _ {R : Type 0} (stands : R → Standing) where
 
   pub undone_is_sound : (old new : WorldView R) → IsSoundWorld stands old → IsUndone stands old new → ((session : ℕ) → IsSoundIf stands (client_in session new.lives)) → IsSoundWorld stands new
   undone_is_sound old new w undone sound = record {
-    run = w.run;
-    homes = w.homes;
+    told = record {
+      run = w.told.run;
+      homes = w.told.homes;
+      calls = subst (λ calls. AreCalls calls w.told.run) (sym undone.calls) w.told.calls;
+      history = undone.history ∙ w.told.history;
+      ids = subst (λ (sites : Sites). (s : SiteId) → (site_in s sites).id ≡ s) (sym undone.sites) w.told.ids;
+      logs = subst (λ (sites : Sites). (s : SiteId) → (site_in s sites).log ≡ log_of s w.told.run) (sym undone.sites) w.told.logs;
+      records = subst (λ (sites : Sites). (s : SiteId) → records_in s sites ≡ records_after s w.told.run) (sym undone.sites) w.told.records;
+      mail = ap (λ (sites : Sites). sites.mail) undone.sites ∙ w.told.mail;
+      right = w.told.right;
+      exact = subst (λ (sites : Sites). IsUnhindered w.told.run → (s : SiteId) → IsExactBut (IsOwed (owed_in w.told.run) s) (records_in s sites)) (sym undone.sites) w.told.exact;
+      lives = λ session. lives_if w.told.run (w.told.homes session) session (lives_in session old.lives) (lives_in session new.lives) (undone.lives session) (w.told.lives session);
+      order = w.told.order;
+    };
     who = w.who;
     knows = w.knows;
-    calls = subst (λ calls. AreCalls calls w.run) (sym undone.calls) w.calls;
-    history = undone.history ∙ w.history;
-    ids = subst (λ (sites : Sites). (s : SiteId) → (site_in s sites).id ≡ s) (sym undone.sites) w.ids;
-    logs = subst (λ (sites : Sites). (s : SiteId) → (site_in s sites).log ≡ log_of s w.run) (sym undone.sites) w.logs;
-    records = subst (λ (sites : Sites). (s : SiteId) → records_in s sites ≡ records_after s w.run) (sym undone.sites) w.records;
-    mail = ap (λ (sites : Sites). sites.mail) undone.sites ∙ w.mail;
-    right = w.right;
     form = subst (λ (sites : Sites). (s : SiteId) → AreInForm (records_in s sites) (length (site_in s sites).log)) (sym undone.sites) w.form;
     standalone = subst (λ (sites : Sites). (s : SiteId) → AreStandalone (records_in s sites)) (sym undone.sites) w.standalone;
     mapped = subst (λ (sites : Sites). (s : SiteId) → AreMapped (records_in s sites)) (sym undone.sites) w.mapped;
-    exact = subst (λ (sites : Sites). IsUnhindered w.run → (s : SiteId) → IsExactBut (IsOwed (owed_in w.run) s) (records_in s sites)) (sym undone.sites) w.exact;
-    lives = λ session. lives_if w.run (w.homes session) session (lives_in session old.lives) (lives_in session new.lives) (undone.lives session) (w.lives session);
     clients = λ session.
-        alike_if (IsLiving stands (w.homes session) session w.run (known_in w.knows session)) (client_in session old.lives) (client_in session new.lives) (same session) (sound session)
-        (λ c d was alike is_sound. alike_client (w.homes session) session w.run (known_in w.knows session) c d alike is_sound (w.clients session c was));
+        alike_if (IsLiving stands (w.told.homes session) session w.told.run (known_in w.knows session)) (client_in session old.lives) (client_in session new.lives) (same session) (sound session)
+        (λ c d was alike is_sound. alike_client (w.told.homes session) session w.told.run (known_in w.knows session) c d alike is_sound (w.clients session c was));
     new = w.new;
     in_slots = λ session slot.
         alike_if (λ d. w.who (InSlot session slot) ≡ d.session.instance) (client_in session old.lives) (client_in session new.lives) (same session) (sound session)
@@ -234,17 +251,20 @@ module _ {R : Type 0} (stands : R → Standing) where
         (subst (λ (sites : Sites). IsTrueOf s (records_in s sites) c.session.instance (known_in w.knows session) d) (sym undone.sites)
         (readied_is_true s (records_in s old.sites) c.session.instance (known_in w.knows session) c d (w.truth session c was s) alike.slots alike.locks)))
         d is;
+    owns = λ session d is.
+        alike_if (λ d. CountsItsLocks d.session.instance w.told.run d) (client_in session old.lives) (client_in session new.lives) (same session) (sound session)
+        (λ c d was alike is_sound s image.
+        ap (λ (l : LockState). l.owned) (alike.locks s image) ∙ w.owns session c was s image ∙ ap (λ i. owns_in i s image w.told.run) (sym alike.session.instance))
+        d is;
     late = λ session slot. late_was session slot ∙ w.late session slot;
     sending = λ session slot x is.
         subst (λ (sites : Sites). (w.who (Sending session slot) ≡ x.instance) × MayStillCome session (λ s. records_in s sites) x (w.knows (Sending session slot))) (sym undone.sites)
         (w.sending session slot x (sym (late_was session slot) ∙ is));
     unsent = λ session slot none. w.unsent session slot (sym (late_was session slot) ∙ none);
     drops = λ session slot there x differ is. w.drops session slot there x differ (sym (late_was session slot) ∙ is);
-    takes = λ session slot x is. w.takes session slot x (sym (late_was session slot) ∙ is);
     beside =
         subst (λ (sites : Sites). (h g : Holder) → AreStrangers h g → (s : SiteId) → AreBeside s (records_in s sites) (w.who h) (w.who g) (w.knows h) (w.knows g)) (sym undone.sites) w.beside;
-    order = w.order;
-    in_order = λ session. alike_order_if stands (w.homes session) w.run (client_in session old.lives) (client_in session new.lives) (same session) (w.in_order session);
+    in_order = λ session. alike_order_if stands (w.told.homes session) w.told.run (client_in session old.lives) (client_in session new.lives) (same session) (w.in_order session);
   }
     where
       same : (session : ℕ) → IsClientAlikeIf stands (client_in session old.lives) (client_in session new.lives)

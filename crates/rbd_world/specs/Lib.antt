@@ -1,4 +1,5 @@
 pub mod Begun
+pub mod Closes
 pub mod Events
 pub mod InLine
 pub mod Late
@@ -6,6 +7,7 @@ pub mod LetGo
 pub mod Noted
 pub mod Operate
 pub mod Order
+pub mod Owning
 pub mod Owing
 pub mod Run
 pub mod Sending
@@ -14,5 +16,6 @@ pub mod Step
 pub mod Ways
 pub mod World
 pub mod Seats
+pub mod Seen
 pub mod Past
 pub mod Watched

@@ -5,6 +5,7 @@ use Rattle.std.specs.List.Sorted.{IsStrictlyIncreasing}
 use Rattle.rbd_client.specs.declared.slot_state.Way.{Way}
 use Rattle.rbd_client.specs.Client.{ClientView, state_in}
 use Rattle.rbd_client.specs.Sound.{IsSoundClient}
+use Rattle.rbd_close.specs.Close.{unwatch}
 use Rattle.rbd_commands.specs.declared.command.Command.{Command}
 use Rattle.rbd_commands.specs.declared.refusal.Refusal.{Refusal}
 use Rattle.rbd_exact.specs.Exact.{IsExactBut, IsOwed}
@@ -30,6 +31,7 @@ use Rattle.rbd_machine.specs.Steps.{EndsIt, not_there, refused}
 use Rattle.rbd_machine.specs.declared.reason.Reason.{Reason}
 use Rattle.rbd_machine.specs.declared.seat.Seat.{Seat}
 use Rattle.rbd_meaning.specs.Meant.{IsMeantBy}
+use Rattle.rbd_owner.specs.Steps.{lock_take}
 use Rattle.rbd_rely.specs.Beside.{AreBeside, MayAct}
 use Rattle.rbd_rely.specs.Locks.{KnowsByLock}
 use Rattle.rbd_rely.specs.Truth.{AreMapped, IsTrueAt, AreStandalone}
@@ -43,17 +45,19 @@ use Rattle.rbd_site.specs.Records.{Records}
 use Rattle.rbd_site.specs.Step.{answer_to}
 use Rattle.rbd_site.specs.declared.done.DoneOp.TheVariants as done
 use Rattle.rbd_stands.specs.Effect.{effect_of}
-use Rattle.rbd_stands.specs.Owned.{IsOwnedStep}
+use Rattle.rbd_stands.specs.Owned.{HasLock, IsOwnedStep}
 use Rattle.rbd_stands.specs.Site.{StandsFor}
 use Rattle.rbd_watch.specs.Posting.{numbered}
 use Rattle.rbd_watch.specs.Watching.{oldest_of}
 use Rattle.rbd_world.specs.Begun.{has_line}
+use Rattle.rbd_world.specs.Closes.{StandsFirstIf, has_let_go}
 use Rattle.rbd_world.specs.declared.begun.BegunLines.{BegunLines}
 use Rattle.rbd_world.specs.LetGo.{release_of}
 use Rattle.rbd_world.specs.Order.{IsInOrder, KeepsOrder}
 use Rattle.rbd_world.specs.Owing.{IsUnhindered, owed_in}
+use Rattle.rbd_world.specs.Owning.{CountsItsLocks}
 use Rattle.rbd_world.specs.Past.{HadNoHeader, known_along}
-use Rattle.rbd_world.specs.Run.{Asked, Doer, Itself, OnWay, House, AfterStop, Happening, Began, Did, Refused, Trimmed, Expired, Heard, Stopped, Restarted, Operation, Sent, AreCalls, asked_by, ends, flat_after, history_of, is_among, life_after, log_of, mail_of, records_after, sent_after, step_of, steps_of, way_of}
+use Rattle.rbd_world.specs.Run.{Asked, Doer, Itself, OnWay, House, AfterStop, Happening, Began, Did, Refused, Trimmed, Expired, Heard, Stopped, Restarted, Operation, Sent, AreCalls, asked_by, ends, flat_after, history_of, is_among, is_for, life_after, log_of, mail_of, records_after, sent_after, step_of, steps_of, way_of}
 use Rattle.rbd_world.specs.Seats.{seat_at, seat_of_home}
 use Rattle.rbd_world.specs.Step.{IsFresh, is_begun}
 use Rattle.rbd_world.specs.Watched.{CountsItsWatches, TakesBehindWatch}
@@ -124,15 +128,20 @@ IsOf (OnWay line) who s o before = IsOfLine line who before
 IsOf House who s o before = IsRunning who before
 IsOf (AfterStop slot) who s o before = sent_after who.session slot before ≡ Some (record { instance = who; site = s; op = o })
 
+-- Where the operation takes the lock of an image, no open line of the instance has let go of it.
+abbrev pub TakesAlone : Instance → SiteId → Op → (before : List Happening) → Type 0
+TakesAlone who s o before = (image : ℕ) → o ≡ lock_take image → (line : ℕ) → (begun : IsOpen line before) → begun.asked.who ≡ who → has_let_go s image (steps_of line before) ≡ false
+
 -- It is the next of what it is done for. One of a line itself comes where its way wasn't begun or
--- is over, and one on the way is what the way asks for there. Where that takes the lock the instance
--- has watched the image, and so it is with what comes behind a stop. A house only lets locks go: where it
--- dropped one it tells of that next, and of no other.
+-- is over, and one on the way is what the way asks for there. Where that takes the lock, the
+-- instance watched the image and didn't end that itself since, and none of its open lines let go of
+-- the lock. A house only lets locks go: where it dropped one it tells of that next, and of no
+-- other.
 abbrev pub IsNextOf : Doer → Instance → SiteId → Op → (before : List Happening) → Type 0
 IsNextOf (Itself line) who s o before = IsOver (way_of line before)
-IsNextOf (OnWay line) who s o before = AsksNext s o (way_of line before) × TakesBehindWatch who s o before
+IsNextOf (OnWay line) who s o before = AsksNext s o (way_of line before) × TakesBehindWatch who s o before × TakesAlone who s o before
 IsNextOf House who s o before = IsNextOfRelease (release_of who before) s o
-IsNextOf (AfterStop slot) who s o before = TakesBehindWatch who s o before
+IsNextOf (AfterStop slot) who s o before = Unit {0}
 
 -- A walk of the line's command asks for the operation, and this is what it taught.
 pub record Recalls (line : ℕ) (s : SiteId) (o : Op) (k : Knowledge) (before : List Happening) : Type 0 where
@@ -212,12 +221,47 @@ pub record IsLostOf (homes : ℕ → SiteId) (who : Instance) (line : ℕ) (befo
   pub plan : Plan
   pub led : IsLedTo (seat_at homes begun.asked.who.session) begun.asked.command (steps_of line before) plan
 
--- Just the lines of an instance that runs are lost that have no reply, in their order.
-pub record IsStop (homes : ℕ → SiteId) (who : Instance) (lost : List ℕ) (before : List Happening) : Type 0 where
+-- A walk of the line's command led it to where it asks for the operation.
+pub record StandsAt (homes : ℕ → SiteId) (line : ℕ) (s : SiteId) (o : Op) (before : List Happening) : Type 0 where
+  pub begun : IsOpen line before
+  pub why : Reason
+  pub next : Answer → Plan
+  pub led : IsLedTo (seat_at homes begun.asked.who.session) begun.asked.command (steps_of line before) (Ask s why o next)
+
+-- For whom a slot wants an operation when its instance is stopped: the command of a line that is
+-- lost, which stands there, itself or on its way to the lock; or, at slot 0, the house.
+abbrev pub IsWantedFor : (homes : ℕ → SiteId) → (lost : List ℕ) → (slot : ℕ) → SiteId → Op → Doer → (before : List Happening) → Type 0
+IsWantedFor homes lost slot s o (Itself line) before = (is_among line lost ≡ true) × StandsAt homes line s o before
+IsWantedFor homes lost slot s o (OnWay line) before = (is_among line lost ≡ true) × StandsAtLook homes line s before
+IsWantedFor homes lost slot s o House before = slot ≡ 0
+IsWantedFor homes lost slot s o (AfterStop there) before = ⊥
+
+-- What a slot wanted then, which may still come: an operation of the instance, the next of whom it
+-- is wanted for.
+pub record IsLeft (homes : ℕ → SiteId) (who : Instance) (lost : List ℕ) (slot : ℕ) (s : SiteId) (o : Op) (by : Doer) (before : List Happening) : Type 0 where
+  pub wanted : IsWantedFor homes lost slot s o by before
+  pub whose : IsOf by who s o before
+  pub next : IsNextOf by who s o before
+
+-- What a slot wants where its instance is stopped: to take a lock only behind a watch that the
+-- instance didn't end itself since, and to end its own watch of an image only where the lock isn't
+-- its own, and no other slot wants to take that.
+pub record SendsRightly (who : Instance) (wanted : List (Option (SiteId × Op))) (before : List Happening) : Type 0 where
+  pub takes : (slot : ℕ) (s : SiteId) (o : Op) → held_in slot wanted ≡ Some (s, o) → TakesBehindWatch who s o before
+  pub unowned : (slot : ℕ) (s : SiteId) (image : ℕ) → held_in slot wanted ≡ Some (s, unwatch image) → HasLock image who (records_after s before) → ⊥
+  pub lone : (slot there : ℕ) (s : SiteId) (image : ℕ) → held_in slot wanted ≡ Some (s, unwatch image) → held_in there wanted ≡ Some (s, lock_take image) → ⊥
+
+-- Just the lines of an instance that runs are lost that have no reply, in their order. What each
+-- slot wanted is kept, as that of one line or of the house, no line's twice; and it may still come.
+pub record IsStop (homes : ℕ → SiteId) (who : Instance) (wanted : List (Option (SiteId × Op))) (lost : List ℕ) (before : List Happening) : Type 0 where
   pub runs : IsRunning who before
   pub each : (line : ℕ) → is_among line lost ≡ true → IsLostOf homes who line before
   pub all : (line : ℕ) → (begun : IsOpen line before) → begun.asked.who ≡ who → is_among line lost ≡ true
   pub ascends : IsStrictlyIncreasing lost
+  pub by : (slot : ℕ) → Doer
+  pub left : (slot : ℕ) (w : SiteId × Op) → held_in slot wanted ≡ Some w → IsLeft homes who lost slot w.0 w.1 (by slot) before
+  pub apart : (line slot there : ℕ) → is_for line (by slot) ≡ true → is_for line (by there) ≡ true → slot ≡ there
+  pub sends : SendsRightly who wanted before
 
 -- A session that doesn't run begins the life behind its latest.
 pub record IsRestart (who : Instance) (before : List Happening) : Type 0 where
@@ -240,7 +284,7 @@ IsDue homes (Refused s line reply) before = IsReplyMeant homes line reply before
 IsDue homes (Trimmed s number image object) before = IsTrimmed s number image object before
 IsDue homes (Expired s number image who) before = IsExpired s number image who before
 IsDue homes (Heard notice) before = IsDelivered notice before
-IsDue homes (Stopped who wanted lost) before = IsStop homes who lost before
+IsDue homes (Stopped who wanted lost) before = IsStop homes who wanted lost before
 IsDue homes (Restarted who) before = IsRestart who before
 IsDue homes h before = Unit {0}
 
@@ -324,6 +368,7 @@ pub record IsLiving {R : Type 0} (stands : R → Standing) (home : SiteId) (sess
   pub learned : (slot : ℕ) → HasLearnedIf stands run (running_at slot c.session) (knows slot)
   pub releases : c.release ≡ release_of c.session.instance run
   pub watches : CountsItsWatches c.session.instance run c
+  pub first : (slot : ℕ) → StandsFirstIf run slot c.session.lines (running_at slot c.session)
 
 -- ---- what a stopped life may still send
 
@@ -386,53 +431,59 @@ pub record AreLivesOf {R : Type 0} (run : List Happening) (home : SiteId) (sessi
   pub most : (v : LateView) → l.late ≡ Some v → v.instance.life ≤ l.latest.life
   pub older : (v : LateView) → l.late ≡ Some v → (c : ClientView R) → l.running ≡ Some c → v.instance.life < l.latest.life
 
-pub record IsSoundWorld {R : Type 0} (stands : R → Standing) (w : WorldView R) : Type 0 where
-  -- what was done, the home of each session, and who knows what
+-- What is promised of a world: all that happened to it is one run, which is right at each place. Its
+-- calls, history, logs, records and mail are those of the run, and so are the lives of its sessions.
+pub record HasRun {R : Type 0} (w : WorldView R) : Type 0 where
+  -- what was done, and the home of each session
   pub run : List Happening
   pub homes : (session : ℕ) → SiteId
-  pub who : Holder → Instance
-  pub knows : Holder → Knowledge
-  -- calls, history, logs and mail are those of the run, which is right
+  pub right : IsRight homes run
   pub calls : AreCalls w.calls run
   pub history : w.history ≡ history_of run
   pub ids : (s : SiteId) → (site_in s w.sites).id ≡ s
   pub logs : (s : SiteId) → (site_in s w.sites).log ≡ log_of s run
   pub records : (s : SiteId) → records_in s w.sites ≡ records_after s run
   pub mail : w.sites.mail ≡ mail_of run
-  pub right : IsRight homes run
+  pub lives : (session : ℕ) (l : LivesView R) → lives_in session w.lives ≡ Some l → AreLivesOf run (homes session) session l
+  -- where nobody was stopped or fenced, maps tell exactly what exists, but for what lines owe
+  pub exact : IsUnhindered run → (s : SiteId) → IsExactBut (IsOwed (owed_in run) s) (records_in s w.sites)
+  -- the writes of each instance change an image in the order in which they found it
+  pub order : KeepsOrder run
+
+-- A world that has a run, and what else holds of it, so that the next event keeps it so.
+pub record IsSoundWorld {R : Type 0} (stands : R → Standing) (w : WorldView R) : Type 0 where
+  pub told : HasRun w
+  -- who knows what
+  pub who : Holder → Instance
+  pub knows : Holder → Knowledge
   -- each site's headers are in form, and no image has a parent
   pub form : (s : SiteId) → AreInForm (records_in s w.sites) (length (site_in s w.sites).log)
   pub standalone : (s : SiteId) → AreStandalone (records_in s w.sites)
   pub mapped : (s : SiteId) → AreMapped (records_in s w.sites)
-  -- where nobody was stopped or fenced, maps tell exactly what exists, but for what lines owe
-  pub exact : IsUnhindered run → (s : SiteId) → IsExactBut (IsOwed (owed_in run) s) (records_in s w.sites)
-  -- each session's lives are those of the run, and the requests of the one that runs are under way
-  -- by what they know
-  pub lives : (session : ℕ) (l : LivesView R) → lives_in session w.lives ≡ Some l → AreLivesOf run (homes session) session l
-  pub clients : (session : ℕ) (c : ClientView R) → client_in session w.lives ≡ Some c → IsLiving stands (homes session) session run (known_in knows session) c
+  -- the requests of a life that runs are under way by what they know
+  pub clients : (session : ℕ) (c : ClientView R) → client_in session w.lives ≡ Some c → IsLiving stands (told.homes session) session told.run (known_in knows session) c
   pub in_slots : (session slot : ℕ) (c : ClientView R) → client_in session w.lives ≡ Some c → who (InSlot session slot) ≡ c.session.instance
   pub nobody : (session : ℕ) → client_in session w.lives ≡ None → (slot : ℕ) → knows (InSlot session slot) ≡ nothing_known
   pub apart : AreApart w.lives
-  pub slots : AreInSlots run w.lives
+  pub slots : AreInSlots told.run w.lives
   -- what a client knows, and counts of its locks, is true
   pub truth : (session : ℕ) (c : ClientView R) → client_in session w.lives ≡ Some c → (s : SiteId)
       → IsTrueOf s (records_in s w.sites) c.session.instance (known_in knows session) c
+  -- it counts its locks by its own operations
+  pub owns : (session : ℕ) (c : ClientView R) → client_in session w.lives ≡ Some c → CountsItsLocks c.session.instance told.run c
   -- what stopped lives may still send is what the run says, and may be done
-  pub late : (session slot : ℕ) → late_at session slot w.lives ≡ sent_after session slot run
+  pub late : (session slot : ℕ) → late_at session slot w.lives ≡ sent_after session slot told.run
   pub sending : (session slot : ℕ) (x : Sent) → late_at session slot w.lives ≡ Some x
       → (who (Sending session slot) ≡ x.instance) × MayStillCome session (λ s. records_in s w.sites) x (knows (Sending session slot))
   pub unsent : (session slot : ℕ) → late_at session slot w.lives ≡ None → knows (Sending session slot) ≡ nothing_known
   pub drops : (session slot there : ℕ) (x : Sent) → slot ≢ there → late_at session slot w.lives ≡ Some x → (r : Records)
       → MayAct x.site r (who (Sending session slot)) (who (Sending session there)) (knows (Sending session slot)) (knows (Sending session there)) x.op
-  -- and takes a lock only where the stopped life watched the image
-  pub takes : (session slot : ℕ) (x : Sent) → late_at session slot w.lives ≡ Some x → TakesBehindWatch x.instance x.site x.op run
   -- an id that somebody drew had no header so far
-  pub new : (h : Holder) (s : SiteId) (image : ℕ) → is_drawn (knows h).drawn s image ≡ true → HadNoHeader s image run
+  pub new : (h : Holder) (s : SiteId) (image : ℕ) → is_drawn (knows h).drawn s image ≡ true → HadNoHeader s image told.run
   -- no two that aren't of one client are in each other's way
   pub beside : (h g : Holder) → AreStrangers h g → (s : SiteId) → AreBeside s (records_in s w.sites) (who h) (who g) (knows h) (knows g)
-  -- the writes of each instance change an image in the order in which they found it
-  pub order : KeepsOrder run
-  pub in_order : (session : ℕ) (c : ClientView R) → client_in session w.lives ≡ Some c → IsInOrder stands (homes session) c.session.instance run c.session
+  -- requests stand in the order in which they found their image
+  pub in_order : (session : ℕ) (c : ClientView R) → client_in session w.lives ≡ Some c → IsInOrder stands (told.homes session) c.session.instance told.run c.session
 
 -- ---- a new world
 

@@ -1,5 +1,5 @@
 -- Who watched an image, and whether its watch was ended since.
-use Rattle.std.specs.Prelude.{◌≡◌, ℕ, ◌&&◌, ◌||◌, if◌then◌else◌, Bool, true, false, List, [], ◌∷◌}
+use Rattle.std.specs.Prelude.{◌≡◌, ℕ, ◌&&◌, ◌||◌, not, if◌then◌else◌, Bool, true, false, List, [], ◌∷◌}
 use Rattle.std.specs.List.{list_any}
 use Rattle.rbd_client.specs.declared.slot_state.Way.{Way}
 use Rattle.rbd_client.specs.declared.slot_state.Way.TheVariants as way
@@ -34,41 +34,66 @@ has_watched who s image run = list_any (watches_by who s image) run
 
 -- ---- how a watch ends
 
--- by an `unwatch` of its own that is done, or with the header, whoever removes it
+-- by an `unwatch` of its own that is done
+abbrev pub ends_own : Instance → SiteId → (me : Instance) → Op → Answer → SiteId → (image : ℕ) → Bool
+ends_own who there me (op.Header on header.Unwatch) answer.Done s image = is_at there on s image && same_instance me who
+ends_own who there me o a s image = false
+
+-- so, or with the header, whoever removes it
 abbrev pub ends_it : Instance → SiteId → (me : Instance) → Op → Answer → SiteId → (image : ℕ) → Bool
-ends_it who there me (op.Header on header.Unwatch) answer.Done s image = is_at there on s image && same_instance me who
 ends_it who there me (op.Header on header.Remove) answer.Done s image = is_at there on s image
-ends_it who there me o a s image = false
+ends_it who there me o a s image = ends_own who there me o a s image
 
 -- or by the store
+abbrev pub expires : Instance → SiteId → (image : ℕ) → Happening → Bool
+expires who s image (Expired there number on i) = is_at there on s image && same_instance i who
+expires who s image h = false
+
 abbrev pub ends_watch : Instance → SiteId → (image : ℕ) → Happening → Bool
 ends_watch who s image (Did o reply) = ends_it who o.site o.instance o.op o.answer s image
-ends_watch who s image (Expired there number on i) = is_at there on s image && same_instance i who
-ends_watch who s image h = false
+ends_watch who s image h = expires who s image h
 
 -- it was ended since the instance watched last
 abbrev pub watch_ended : Instance → SiteId → (image : ℕ) → List Happening → Bool
 watch_ended who s image [] = false
 watch_ended who s image (h ∷ run) = if watches_by who s image h then false else (ends_watch who s image h || watch_ended who s image run)
 
+-- the store ended it since
+abbrev pub watch_expired : Instance → SiteId → (image : ℕ) → List Happening → Bool
+watch_expired who s image [] = false
+watch_expired who s image (h ∷ run) = if watches_by who s image h then false else (expires who s image h || watch_expired who s image run)
+
+-- ---- who keeps its watch
+
+abbrev pub unwatches_by : Instance → SiteId → (image : ℕ) → Happening → Bool
+unwatches_by who s image (Did o reply) = ends_own who o.site o.instance o.op o.answer s image
+unwatches_by who s image h = false
+
+-- It watched, and did no `unwatch` since.
+abbrev pub keeps_watch : Instance → SiteId → (image : ℕ) → List Happening → Bool
+keeps_watch who s image [] = false
+keeps_watch who s image (h ∷ run) = watches_by who s image h || (not (unwatches_by who s image h) && keeps_watch who s image run)
+
 -- ---- who takes a lock
 
--- Where the operation takes the lock of an image, the instance has watched the image.
+-- Where the operation takes the lock of an image, the instance watched the image, and didn't end
+-- that itself since.
 abbrev pub TakesBehindWatch : Instance → SiteId → Op → List Happening → Type 0
-TakesBehindWatch who s o run = (image : ℕ) → o ≡ lock_take image → has_watched who s image run ≡ true
+TakesBehindWatch who s o run = (image : ℕ) → o ≡ lock_take image → keeps_watch who s image run ≡ true
 
 -- ---- what a client counts
 
--- A way that is past its watch has watched the image.
+-- A way that is past its watch keeps it.
 abbrev pub HasWatchedAt : Stage → Instance → SiteId → (image : ℕ) → List Happening → Type 0
 HasWatchedAt stage.Watching who s image run = Unit {0}
-HasWatchedAt at who s image run = has_watched who s image run ≡ true
+HasWatchedAt at who s image run = keeps_watch who s image run ≡ true
 
 abbrev pub HasWatchedOn : Way → Instance → List Happening → Type 0
 HasWatchedOn (way.On a) who run = HasWatchedAt a.stage who a.site a.image run
 HasWatchedOn w who run = Unit {0}
 
--- It counts as watched only images that it has watched, and no way is past a watch that wasn't done.
+-- It counts as watched only images that it watched, and didn't end that itself since; and no way is
+-- past such a watch that wasn't done.
 pub record CountsItsWatches {R : Type 0} (who : Instance) (run : List Happening) (c : ClientView R) : Type 0 where
-  pub counts : (s : SiteId) (image : ℕ) → (state_at s image c.locks).watched ≡ true → has_watched who s image run ≡ true
+  pub counts : (s : SiteId) (image : ℕ) → (state_at s image c.locks).watched ≡ true → keeps_watch who s image run ≡ true
   pub ways : (slot : ℕ) → HasWatchedOn (state_in slot c.slots).way who run

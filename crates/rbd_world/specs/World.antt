@@ -17,8 +17,8 @@ use Rattle.rbd_world.specs.Run.{Sent, sent_of}
 use Rattle.rbd_world.specs.declared.event.Call.{Call}
 use Rattle.rbd_world.specs.declared.sites.Sites.{Sites}
 
--- what an instance may still send that was stopped: what each of its slots wanted then, where it
--- hasn't come yet
+-- operations in flight when the instance stopped: what each of its slots wanted then, where it hasn't
+-- come yet
 pub record LateView : Type 0 where
   pub instance : Instance
   pub wanted : List (Option (SiteId × Op))

@@ -1,94 +1,98 @@
 //! What holds of every world: each law is the contract of a function that does nothing.
-ghost use Rattle.std.specs.Prelude.{◌≡◌, ◌⊎◌, ℕ, ◌+◌, ◌*◌, ◌≤◌, ◌++◌, ◌∷◌, [], List, Option, true, false, Some, count_by};
+ghost use Rattle.std.specs.Prelude.{◌≡◌, ◌≢◌, ◌⊎◌, ℕ, ◌+◌, ◌*◌, ◌≤◌, ◌++◌, ◌∷◌, [], List, Option, true, false, Some, count_by};
 ghost use Rattle.rbd_client.specs.Client.{ClientView};
+ghost use Rattle.rbd_client.specs.Seen.{as_is};
+ghost use Rattle.rbd_close.specs.Close.{unwatch};
 ghost use Rattle.rbd_exact.specs.Exact.{AreExact};
 ghost use Rattle.rbd_kinds.specs.declared.answer.Answer.{Answer as Word};
 ghost use Rattle.rbd_kinds.specs.declared.header.HeaderView.{HeaderView};
 ghost use Rattle.rbd_kinds.specs.declared.id.Instance.{Instance as Who};
 ghost use Rattle.rbd_kinds.specs.declared.id.SiteId.{SiteId as Which};
 ghost use Rattle.rbd_kinds.specs.declared.reply.Reply.{Reply as Told};
+ghost use Rattle.rbd_locks.specs.Locks.{state_at};
 ghost use Rattle.rbd_machine.specs.Path.{Answered};
+ghost use Rattle.rbd_machine.specs.Plan.{Standing};
 ghost use Rattle.rbd_owner.specs.Counts.{is_counted, is_fence, is_round, is_take};
 ghost use Rattle.rbd_owner.specs.Order.{EndsWith};
 ghost use Rattle.rbd_owner.specs.Steps.{fenced, lock_break, lock_drop, lock_take, released_lock};
 ghost use Rattle.rbd_site.specs.Records.{object_at};
+ghost use Rattle.rbd_site.specs.Step.{is_fenced};
 ghost use Rattle.rbd_watch.specs.Watching.{watches};
 ghost use Rattle.rbd_world.specs.Events.{AreCallsOf};
 ghost use Rattle.rbd_world.specs.Late.{comes_among, is_late, is_stopped_among};
 ghost use Rattle.rbd_world.specs.LetGo.{HasDropped};
 ghost use Rattle.rbd_world.specs.Order.{IsWriterOf, WritesFirst, found_before};
+ghost use Rattle.rbd_world.specs.Owning.{owns_in};
 ghost use Rattle.rbd_world.specs.Owing.{IsUnhindered, has_worked};
 ghost use Rattle.rbd_world.specs.Run.{Did, Happening, House, Itself, OnWay, Operation, comes_of, records_after, step_of, way_of};
 ghost use Rattle.rbd_world.specs.Sound.{IsInSlot, IsNewWorld, IsOpen, IsRight, IsRunning, IsSoundWorld, StandsAtLook};
 ghost use Rattle.rbd_world.specs.Step.{Does, DoesAtSites, DropsWhatItMay, IsBuiltEvent, IsSoundIf, IsUndone, MayCome, WantsWhatItMay, happening};
-ghost use Rattle.rbd_world.specs.Watched.{has_watched, watch_ended};
+ghost use Rattle.rbd_world.specs.Watched.{has_watched, keeps_watch, watch_ended, watch_expired};
 ghost use Rattle.rbd_world.specs.Ways.{AreAWay, AsksNext, IsOfRelease, IsOver, WasRefused};
 ghost use Rattle.rbd_world.specs.World.{WorldView, client_in, late_at, records_in};
 ghost use Rattle.rbd_world.specs.declared.event.Call.{Call};
 ghost use Rattle.rbd_world.specs.declared.event.Event.{Event};
 
-use rbd_course::Request;
-
 /// A world is sound at first.
-pub fn worlds_begin_sound<R: Request>()
-    ensures { (w : WorldView R) → IsNewWorld R.stands w → IsSoundWorld R.stands w }
+pub fn worlds_begin_sound()
+    ensures { (w : WorldView Standing) → IsNewWorld as_is w → IsSoundWorld as_is w }
 {}
 
 /// Whatever event comes, a sound world stays sound.
-pub fn steps_keep_worlds_sound<R: Request>()
-    ensures { (e : Event) (old new : WorldView R) → IsSoundWorld R.stands old → IsBuiltEvent e
-        → Does R.stands e (happening R.stands e old) old new
-        → DoesAtSites (happening R.stands e old) old.sites new.sites
-        → ((session : ℕ) → IsSoundIf R.stands (client_in session new.lives))
-        → IsSoundWorld R.stands new }
+pub fn steps_keep_worlds_sound()
+    ensures { (e : Event) (old new : WorldView Standing) → IsSoundWorld as_is old → IsBuiltEvent e
+        → Does as_is e (happening as_is e old) old new
+        → DoesAtSites (happening as_is e old) old.sites new.sites
+        → ((session : ℕ) → IsSoundIf as_is (client_in session new.lives))
+        → IsSoundWorld as_is new }
 {}
 
 /// Whatever list of events comes, the world behind it is sound: so its calls, history, logs and
 /// mail are those of one run, in which all holds that [`steps_keep_worlds_sound`] keeps.
-pub fn lists_of_events_are_runs<R: Request>()
-    ensures { (calls : List Call) (old new : WorldView R) → IsSoundWorld R.stands old → AreCallsOf R.stands calls old new → IsSoundWorld R.stands new }
+pub fn lists_of_events_are_runs()
+    ensures { (calls : List Call) (old new : WorldView Standing) → IsSoundWorld as_is old → AreCallsOf as_is calls old new → IsSoundWorld as_is new }
 {}
 
 /// A step that is refused memory leaves a sound world.
-pub fn refused_steps_leave_worlds_sound<R: Request>()
-    ensures { (old new : WorldView R) → IsSoundWorld R.stands old → IsUndone R.stands old new
-        → ((session : ℕ) → IsSoundIf R.stands (client_in session new.lives))
-        → IsSoundWorld R.stands new }
+pub fn refused_steps_leave_worlds_sound()
+    ensures { (old new : WorldView Standing) → IsSoundWorld as_is old → IsUndone as_is old new
+        → ((session : ℕ) → IsSoundIf as_is (client_in session new.lives))
+        → IsSoundWorld as_is new }
 {}
 
 /// In a sound world the operation that a slot wants, where it may go on, may be done at its site,
 /// and its answer is one that it can give; and so it is with what a stopped life may still send. A
 /// lock is dropped only where no request of its client relies on it.
-pub fn what_is_wanted_may_be_done<R: Request>()
-    ensures wanted { (w : WorldView R) (session slot : ℕ) (c : ClientView R)
-        → IsSoundWorld R.stands w → client_in session w.lives ≡ Some c → WantsWhatItMay R.stands w.sites slot c }
-    ensures late { (w : WorldView R) (session slot : ℕ) → IsSoundWorld R.stands w → MayCome w.sites (late_at session slot w.lives) }
-    ensures drops { (w : WorldView R) (session slot : ℕ) (c : ClientView R)
-        → IsSoundWorld R.stands w → client_in session w.lives ≡ Some c → DropsWhatItMay R.stands slot c }
+pub fn what_is_wanted_may_be_done()
+    ensures wanted { (w : WorldView Standing) (session slot : ℕ) (c : ClientView Standing)
+        → IsSoundWorld as_is w → client_in session w.lives ≡ Some c → WantsWhatItMay as_is w.sites slot c }
+    ensures late { (w : WorldView Standing) (session slot : ℕ) → IsSoundWorld as_is w → MayCome w.sites (late_at session slot w.lives) }
+    ensures drops { (w : WorldView Standing) (session slot : ℕ) (c : ClientView Standing)
+        → IsSoundWorld as_is w → client_in session w.lives ≡ Some c → DropsWhatItMay as_is slot c }
 {}
 
 /// Of two `write`, `fill` or `discard` requests of one instance, the one that found an image first
 /// changes each of its objects first: at whichever place of the run it changes one, the other
 /// hasn't changed it yet.
-pub fn writes_keep_their_order<R: Request>()
-    ensures { (w : WorldView R) (sound : IsSoundWorld R.stands w) (who : Who) (one other : ℕ) (s : Which) (image number : ℕ)
-        → IsWriterOf who one sound.run → IsWriterOf who other sound.run → found_before one other s image sound.run ≡ true
-        → WritesFirst one other s image number sound.run }
+pub fn writes_keep_their_order()
+    ensures { (w : WorldView Standing) (sound : IsSoundWorld as_is w) (who : Who) (one other : ℕ) (s : Which) (image number : ℕ)
+        → IsWriterOf who one sound.told.run → IsWriterOf who other sound.told.run → found_before one other s image sound.told.run ≡ true
+        → WritesFirst one other s image number sound.told.run }
 {}
 
 /// A line that was begun, has no reply yet and isn't lost is in a slot of a session, and goes on by
 /// the polls of that slot.
-pub fn open_lines_are_in_slots<R: Request>()
-    ensures { (w : WorldView R) (sound : IsSoundWorld R.stands w) (line : ℕ) → IsOpen line sound.run → IsInSlot line w.lives }
+pub fn open_lines_are_in_slots()
+    ensures { (w : WorldView Standing) (sound : IsSoundWorld as_is w) (line : ℕ) → IsOpen line sound.told.run → IsInSlot line w.lives }
 {}
 
 /// As long as nobody is stopped or fenced, the object maps of an image at rest tell exactly which
 /// objects exist: at each view, the head or a snapshot, the state is 1 where the object exists, and
 /// 0 where it doesn't. At rest is an image on which no line has worked that has no reply yet.
-pub fn maps_are_exact_at_rest<R: Request>()
-    ensures { (w : WorldView R) (sound : IsSoundWorld R.stands w) (s : Which) (image : ℕ) (h : HeaderView)
-        → IsUnhindered sound.run → (records_in s w.sites).headers image ≡ Some h
-        → ((line : ℕ) → IsOpen line sound.run → has_worked line s image sound.run ≡ false)
+pub fn maps_are_exact_at_rest()
+    ensures { (w : WorldView Standing) (sound : IsSoundWorld as_is w) (s : Which) (image : ℕ) (h : HeaderView)
+        → IsUnhindered sound.told.run → (records_in s w.sites).headers image ≡ Some h
+        → ((line : ℕ) → IsOpen line sound.told.run → has_worked line s image sound.told.run ≡ false)
         → AreExact h ((records_in s w.sites).maps image) (object_at (records_in s w.sites) image) }
 {}
 
@@ -111,14 +115,14 @@ pub fn late_operations_come_once()
 /// So a lock is broken only directly behind the fence of its owner; the lock is asked for once, and
 /// once more for each round; and beside the steps that ask again there are at most one watch, two
 /// operations for each owner that was fenced, and one that ends the way.
-pub fn ways_lead_to_locks<R: Request>()
-    ensures ways { (w : WorldView R) (sound : IsSoundWorld R.stands w) (line : ℕ) → AreAWay (way_of line sound.run) }
-    ensures broken { (w : WorldView R) (sound : IsSoundWorld R.stands w) (line image : ℕ) (owner : Who) (s : Which) (a : Word) (before after : List Answered)
-        → way_of line sound.run ≡ before ++ record { site = s; op = lock_break image owner; answer = a } ∷ after → EndsWith (fenced s owner) before }
-    ensures takes { (w : WorldView R) (sound : IsSoundWorld R.stands w) (line : ℕ)
-        → count_by is_take (way_of line sound.run) ≤ 1 + count_by is_round (way_of line sound.run) }
-    ensures all { (w : WorldView R) (sound : IsSoundWorld R.stands w) (line : ℕ)
-        → count_by is_counted (way_of line sound.run) ≤ 2 + 2 * count_by is_fence (way_of line sound.run) }
+pub fn ways_lead_to_locks()
+    ensures ways { (w : WorldView Standing) (sound : IsSoundWorld as_is w) (line : ℕ) → AreAWay (way_of line sound.told.run) }
+    ensures broken { (w : WorldView Standing) (sound : IsSoundWorld as_is w) (line image : ℕ) (owner : Who) (s : Which) (a : Word) (before after : List Answered)
+        → way_of line sound.told.run ≡ before ++ record { site = s; op = lock_break image owner; answer = a } ∷ after → EndsWith (fenced s owner) before }
+    ensures takes { (w : WorldView Standing) (sound : IsSoundWorld as_is w) (line : ℕ)
+        → count_by is_take (way_of line sound.told.run) ≤ 1 + count_by is_round (way_of line sound.told.run) }
+    ensures all { (w : WorldView Standing) (sound : IsSoundWorld as_is w) (line : ℕ)
+        → count_by is_counted (way_of line sound.told.run) ≤ 2 + 2 * count_by is_fence (way_of line sound.told.run) }
 {}
 
 /// At each place of a run an operation on the way of a line is the one that its way asks for there,
@@ -147,15 +151,44 @@ pub fn a_house_tells_only_behind_its_own_drop()
         → IsRight homes (Did o reply ∷ run) → o.by ≡ House → o.op ≡ lock_drop image → (s : Which) (other : ℕ) → HasDropped o.instance s other run → ⊥ }
 {}
 
-/// Who takes the lock of an image has watched the image in this life: a `watch` of it was done. So
-/// the owner of a lock watches the image, unless its watch was ended since: by the store, by itself,
-/// or with the header.
+/// Who takes the lock of an image watched the image in this life, a `watch` of it was done, and
+/// didn't end that itself since. So the owner of a lock watches the image, unless the store ended
+/// its watch since it watched last: it never ends that itself, and with the header there is no
+/// owner.
 pub fn an_owner_watches_its_image()
     ensures takes { (homes : ℕ → Which) (o : Operation) (reply : Option Told) (run : List Happening) (image : ℕ)
-        → IsRight homes (Did o reply ∷ run) → o.op ≡ lock_take image → has_watched o.instance o.site image run ≡ true }
+        → IsRight homes (Did o reply ∷ run) → o.op ≡ lock_take image → keeps_watch o.instance o.site image run ≡ true }
     ensures watched { (homes : ℕ → Which) (run : List Happening) (s : Which) (image : ℕ) (h : HeaderView) (who : Who)
         → IsRight homes run → (records_after s run).headers image ≡ Some h → h.owner ≡ Some who → has_watched who s image run ≡ true }
     ensures watches { (homes : ℕ → Which) (run : List Happening) (s : Which) (image : ℕ) (h : HeaderView) (who : Who)
         → IsRight homes run → (records_after s run).headers image ≡ Some h → h.owner ≡ Some who
-        → (watches who ((records_after s run).watchers image) ≡ true) ⊎ (watch_ended who s image run ≡ true) }
+        → (watches who ((records_after s run).watchers image) ≡ true) ⊎ (watch_expired who s image run ≡ true) }
+    ensures unwatches { (homes : ℕ → Which) (o : Operation) (reply : Option Told) (run : List Happening) (image : ℕ) (h : HeaderView)
+        → IsRight homes (Did o reply ∷ run) → o.op ≡ unwatch image → (records_after o.site run).headers image ≡ Some h → h.owner ≢ Some o.instance }
+{}
+
+/// A watch lasts: just who has watched an image, and whose watch wasn't ended since, is among those
+/// who watch it.
+pub fn watches_last()
+    ensures lasts { (homes : ℕ → Which) (run : List Happening) (s : Which) (image : ℕ) (who : Who)
+        → IsRight homes run → has_watched who s image run ≡ true → watch_ended who s image run ≡ false
+        → watches who ((records_after s run).watchers image) ≡ true }
+    ensures was { (homes : ℕ → Which) (run : List Happening) (s : Which) (image : ℕ) (who : Who)
+        → IsRight homes run → watches who ((records_after s run).watchers image) ≡ true
+        → (has_watched who s image run ≡ true) × (watch_ended who s image run ≡ false) }
+{}
+
+/// An instance counts a lock as its own by its own operations alone: from a take that is done to the
+/// answer of a drop, or to its removal of the header. Who has a lock by the header counts it so,
+/// unless it is fenced. So an instance that runs, and doesn't count a lock that it has, was fenced.
+pub fn owners_count_their_locks()
+    ensures counts { (w : WorldView Standing) (sound : IsSoundWorld as_is w) (session : ℕ) (c : ClientView Standing) (s : Which) (image : ℕ)
+        → client_in session w.lives ≡ Some c → (state_at s image c.locks).owned ≡ owns_in c.session.instance s image sound.told.run }
+    ensures owner { (homes : ℕ → Which) (run : List Happening) (s : Which) (image : ℕ) (h : HeaderView) (who : Who)
+        → IsRight homes run → (records_after s run).headers image ≡ Some h → h.owner ≡ Some who
+        → is_fenced (records_after s run) who ≡ false → owns_in who s image run ≡ true }
+    ensures fenced { (w : WorldView Standing) (session : ℕ) (c : ClientView Standing) (s : Which) (image : ℕ) (h : HeaderView)
+        → IsSoundWorld as_is w → client_in session w.lives ≡ Some c
+        → (records_in s w.sites).headers image ≡ Some h → h.owner ≡ Some c.session.instance → (state_at s image c.locks).owned ≡ false
+        → is_fenced (records_in s w.sites) c.session.instance ≡ true }
 {}

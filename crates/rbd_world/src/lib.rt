@@ -2,7 +2,7 @@
 //! order, whatever notice was lost, and whoever was stopped.
 //!
 //! ```text
-//! let mut world: World<Follower> = World::new(alloc, &[SiteId::A, SiteId::A])?;   // sessions 0, 1
+//! let mut world: World = World::new(alloc, &[SiteId::A, SiteId::A])?;   // sessions 0, 1
 //! world.step(alloc, &submit(0, 3, create))?;    // Submitted(1): line 3, in slot 1 of session 0
 //! world.step(alloc, &poll(0, 1))?;              // Step, number 1 at site A: dir-add
 //! world.step(alloc, &poll(0, 1))?;              // Step, number 2: map-resize
@@ -42,21 +42,27 @@
 //! # Contracts
 //!
 //! Contracts see a world as its sites' logs and mail, its sessions with their lives, its history
-//! and its calls (`WorldView`). What an event does is a function of these (`happening`): so the
+//! and its calls (`WorldView`). They speak of it as plans tell it (`seen`): each slot holds where
+//! its request stands, in place of the machine that does it, so nobody who reads them needs to know
+//! a machine. (The view itself holds the machines, since a plan has functions, and what a `Model`
+//! shows may have none.) What an event does is a function of the world (`happening`): so the
 //! outcome, what is added to the history, to a log, to the mail and to the calls are each an
 //! equation, and `Nothing` and `Waits` come exactly where they are to come. Only what becomes of
 //! the client of the session that the event names is told by the client's own clauses, since a
-//! request holds more than contracts see.
+//! client holds more than contracts see.
 //!
 //! | file | what it says |
 //! |---|---|
 //! | `specs/World.antt` | what contracts see of a world |
+//! | `specs/Seen.antt` | a world as plans tell it (`seen`) |
 //! | `specs/Run.antt` | a *run*: what the calls did, one after another; its history, its logs, its records, flat sites and mail at each place, the operations of a line, and the lives of a session |
 //! | `specs/Step.antt` | what an event does (`happening`, `IsStep`), what a step that is refused memory leaves (`IsUndone`), and what is asked of an event |
 //! | `specs/Sound.antt` | what holds of each world (`IsSoundWorld`) |
 //! | `specs/Ways.antt` | the operations of a line on its way to the lock of its image, and those of a release |
 //! | `specs/LetGo.antt` | which release of a lock a house is in the middle of |
-//! | `specs/Watched.antt` | who watched an image, and whether its watch was ended since |
+//! | `specs/Owning.antt` | which locks an instance counts as its own, by its own operations |
+//! | `specs/Watched.antt` | who watched an image, how a watch ends, and whether it was ended since |
+//! | `specs/Closes.antt` | where who lets go of a lock by its own command stands meanwhile: first in the image's line |
 //! | `specs/Owing.antt` | what lines owe to object maps, and runs in which nobody is stopped or fenced |
 //! | `specs/Order.antt` | the order in which the writes of one instance change an image (`KeepsOrder`), and where they stand meanwhile |
 //! | `specs/InLine.antt` | how a write goes through the line of its image |
@@ -72,7 +78,8 @@
 //!   and before its end, and has the answer and the effect that its site has for it there;
 //! - its reply, which is one, is the command's behind all of its operations (`IsMeantBy` of
 //!   `rbd_meaning`), or, where it is refused on its way to the lock, as if its look under the lock
-//!   had been answered so; and a line is lost exactly where its instance is stopped before;
+//!   had been answered so; and a line is lost exactly where its instance is stopped before. What
+//!   each slot wanted at a stop is the next of a lost line there, or of the house;
 //! - the request in a slot stands where a walk of its command's plan led it, by just the operations
 //!   that were done for its line; and each line that has neither reply nor loss is in a slot;
 //! - the operations on a line's way to the lock of its image are a way of `rbd_owner`, each the one
@@ -81,17 +88,18 @@
 //! - whoever does an operation is permitted it by what it knows, and what it knows is true; what
 //!   changes an image is its owner's, and a lock is broken only where its owner is fenced
 //!   (`IsOwnedStep`). No two clients are in each other's way, nor what stopped lives may still
-//!   send;
+//!   send. A client counts its locks by its own operations alone;
 //! - of two `write`, `fill` or `discard` requests of one instance, the one that found an image
 //!   first changes each of its objects first, however their operations are mixed;
 //! - as long as nobody is stopped or fenced, object maps tell exactly which objects exist, but for
 //!   the object that a line makes or removes next, or whose state it sets next (`rbd_exact`).
 //!
-//! [`laws`] has these as laws over any sessions: a world begins sound, and each event, and each
-//! refusal of memory, leaves it so; that order as a law on whole runs; that maps are exact on an
-//! image at rest; what holds of ways to a lock (`ways_lead_to_locks`), and at which place each
-//! operation comes; and that who acts is a life that runs, but for what a stopped one had sent,
-//! which comes once. What a fence stops, and whose changes are, are laws of `rbd_replies`.
+//! [`laws`] has these as laws over any world as plans tell it: a world begins sound, and each
+//! event, and each refusal of memory, leaves it so; that order as a law on whole runs; that maps
+//! are exact on an image at rest; what holds of ways to a lock (`ways_lead_to_locks`), and at which
+//! place each operation comes; that who acts is a life that runs, but for what a stopped one had
+//! sent, which comes once; and that an owner which isn't fenced counts its lock. What a fence
+//! stops, and whose changes are, are laws of `rbd_replies`.
 //!
 //! # Cost
 //!

@@ -4,7 +4,7 @@ use rbd_course::Request;
 use rbd_kinds::{Instance, Op, SiteId};
 use std::marker::Model;
 
-/// What an instance may still send that was stopped: what each of its slots wanted then, where it
+/// Operations in flight when the instance stopped: what each of its slots wanted then, where it
 /// hasn't come yet (own: an operation of each slot may be under way at a stop).
 #[derive(Drop)]
 pub struct Late {

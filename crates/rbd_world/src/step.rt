@@ -29,21 +29,21 @@ use rbd_requests::SessionRequest;
 use std::alloc::Global;
 
 /// Does what an event does, notes it, and keeps its call. Refused memory, nothing happened.
-pub fn step_parts<E: Machine + Drop>(
+pub fn step_parts(
     alloc: Global,
     sites: &mut Sites,
-    lives: &mut Vec<Lives<SessionRequest<E>>>,
+    lives: &mut Vec<Lives<SessionRequest>>,
     begun: &mut BegunLines,
     book: &mut Book,
     event: &Event,
 ) -> Result<Outcome, NoMemory>
     requires built { IsBuiltEvent event.now }
-    requires wants { (session slot : ℕ) (c : ClientView (Of E)) → client_in session lives.old.items ≡ Some c → WantsWhatItMay (stands_of E.stands) sites.old slot c }
-    requires rest { (session slot : ℕ) (c : ClientView (Of E)) → client_in session lives.old.items ≡ Some c → DropsWhatItMay (stands_of E.stands) slot c }
+    requires wants { (session slot : ℕ) (c : ClientView Of) → client_in session lives.old.items ≡ Some c → WantsWhatItMay stands_of sites.old slot c }
+    requires rest { (session slot : ℕ) (c : ClientView Of) → client_in session lives.old.items ≡ Some c → DropsWhatItMay stands_of slot c }
     requires late { (session slot : ℕ) → MayCome sites.old (late_at session slot lives.old.items) }
-    ensures steps { let h = happens (stands_of E.stands) event.now (λ line. has_line line begun.old) sites.old lives.old.items in
-        IfOk result (StepsParts (stands_of E.stands) event.now h sites.old sites.new lives.old.items lives.new.items begun.old begun.new book.old.history.items book.new.history.items book.old.calls.items book.new.calls.items) }
-    ensures err { OnErr result (LeavesParts (stands_of E.stands) sites.old sites.new lives.old.items lives.new.items begun.old begun.new) }
+    ensures steps { let h = happens stands_of event.now (λ line. has_line line begun.old) sites.old lives.old.items in
+        IfOk result (StepsParts stands_of event.now h sites.old sites.new lives.old.items lives.new.items begun.old begun.new book.old.history.items book.new.history.items book.old.calls.items book.new.calls.items) }
+    ensures err { OnErr result (LeavesParts stands_of sites.old sites.new lives.old.items lives.new.items begun.old begun.new) }
     ensures history { OnErr result (book.new.history.items ≡ book.old.history.items) }
     ensures calls { OnErr result (book.new.calls.items ≡ book.old.calls.items) }
 {
@@ -62,22 +62,22 @@ pub fn step_parts<E: Machine + Drop>(
 }
 
 /// Does what an event does, and notes it, where there is room.
-fn happen<E: Machine + Drop>(
+fn happen(
     alloc: Global,
     sites: &mut Sites,
-    lives: &mut Vec<Lives<SessionRequest<E>>>,
+    lives: &mut Vec<Lives<SessionRequest>>,
     begun: &mut BegunLines,
     history: &mut Vec<Entry>,
     event: &Event,
 ) -> Result<Outcome, NoMemory>
     requires room { vec_len history.old + 2 ≤ vec_capacity history.old }
     requires built { IsBuiltEvent event.now }
-    requires wants { (session slot : ℕ) (c : ClientView (Of E)) → client_in session lives.old.items ≡ Some c → WantsWhatItMay (stands_of E.stands) sites.old slot c }
-    requires rest { (session slot : ℕ) (c : ClientView (Of E)) → client_in session lives.old.items ≡ Some c → DropsWhatItMay (stands_of E.stands) slot c }
+    requires wants { (session slot : ℕ) (c : ClientView Of) → client_in session lives.old.items ≡ Some c → WantsWhatItMay stands_of sites.old slot c }
+    requires rest { (session slot : ℕ) (c : ClientView Of) → client_in session lives.old.items ≡ Some c → DropsWhatItMay stands_of slot c }
     requires late { (session slot : ℕ) → MayCome sites.old (late_at session slot lives.old.items) }
-    ensures did { let h = happens (stands_of E.stands) event.now (λ line. has_line line begun.old) sites.old lives.old.items in
-        IfOk result (IsNotedStep (stands_of E.stands) event.now h sites.old sites.new lives.old.items lives.new.items begun.old begun.new history.old.items history.new.items) }
-    ensures err { OnErr result (LeavesParts (stands_of E.stands) sites.old sites.new lives.old.items lives.new.items begun.old begun.new) }
+    ensures did { let h = happens stands_of event.now (λ line. has_line line begun.old) sites.old lives.old.items in
+        IfOk result (IsNotedStep stands_of event.now h sites.old sites.new lives.old.items lives.new.items begun.old begun.new history.old.items history.new.items) }
+    ensures err { OnErr result (LeavesParts stands_of sites.old sites.new lives.old.items lives.new.items begun.old begun.new) }
     ensures unnoted { OnErr result (history.new.items ≡ history.old.items) }
 {
     match event {
@@ -111,19 +111,19 @@ fn happen<E: Machine + Drop>(
 }
 
 /// A poll, for who has no event at hand.
-pub fn poll_parts<E: Machine + Drop>(
+pub fn poll_parts(
     alloc: Global,
     sites: &mut Sites,
-    lives: &mut Vec<Lives<SessionRequest<E>>>,
+    lives: &mut Vec<Lives<SessionRequest>>,
     book: &mut Book,
     session: SessionNo,
     slot: Slot,
 ) -> Result<Outcome, NoMemory>
-    requires wants { (c : ClientView (Of E)) → client_in session lives.old.items ≡ Some c → WantsWhatItMay (stands_of E.stands) sites.old slot c }
-    requires rest { (c : ClientView (Of E)) → client_in session lives.old.items ≡ Some c → DropsWhatItMay (stands_of E.stands) slot c }
-    ensures steps { (begun : BegunLines) → let h = polled (stands_of E.stands) sites.old slot (client_in session lives.old.items) in
-        IfOk result (StepsParts (stands_of E.stands) (of_event.Poll session slot) h sites.old sites.new lives.old.items lives.new.items begun begun book.old.history.items book.new.history.items book.old.calls.items book.new.calls.items) }
-    ensures err { (begun : BegunLines) → OnErr result (LeavesParts (stands_of E.stands) sites.old sites.new lives.old.items lives.new.items begun begun) }
+    requires wants { (c : ClientView Of) → client_in session lives.old.items ≡ Some c → WantsWhatItMay stands_of sites.old slot c }
+    requires rest { (c : ClientView Of) → client_in session lives.old.items ≡ Some c → DropsWhatItMay stands_of slot c }
+    ensures steps { (begun : BegunLines) → let h = polled stands_of sites.old slot (client_in session lives.old.items) in
+        IfOk result (StepsParts stands_of (of_event.Poll session slot) h sites.old sites.new lives.old.items lives.new.items begun begun book.old.history.items book.new.history.items book.old.calls.items book.new.calls.items) }
+    ensures err { (begun : BegunLines) → OnErr result (LeavesParts stands_of sites.old sites.new lives.old.items lives.new.items begun begun) }
     ensures history { OnErr result (book.new.history.items ≡ book.old.history.items) }
     ensures calls { OnErr result (book.new.calls.items ≡ book.old.calls.items) }
 {

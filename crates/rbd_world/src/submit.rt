@@ -18,7 +18,7 @@ use rbd_client::Client;
 use rbd_flat::Entry;
 use rbd_kinds::{Command, NoMemory, SessionNo, TryClone};
 use rbd_machine::Machine;
-use rbd_requests::{SessionRequest, Work};
+use rbd_requests::SessionRequest;
 use std::alloc::Global;
 
 /// A line of a script, with the session whose command it is.
@@ -31,9 +31,9 @@ pub struct SessionLine {
 /// A client begins the command of a line, in its lowest free slot: nothing where no client of the
 /// session runs, where it has no free slot, or where the line was begun before. Refused memory,
 /// nothing changes.
-pub fn submit<E: Machine + Drop>(
+pub fn submit(
     alloc: Global,
-    lives: &mut Vec<Lives<SessionRequest<E>>>,
+    lives: &mut Vec<Lives<SessionRequest>>,
     begun: &mut BegunLines,
     history: &mut Vec<Entry>,
     at: &SessionLine,
@@ -44,7 +44,7 @@ pub fn submit<E: Machine + Drop>(
     ensures outcome { IfOk result (λ o. o ≡ outcome_of (submitted (has_line at.now.line begun.old) at.now.line command.now (client_in at.now.session lives.old.items))) }
     ensures history { OnOk result (history.new.items ≡ noted_by history.old.items (submitted (has_line at.now.line begun.old) at.now.line command.now (client_in at.now.session lives.old.items))) }
     ensures lives { let h = submitted (has_line at.now.line begun.old) at.now.line command.now (client_in at.now.session lives.old.items) in
-        OnOk result (DoesToLives (stands_of E.stands) (of_event.Submit at.now.session at.now.line command.now) h lives.old.items lives.new.items) }
+        OnOk result (DoesToLives stands_of (of_event.Submit at.now.session at.now.line command.now) h lives.old.items lives.new.items) }
     ensures begun { let h = submitted (has_line at.now.line begun.old) at.now.line command.now (client_in at.now.session lives.old.items) in
         OnOk result ((l : ℕ) → has_line l begun.new ≡ begun_behind (λ l. has_line l begun.old) h l) }
     ensures err { OnErr result (lives.new.items ≡ lives.old.items) }
@@ -61,9 +61,9 @@ pub fn submit<E: Machine + Drop>(
 }
 
 /// The same, where it is known whether the line was begun before.
-fn submit_to<E: Machine + Drop>(
+fn submit_to(
     alloc: Global,
-    lives: &mut Vec<Lives<SessionRequest<E>>>,
+    lives: &mut Vec<Lives<SessionRequest>>,
     history: &mut Vec<Entry>,
     at: &SessionLine,
     command: &Command,
@@ -73,7 +73,7 @@ fn submit_to<E: Machine + Drop>(
     requires room { vec_len history.old + 2 ≤ vec_capacity history.old }
     ensures outcome { IfOk result (λ o. o ≡ outcome_of (submitted is_begun at.now.line command.now (client_in at.now.session lives.old.items))) }
     ensures history { OnOk result (history.new.items ≡ noted_by history.old.items (submitted is_begun at.now.line command.now (client_in at.now.session lives.old.items))) }
-    ensures lives { OnOk result (DoesToLives (stands_of E.stands) (of_event.Submit at.now.session at.now.line command.now) (submitted is_begun at.now.line command.now (client_in at.now.session lives.old.items)) lives.old.items lives.new.items) }
+    ensures lives { OnOk result (DoesToLives stands_of (of_event.Submit at.now.session at.now.line command.now) (submitted is_begun at.now.line command.now (client_in at.now.session lives.old.items)) lives.old.items lives.new.items) }
     ensures err { OnErr result (lives.new.items ≡ lives.old.items) }
     ensures unnoted { OnErr result (history.new.items ≡ history.old.items) }
 {
@@ -85,9 +85,9 @@ fn submit_to<E: Machine + Drop>(
 }
 
 /// The client that runs begins it, if one does.
-fn submit_in<E: Machine + Drop>(
+fn submit_in(
     alloc: Global,
-    life: &mut Lives<SessionRequest<E>>,
+    life: &mut Lives<SessionRequest>,
     history: &mut Vec<Entry>,
     line: u32,
     command: &Command,
@@ -97,8 +97,8 @@ fn submit_in<E: Machine + Drop>(
     requires room { vec_len history.old + 2 ≤ vec_capacity history.old }
     ensures outcome { IfOk result (λ o. o ≡ outcome_of (submitted is_begun line command.now life.old.running)) }
     ensures history { OnOk result (history.new.items ≡ noted_by history.old.items (submitted is_begun line command.now life.old.running)) }
-    ensures life { OnOk result ((session : ℕ) → LivesOn (stands_of E.stands) (of_event.Submit session line command.now) (submitted is_begun line command.now life.old.running) life.old life.new) }
-    ensures sound { IsSoundIf (stands_of E.stands) life.new.running }
+    ensures life { OnOk result ((session : ℕ) → LivesOn stands_of (of_event.Submit session line command.now) (submitted is_begun line command.now life.old.running) life.old life.new) }
+    ensures sound { IsSoundIf stands_of life.new.running }
     ensures err { OnErr result (life.new ≡ life.old) }
     ensures unnoted { OnErr result (history.new.items ≡ history.old.items) }
 {
@@ -109,9 +109,9 @@ fn submit_in<E: Machine + Drop>(
 }
 
 /// The command of a line takes the lowest free slot of a client.
-fn begin<E: Machine + Drop>(
+fn begin(
     alloc: Global,
-    client: &mut Client<SessionRequest<E>>,
+    client: &mut Client<SessionRequest>,
     history: &mut Vec<Entry>,
     line: u32,
     command: &Command,
@@ -121,8 +121,8 @@ fn begin<E: Machine + Drop>(
     requires room { vec_len history.old + 2 ≤ vec_capacity history.old }
     ensures outcome { IfOk result (λ o. o ≡ outcome_of (submitted is_begun line command.now (Some client.old))) }
     ensures history { OnOk result (history.new.items ≡ noted_by history.old.items (submitted is_begun line command.now (Some client.old))) }
-    ensures becomes { OnOk result ((session : ℕ) → Becomes (stands_of E.stands) (of_event.Submit session line command.now) (submitted is_begun line command.now (Some client.old)) client.old client.new) }
-    ensures sound { IsSoundClient (stands_of E.stands) client.new }
+    ensures becomes { OnOk result ((session : ℕ) → Becomes stands_of (of_event.Submit session line command.now) (submitted is_begun line command.now (Some client.old)) client.old client.new) }
+    ensures sound { IsSoundClient stands_of client.new }
     ensures err { OnErr result (client.new ≡ client.old) }
     ensures unnoted { OnErr result (history.new.items ≡ history.old.items) }
 {
@@ -134,7 +134,7 @@ fn begin<E: Machine + Drop>(
         return Ok(Outcome::Nothing);
     }
     let instance = client.instance();
-    let work = Work::Plain(command.try_clone()?);
+    let work = command.try_clone()?;
     let slot = client.submit(alloc, line, work, command.quiescing())?;
     history.push_reserved(Entry::Start { line, instance });
     Ok(Outcome::Submitted(slot))

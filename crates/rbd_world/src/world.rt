@@ -1,9 +1,10 @@
 //! The world, and its events.
 ghost use Rattle.std.specs.Prelude.{◌≡◌, ◌≤◌, length, option_copied, option_map, is_some, IfOk, OnErr};
 ghost use Rattle.rbd_client.specs.Client.{ClientView};
-ghost use Rattle.rbd_requests.specs.declared.request.SessionRequest.{SessionRequest as Of};
-ghost use Rattle.rbd_requests.specs.Session.{stands_of};
+ghost use Rattle.rbd_client.specs.Seen.{as_is};
+ghost use Rattle.rbd_machine.specs.Plan.{Standing};
 ghost use Rattle.rbd_watch.specs.Posting.{numbered};
+ghost use Rattle.rbd_world.specs.Seen.{seen};
 ghost use Rattle.rbd_world.specs.Sound.{AreAtHome, AreFirst, IsFirst, IsNewWorld, IsSoundWorld, line_at};
 ghost use Rattle.rbd_world.specs.Step.{IsBuiltEvent, IsStep, IsUndone, is_begun};
 ghost use Rattle.rbd_world.specs.World.{client_in, free_in, heard_in, kind_in, site_in};
@@ -43,35 +44,38 @@ use std::marker::Model;
 /// ```
 ///
 /// It isn't `Drop`: [`World::close`] lets it go.
-pub struct World<E: Machine + Drop> {
+pub struct World {
     sites: Sites,
-    lives: Vec<Lives<SessionRequest<E>>>,
+    lives: Vec<Lives<SessionRequest>>,
     /// The lines that have a start in the history.
     begun: BegunLines,
     book: Book,
 }
 
-impl<E: Machine + Drop> Model for World<E> {
+impl Model for World {
+    ghost use Rattle.rbd_client.specs.Seen.{as_is};
     ghost use Rattle.rbd_requests.specs.declared.request.SessionRequest.{SessionRequest as Of};
     ghost use Rattle.rbd_requests.specs.Session.{stands_of};
-    ghost use Rattle.rbd_world.specs.Sound.{IsKept};
     ghost use Rattle.rbd_world.specs.World.{WorldView};
 
-    ghost Value = { WorldView (Of E) };
+    ghost Value = { WorldView Of };
+
+    ghost use Rattle.rbd_world.specs.Seen.{seen_by};
+    ghost use Rattle.rbd_world.specs.Sound.{IsKept};
 
     ghost view = { λ w. record { sites = w.sites; lives = w.lives.items; history = w.book.history.items; calls = w.book.calls.items } };
 
-    ghost invariant = { λ w. IsKept (stands_of E.stands) w.begun (record { sites = w.sites; lives = w.lives.items; history = w.book.history.items; calls = w.book.calls.items }) };
+    ghost invariant = { λ w. IsKept as_is w.begun (seen_by stands_of (record { sites = w.sites; lives = w.lives.items; history = w.book.history.items; calls = w.book.calls.items })) };
 }
 
-impl<E: Machine + Drop> World<E> {
+impl World {
     /// A world of sessions at these sites, at most 32, each in its first life. The sites are empty,
     /// and nothing happened.
     pub fn new(alloc: Global, homes: &[SiteId]) -> Result<Self, NoMemory>
         requires { length homes.now ≤ 32 }
-        ensures new { IfOk result (IsNewWorld (stands_of E.stands)) }
-        ensures clients { IfOk result (λ w. AreAtHome homes.now w.lives) }
-        ensures sound { IfOk result (IsSoundWorld (stands_of E.stands)) }
+        ensures new { IfOk result (λ w. IsNewWorld as_is (seen w)) }
+        ensures clients { IfOk result (λ w. AreAtHome homes.now (seen w).lives) }
+        ensures sound { IfOk result (λ w. IsSoundWorld as_is (seen w)) }
     {
         let lives = first_lives(alloc, homes)?;
         match Sites::new(alloc) {
@@ -110,9 +114,9 @@ impl<E: Machine + Drop> World<E> {
     /// Refused memory, nothing happened. A command that isn't built is ruled out.
     pub fn step(&mut self, alloc: Global, event: &Event) -> Result<Outcome, NoMemory>
         requires built { IsBuiltEvent event.now }
-        ensures step { IfOk result (λ outcome. IsStep (stands_of E.stands) event.now self.old outcome self.new) }
-        ensures err { OnErr result (IsUndone (stands_of E.stands) self.old self.new) }
-        ensures sound { IsSoundWorld (stands_of E.stands) self.new }
+        ensures step { IfOk result (λ outcome. IsStep as_is event.now (seen self.old) outcome (seen self.new)) }
+        ensures err { OnErr result (IsUndone as_is (seen self.old) (seen self.new)) }
+        ensures sound { IsSoundWorld as_is (seen self.new) }
     {
         let outcome = step_parts(
             alloc,
@@ -132,9 +136,9 @@ impl<E: Machine + Drop> World<E> {
         session: SessionNo,
         slot: Slot,
     ) -> Result<Outcome, NoMemory>
-        ensures step { IfOk result (λ outcome. IsStep (stands_of E.stands) (of_event.Poll session slot) self.old outcome self.new) }
-        ensures err { OnErr result (IsUndone (stands_of E.stands) self.old self.new) }
-        ensures sound { IsSoundWorld (stands_of E.stands) self.new }
+        ensures step { IfOk result (λ outcome. IsStep as_is (of_event.Poll session slot) (seen self.old) outcome (seen self.new)) }
+        ensures err { OnErr result (IsUndone as_is (seen self.old) (seen self.new)) }
+        ensures sound { IsSoundWorld as_is (seen self.new) }
     {
         let outcome = poll_parts(
             alloc,
@@ -148,22 +152,25 @@ impl<E: Machine + Drop> World<E> {
     }
 
     /// What happened so far, in order.
+    #[tactic(auto, unfolding(crate::specs::Seen::seen))]
     pub fn history(&self) -> &[Entry]
-        ensures { result.now ≡ self.now.history }
+        ensures { result.now ≡ (seen self.now).history }
     {
         self.book.history.as_slice()
     }
 
     /// The events so far, each with what came of it, in order.
+    #[tactic(auto, unfolding(crate::specs::Seen::seen))]
     pub fn calls(&self) -> &[Call]
-        ensures { result.now ≡ self.now.calls }
+        ensures { result.now ≡ (seen self.now).calls }
     {
         self.book.calls.as_slice()
     }
 
     /// The operations of a site, in order, numbered from 1.
+    #[tactic(auto, unfolding(crate::specs::Seen::seen))]
     pub fn operations(&self, site: SiteId) -> &[Done]
-        ensures { result.now ≡ (site_in site self.now.sites).log }
+        ensures { result.now ≡ (site_in site (seen self.now).sites).log }
     {
         match site {
             SiteId::A => self.sites.a.log(),
@@ -173,29 +180,32 @@ impl<E: Machine + Drop> World<E> {
 
     /// How many notices were posted at both sites, which is also the number of the last. It takes
     /// no memory.
+    #[tactic(auto, unfolding(crate::specs::Seen::seen))]
     pub fn notices(&self) -> u64
-        ensures count { result ≡ length self.now.sites.mail }
+        ensures count { result ≡ length (seen self.now).sites.mail }
     {
         self.sites.mail.count()
     }
 
     /// The notice that has a number: `None` exactly where none has. It takes no memory.
+    #[tactic(auto, unfolding(crate::specs::Seen::seen))]
     pub fn notice(&self, number: u64) -> Option<&Notice>
-        ensures { option_copied result ≡ numbered number self.now.sites.mail }
+        ensures { option_copied result ≡ numbered number (seen self.now).sites.mail }
     {
         self.sites.mail.get(number)
     }
 
     /// Whether a session has begun the command of a line. It takes no memory.
+    #[tactic(auto, unfolding(crate::specs::Seen::seen))]
     pub fn has_begun(&self, line: u32) -> bool
-        ensures begun { result ≡ is_begun line self.now.history }
+        ensures begun { result ≡ is_begun line (seen self.now).history }
     {
         self.begun.has(line)
     }
 
     /// Whether a session is there and runs. It takes no memory.
     pub fn runs(&self, session: SessionNo) -> bool
-        ensures { result ≡ is_some (client_in session self.now.lives) }
+        ensures { result ≡ is_some (client_in session (seen self.now).lives) }
     {
         client_of(self.lives.as_slice(), session).is_some()
     }
@@ -203,7 +213,7 @@ impl<E: Machine + Drop> World<E> {
     /// The life of a session that runs: `None` exactly where the session isn't there or doesn't
     /// run. It takes no memory.
     pub fn running(&self, session: SessionNo) -> Option<Instance>
-        ensures running { result ≡ option_map (λ (c : ClientView (Of E)). c.session.instance) (client_in session self.now.lives) }
+        ensures running { result ≡ option_map (λ (c : ClientView Standing). c.session.instance) (client_in session (seen self.now).lives) }
     {
         Some(client_of(self.lives.as_slice(), session)?.instance())
     }
@@ -211,7 +221,7 @@ impl<E: Machine + Drop> World<E> {
     /// The lowest free slot of a session: `None` exactly where it isn't there or doesn't run, or 64
     /// are held. It takes no memory.
     pub fn free(&self, session: SessionNo) -> Option<Slot>
-        ensures free { result ≡ free_in (client_in session self.now.lives) }
+        ensures free { result ≡ free_in (client_in session (seen self.now).lives) }
     {
         client_of(self.lives.as_slice(), session)?.free()
     }
@@ -219,8 +229,8 @@ impl<E: Machine + Drop> World<E> {
     /// The line whose command is in a slot of a session: `None` exactly where the session isn't
     /// there or doesn't run, or the slot is free. It takes no memory.
     pub fn line(&self, session: SessionNo, slot: Slot) -> Option<u32>
-        ensures line { result ≡ line_at session slot self.now.lives }
-        ensures sound { IsSoundWorld (stands_of E.stands) self.now }
+        ensures line { result ≡ line_at session slot (seen self.now).lives }
+        ensures sound { IsSoundWorld as_is (seen self.now) }
     {
         client_of(self.lives.as_slice(), session)?.line(slot)
     }
@@ -230,7 +240,7 @@ impl<E: Machine + Drop> World<E> {
     /// refused before any operation; and at slot 0 where no lock is to be let go. It takes no
     /// memory.
     pub fn kind(&self, session: SessionNo, slot: Slot) -> Option<(SiteId, OpKind)>
-        ensures { result ≡ kind_in (stands_of E.stands) slot (client_in session self.now.lives) }
+        ensures { result ≡ kind_in as_is slot (client_in session (seen self.now).lives) }
     {
         client_of(self.lives.as_slice(), session)?.kind(slot)
     }
@@ -238,7 +248,7 @@ impl<E: Machine + Drop> World<E> {
     /// What other clients told the life of a session that runs, in the order in which it was heard:
     /// nothing where none runs. It takes no memory.
     pub fn heard(&self, session: SessionNo) -> &[Notice]
-        ensures { result.now ≡ heard_in (client_in session self.now.lives) }
+        ensures { result.now ≡ heard_in (client_in session (seen self.now).lives) }
     {
         match client_of(self.lives.as_slice(), session) {
             Some(client) => client.heard(),

@@ -2,7 +2,7 @@ use Rattle.rbd_replies.proofs.OwnedLogs.{log_is_owned, world_logs}
 use Rattle.rbd_replies.proofs.laws.logs_are_owned.Goals as goal
 
 pub returns-clause-run : goal.returns-clause-run
-returns-clause-run R c = log_is_owned
+returns-clause-run c = log_is_owned
 
 pub returns-clause-world : goal.returns-clause-world
-returns-clause-world R c = world_logs R.R.Machine.stands
+returns-clause-world c = world_logs

@@ -2,4 +2,4 @@ use Rattle.rbd_replies.proofs.HeadersShown.{world_in_form}
 use Rattle.rbd_replies.proofs.laws.shown_headers_are_in_form.Goals as goal
 
 pub returns : goal.returns
-returns R c = world_in_form R.R.Machine.stands
+returns c = world_in_form

@@ -1,4 +1,4 @@
 use Rattle.rbd_world.proofs.laws.open_lines_are_in_slots.Goals as goal
 
 pub returns : goal.returns
-returns R c = λ w sound line begun. sound.slots line begun
+returns c = λ w sound line begun. sound.slots line begun

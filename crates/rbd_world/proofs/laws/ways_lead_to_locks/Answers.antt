@@ -3,14 +3,14 @@ use Rattle.rbd_world.proofs.WaysOfLines.{are_a_way, fenced_first, is_bounded, ta
 use Rattle.rbd_world.proofs.laws.ways_lead_to_locks.Goals as goal
 
 pub returns-clause-ways : goal.returns-clause-ways
-returns-clause-ways R c = λ w sound line. are_a_way sound.homes line sound.run sound.right
+returns-clause-ways c = λ w sound line. are_a_way sound.told.homes line sound.told.run sound.told.right
 
 pub returns-clause-broken : goal.returns-clause-broken
-returns-clause-broken R c = λ w sound line image owner s a before after is.
-    fenced_first (way_of line sound.run) (are_a_way sound.homes line sound.run sound.right) image owner s a before after is
+returns-clause-broken c = λ w sound line image owner s a before after is.
+    fenced_first (way_of line sound.told.run) (are_a_way sound.told.homes line sound.told.run sound.told.right) image owner s a before after is
 
 pub returns-clause-takes : goal.returns-clause-takes
-returns-clause-takes R c = λ w sound line. takes_once_a_round (way_of line sound.run) (are_a_way sound.homes line sound.run sound.right)
+returns-clause-takes c = λ w sound line. takes_once_a_round (way_of line sound.told.run) (are_a_way sound.told.homes line sound.told.run sound.told.right)
 
 pub returns-clause-all : goal.returns-clause-all
-returns-clause-all R c = λ w sound line. is_bounded (way_of line sound.run) (are_a_way sound.homes line sound.run sound.right)
+returns-clause-all c = λ w sound line. is_bounded (way_of line sound.told.run) (are_a_way sound.told.homes line sound.told.run sound.told.right)

@@ -1,5 +1,6 @@
+use Rattle.rbd_client.specs.Seen.{as_is}
 use Rattle.rbd_world.proofs.Beginning.{new_world_is_sound}
 use Rattle.rbd_world.proofs.laws.worlds_begin_sound.Goals as goal
 
 pub returns : goal.returns
-returns R c = new_world_is_sound R.R.Machine.stands
+returns c = new_world_is_sound as_is

@@ -10,88 +10,88 @@ use Rattle.rbd_world.proofs.Parts.{coming_noted, delivery_noted, expiry_noted, l
 use Rattle.rbd_world.proofs.step.happen.Goals as goal
 
 pub poll-requires : goal.poll-requires
-poll-requires g c = record { room = c.requires.room; wants = c.requires.wants c.in-Poll.session c.in-Poll.slot; rest = c.requires.rest c.in-Poll.session c.in-Poll.slot }
+poll-requires c = record { room = c.requires.room; wants = c.requires.wants c.in-Poll.session c.in-Poll.slot; rest = c.requires.rest c.in-Poll.session c.in-Poll.slot }
 
 pub come-requires : goal.come-requires
-come-requires g c = record { room = c.requires.room; may = c.requires.late c.in-Late.session c.in-Late.slot }
+come-requires c = record { room = c.requires.room; may = c.requires.late c.in-Late.session c.in-Late.slot }
 
 pub returns-in-Submit-clause-did : goal.returns-in-Submit-clause-did
-returns-in-Submit-clause-did g c =
-    subst (λ (e : Event). IfOk c.submit.result (IsNotedStep (stands_of g.E.Machine.stands) e (happens (stands_of g.E.Machine.stands) e (λ l. has_line l c.args.begun.now) c.args.sites.now c.args.lives.now.items)
+returns-in-Submit-clause-did c =
+    subst (λ (e : Event). IfOk c.submit.result (IsNotedStep stands_of e (happens stands_of e (λ l. has_line l c.args.begun.now) c.args.sites.now c.args.lives.now.items)
     c.args.sites.now c.args.sites.now c.args.lives.now.items c.submit.new.lives.items c.args.begun.now c.submit.new.begun c.args.history.now.items c.submit.new.history.items)) (sym c.in-Submit.is)
     (rw (sym c.deref.ensures)
-    (submission_noted (stands_of g.E.Machine.stands) c.submit.result c.args.sites.now c.args.lives.now.items c.args.begun.now c.args.history.now.items c.in-Submit.session c.in-Submit.line c.deref.result.now c.submit.new.lives.items c.submit.new.begun c.submit.new.history.items c.submit.ensures.outcome c.submit.ensures.history c.submit.ensures.lives c.submit.ensures.begun))
+    (submission_noted stands_of c.submit.result c.args.sites.now c.args.lives.now.items c.args.begun.now c.args.history.now.items c.in-Submit.session c.in-Submit.line c.deref.result.now c.submit.new.lives.items c.submit.new.begun c.submit.new.history.items c.submit.ensures.outcome c.submit.ensures.history c.submit.ensures.lives c.submit.ensures.begun))
 
 pub returns-in-Submit-clause-err : goal.returns-in-Submit-clause-err
-returns-in-Submit-clause-err g c =
-    leaves_sites (stands_of g.E.Machine.stands) c.submit.result c.args.sites.now c.args.sites.now c.args.lives.now.items c.submit.new.lives.items c.args.begun.now c.submit.new.begun c.submit.ensures.err c.submit.ensures.same
+returns-in-Submit-clause-err c =
+    leaves_sites stands_of c.submit.result c.args.sites.now c.args.sites.now c.args.lives.now.items c.submit.new.lives.items c.args.begun.now c.submit.new.begun c.submit.ensures.err c.submit.ensures.same
 
 pub returns-in-Poll-clause-did : goal.returns-in-Poll-clause-did
-returns-in-Poll-clause-did g c =
-    subst (λ (e : Event). IfOk c.poll.result (IsNotedStep (stands_of g.E.Machine.stands) e (happens (stands_of g.E.Machine.stands) e (λ l. has_line l c.args.begun.now) c.args.sites.now c.args.lives.now.items)
+returns-in-Poll-clause-did c =
+    subst (λ (e : Event). IfOk c.poll.result (IsNotedStep stands_of e (happens stands_of e (λ l. has_line l c.args.begun.now) c.args.sites.now c.args.lives.now.items)
     c.args.sites.now c.poll.new.sites c.args.lives.now.items c.poll.new.lives.items c.args.begun.now c.args.begun.now c.args.history.now.items c.poll.new.history.items)) (sym c.in-Poll.is)
-    (poll_noted (stands_of g.E.Machine.stands) c.poll.result c.args.sites.now c.args.lives.now.items c.args.begun.now c.args.history.now.items c.in-Poll.session c.in-Poll.slot c.poll.new.sites c.poll.new.lives.items c.poll.new.history.items c.poll.ensures.outcome c.poll.ensures.history c.poll.ensures.sites c.poll.ensures.lives)
+    (poll_noted stands_of c.poll.result c.args.sites.now c.args.lives.now.items c.args.begun.now c.args.history.now.items c.in-Poll.session c.in-Poll.slot c.poll.new.sites c.poll.new.lives.items c.poll.new.history.items c.poll.ensures.outcome c.poll.ensures.history c.poll.ensures.sites c.poll.ensures.lives)
 
 pub returns-in-Poll-clause-err : goal.returns-in-Poll-clause-err
-returns-in-Poll-clause-err g c =
-    poll_leaves (stands_of g.E.Machine.stands) c.poll.result c.args.sites.now c.poll.new.sites c.args.lives.now.items c.poll.new.lives.items c.args.begun.now c.poll.ensures.err c.poll.ensures.alike
+returns-in-Poll-clause-err c =
+    poll_leaves stands_of c.poll.result c.args.sites.now c.poll.new.sites c.args.lives.now.items c.poll.new.lives.items c.args.begun.now c.poll.ensures.err c.poll.ensures.alike
 
 pub returns-in-Deliver-clause-did : goal.returns-in-Deliver-clause-did
-returns-in-Deliver-clause-did g c =
-    subst (λ (e : Event). IfOk c.deliver.result (IsNotedStep (stands_of g.E.Machine.stands) e (happens (stands_of g.E.Machine.stands) e (λ l. has_line l c.args.begun.now) c.args.sites.now c.args.lives.now.items)
+returns-in-Deliver-clause-did c =
+    subst (λ (e : Event). IfOk c.deliver.result (IsNotedStep stands_of e (happens stands_of e (λ l. has_line l c.args.begun.now) c.args.sites.now c.args.lives.now.items)
     c.args.sites.now c.args.sites.now c.args.lives.now.items c.deliver.new.lives.items c.args.begun.now c.args.begun.now c.args.history.now.items c.args.history.now.items)) (sym c.in-Deliver.is)
-    (delivery_noted (stands_of g.E.Machine.stands) c.deliver.result c.args.sites.now c.args.lives.now.items c.args.begun.now c.args.history.now.items c.in-Deliver.number c.deliver.new.lives.items c.deliver.ensures.outcome c.deliver.ensures.lives)
+    (delivery_noted stands_of c.deliver.result c.args.sites.now c.args.lives.now.items c.args.begun.now c.args.history.now.items c.in-Deliver.number c.deliver.new.lives.items c.deliver.ensures.outcome c.deliver.ensures.lives)
 
 pub returns-in-Deliver-clause-err : goal.returns-in-Deliver-clause-err
-returns-in-Deliver-clause-err g c =
-    leaves_sites (stands_of g.E.Machine.stands) c.deliver.result c.args.sites.now c.args.sites.now c.args.lives.now.items c.deliver.new.lives.items c.args.begun.now c.args.begun.now c.deliver.ensures.err (always_err c.deliver.result _ (λ l. refl))
+returns-in-Deliver-clause-err c =
+    leaves_sites stands_of c.deliver.result c.args.sites.now c.args.sites.now c.args.lives.now.items c.deliver.new.lives.items c.args.begun.now c.args.begun.now c.deliver.ensures.err (always_err c.deliver.result _ (λ l. refl))
 
 pub returns-in-Expire-clause-did : goal.returns-in-Expire-clause-did
-returns-in-Expire-clause-did g c =
-    subst (λ (e : Event). IfOk c.expire.result (IsNotedStep (stands_of g.E.Machine.stands) e (happens (stands_of g.E.Machine.stands) e (λ l. has_line l c.args.begun.now) c.args.sites.now c.args.lives.now.items)
+returns-in-Expire-clause-did c =
+    subst (λ (e : Event). IfOk c.expire.result (IsNotedStep stands_of e (happens stands_of e (λ l. has_line l c.args.begun.now) c.args.sites.now c.args.lives.now.items)
     c.args.sites.now c.expire.new.sites c.args.lives.now.items c.args.lives.now.items c.args.begun.now c.args.begun.now c.args.history.now.items c.args.history.now.items)) (sym c.in-Expire.is)
-    (expiry_noted (stands_of g.E.Machine.stands) c.expire.result c.args.sites.now c.args.lives.now.items c.args.begun.now c.args.history.now.items c.in-Expire.session c.in-Expire.image c.in-Expire.site c.expire.new.sites c.expire.ensures.outcome c.expire.ensures.sites)
+    (expiry_noted stands_of c.expire.result c.args.sites.now c.args.lives.now.items c.args.begun.now c.args.history.now.items c.in-Expire.session c.in-Expire.image c.in-Expire.site c.expire.new.sites c.expire.ensures.outcome c.expire.ensures.sites)
 
 pub returns-in-Expire-clause-err : goal.returns-in-Expire-clause-err
-returns-in-Expire-clause-err g c =
-    leaves_same (stands_of g.E.Machine.stands) c.expire.result c.args.sites.now c.expire.new.sites c.args.lives.now.items c.args.lives.now.items c.args.begun.now c.expire.ensures.err (always_err c.expire.result _ refl)
+returns-in-Expire-clause-err c =
+    leaves_same stands_of c.expire.result c.args.sites.now c.expire.new.sites c.args.lives.now.items c.args.lives.now.items c.args.begun.now c.expire.ensures.err (always_err c.expire.result _ refl)
 
 pub returns-in-Stop-clause-did : goal.returns-in-Stop-clause-did
-returns-in-Stop-clause-did g c =
-    subst (λ (e : Event). IfOk c.stop.result (IsNotedStep (stands_of g.E.Machine.stands) e (happens (stands_of g.E.Machine.stands) e (λ l. has_line l c.args.begun.now) c.args.sites.now c.args.lives.now.items)
+returns-in-Stop-clause-did c =
+    subst (λ (e : Event). IfOk c.stop.result (IsNotedStep stands_of e (happens stands_of e (λ l. has_line l c.args.begun.now) c.args.sites.now c.args.lives.now.items)
     c.args.sites.now c.args.sites.now c.args.lives.now.items c.stop.new.lives.items c.args.begun.now c.args.begun.now c.args.history.now.items c.stop.new.history.items)) (sym c.in-Stop.is)
-    (stop_noted (stands_of g.E.Machine.stands) c.stop.result c.args.sites.now c.args.lives.now.items c.args.begun.now c.args.history.now.items c.in-Stop.session c.stop.new.lives.items c.stop.new.history.items c.stop.ensures.outcome c.stop.ensures.history c.stop.ensures.lives)
+    (stop_noted stands_of c.stop.result c.args.sites.now c.args.lives.now.items c.args.begun.now c.args.history.now.items c.in-Stop.session c.stop.new.lives.items c.stop.new.history.items c.stop.ensures.outcome c.stop.ensures.history c.stop.ensures.lives)
 
 pub returns-in-Stop-clause-err : goal.returns-in-Stop-clause-err
-returns-in-Stop-clause-err g c =
-    leaves_sites (stands_of g.E.Machine.stands) c.stop.result c.args.sites.now c.args.sites.now c.args.lives.now.items c.stop.new.lives.items c.args.begun.now c.args.begun.now c.stop.ensures.err (always_err c.stop.result _ (λ l. refl))
+returns-in-Stop-clause-err c =
+    leaves_sites stands_of c.stop.result c.args.sites.now c.args.sites.now c.args.lives.now.items c.stop.new.lives.items c.args.begun.now c.args.begun.now c.stop.ensures.err (always_err c.stop.result _ (λ l. refl))
 
 pub returns-in-Late-clause-did : goal.returns-in-Late-clause-did
-returns-in-Late-clause-did g c =
-    subst (λ (e : Event). IfOk c.come.result (IsNotedStep (stands_of g.E.Machine.stands) e (happens (stands_of g.E.Machine.stands) e (λ l. has_line l c.args.begun.now) c.args.sites.now c.args.lives.now.items)
+returns-in-Late-clause-did c =
+    subst (λ (e : Event). IfOk c.come.result (IsNotedStep stands_of e (happens stands_of e (λ l. has_line l c.args.begun.now) c.args.sites.now c.args.lives.now.items)
     c.args.sites.now c.come.new.sites c.args.lives.now.items c.come.new.lives.items c.args.begun.now c.args.begun.now c.args.history.now.items c.come.new.history.items)) (sym c.in-Late.is)
-    (coming_noted (stands_of g.E.Machine.stands) c.come.result c.args.sites.now c.args.lives.now.items c.args.begun.now c.args.history.now.items c.in-Late.session c.in-Late.slot c.come.new.sites c.come.new.lives.items c.come.new.history.items c.come.ensures.outcome c.come.ensures.history c.come.ensures.sites c.come.ensures.lives)
+    (coming_noted stands_of c.come.result c.args.sites.now c.args.lives.now.items c.args.begun.now c.args.history.now.items c.in-Late.session c.in-Late.slot c.come.new.sites c.come.new.lives.items c.come.new.history.items c.come.ensures.outcome c.come.ensures.history c.come.ensures.sites c.come.ensures.lives)
 
 pub returns-in-Late-clause-err : goal.returns-in-Late-clause-err
-returns-in-Late-clause-err g c =
-    leaves_same (stands_of g.E.Machine.stands) c.come.result c.args.sites.now c.come.new.sites c.args.lives.now.items c.come.new.lives.items c.args.begun.now c.come.ensures.err c.come.ensures.left
+returns-in-Late-clause-err c =
+    leaves_same stands_of c.come.result c.args.sites.now c.come.new.sites c.args.lives.now.items c.come.new.lives.items c.args.begun.now c.come.ensures.err c.come.ensures.left
 
 pub returns-in-Restart-clause-did : goal.returns-in-Restart-clause-did
-returns-in-Restart-clause-did g c =
-    subst (λ (e : Event). IfOk c.restart.result (IsNotedStep (stands_of g.E.Machine.stands) e (happens (stands_of g.E.Machine.stands) e (λ l. has_line l c.args.begun.now) c.args.sites.now c.args.lives.now.items)
+returns-in-Restart-clause-did c =
+    subst (λ (e : Event). IfOk c.restart.result (IsNotedStep stands_of e (happens stands_of e (λ l. has_line l c.args.begun.now) c.args.sites.now c.args.lives.now.items)
     c.args.sites.now c.args.sites.now c.args.lives.now.items c.restart.new.lives.items c.args.begun.now c.args.begun.now c.args.history.now.items c.args.history.now.items)) (sym c.in-Restart.is)
-    (restart_noted (stands_of g.E.Machine.stands) c.restart.result c.args.sites.now c.args.lives.now.items c.args.begun.now c.args.history.now.items c.in-Restart.session c.restart.new.lives.items c.restart.ensures.outcome c.restart.ensures.lives)
+    (restart_noted stands_of c.restart.result c.args.sites.now c.args.lives.now.items c.args.begun.now c.args.history.now.items c.in-Restart.session c.restart.new.lives.items c.restart.ensures.outcome c.restart.ensures.lives)
 
 pub returns-in-Restart-clause-err : goal.returns-in-Restart-clause-err
-returns-in-Restart-clause-err g c =
-    leaves_sites (stands_of g.E.Machine.stands) c.restart.result c.args.sites.now c.args.sites.now c.args.lives.now.items c.restart.new.lives.items c.args.begun.now c.args.begun.now c.restart.ensures.err (always_err c.restart.result _ (λ l. refl))
+returns-in-Restart-clause-err c =
+    leaves_sites stands_of c.restart.result c.args.sites.now c.args.sites.now c.args.lives.now.items c.restart.new.lives.items c.args.begun.now c.args.begun.now c.restart.ensures.err (always_err c.restart.result _ (λ l. refl))
 
 pub returns-in-Trim-clause-did : goal.returns-in-Trim-clause-did
-returns-in-Trim-clause-did g c =
-    subst (λ (e : Event). IfOk c.trim.result (IsNotedStep (stands_of g.E.Machine.stands) e (happens (stands_of g.E.Machine.stands) e (λ l. has_line l c.args.begun.now) c.args.sites.now c.args.lives.now.items)
+returns-in-Trim-clause-did c =
+    subst (λ (e : Event). IfOk c.trim.result (IsNotedStep stands_of e (happens stands_of e (λ l. has_line l c.args.begun.now) c.args.sites.now c.args.lives.now.items)
     c.args.sites.now c.trim.new.sites c.args.lives.now.items c.args.lives.now.items c.args.begun.now c.args.begun.now c.args.history.now.items c.args.history.now.items)) (sym c.in-Trim.is)
-    (trim_noted (stands_of g.E.Machine.stands) c.trim.result c.args.sites.now c.args.lives.now.items c.args.begun.now c.args.history.now.items c.in-Trim.site c.in-Trim.image c.in-Trim.object c.trim.new.sites c.trim.ensures.outcome c.trim.ensures.sites)
+    (trim_noted stands_of c.trim.result c.args.sites.now c.args.lives.now.items c.args.begun.now c.args.history.now.items c.in-Trim.site c.in-Trim.image c.in-Trim.object c.trim.new.sites c.trim.ensures.outcome c.trim.ensures.sites)
 
 pub returns-in-Trim-clause-err : goal.returns-in-Trim-clause-err
-returns-in-Trim-clause-err g c =
-    leaves_same (stands_of g.E.Machine.stands) c.trim.result c.args.sites.now c.trim.new.sites c.args.lives.now.items c.args.lives.now.items c.args.begun.now c.trim.ensures.err (always_err c.trim.result _ refl)
+returns-in-Trim-clause-err c =
+    leaves_same stands_of c.trim.result c.args.sites.now c.trim.new.sites c.args.lives.now.items c.args.lives.now.items c.args.begun.now c.trim.ensures.err (always_err c.trim.result _ refl)

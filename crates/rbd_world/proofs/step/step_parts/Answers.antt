@@ -10,11 +10,11 @@ use Rattle.rbd_world.proofs.Told.{noted_steps}
 use Rattle.rbd_world.proofs.step.step_parts.Goals as goal
 
 pub returns-in-Ok-clause-steps : goal.returns-in-Ok-clause-steps
-returns-in-Ok-clause-steps g c =
+returns-in-Ok-clause-steps c =
     let e = c.args.event.now in
-    let h = happens (stands_of g.E.Machine.stands) e (λ l. has_line l c.args.begun.now) c.args.sites.now c.args.lives.now.items in
+    let h = happens stands_of e (λ l. has_line l c.args.begun.now) c.args.sites.now c.args.lives.now.items in
     let did = c.in-Ok.ensures.did in
-    noted_steps (stands_of g.E.Machine.stands) e h c.args.sites.now c.happen.new.sites c.args.lives.now.items c.happen.new.lives.items c.args.begun.now c.happen.new.begun
+    noted_steps stands_of e h c.args.sites.now c.happen.new.sites c.args.lives.now.items c.happen.new.lives.items c.args.begun.now c.happen.new.begun
     c.args.book.now.history.items c.happen.new.history.items c.args.book.now.calls.items c.keep_call.new.calls.items c.in-Ok.outcome
     did.parts
     (did.history ∙ ap (λ (xs : List Entry). noted_by xs h) c.in_ok-reserve.ensures.history)

@@ -1,5 +1,6 @@
 use Rattle.std.proofs.Common.{◌≡◌, ℕ, ◌+◌, ◌≤◌}
-use Rattle.rbd_requests.specs.Session.{stands_of}
+use Rattle.rbd_client.specs.Seen.{as_is}
+use Rattle.rbd_world.specs.Seen.{seen}
 use Rattle.rbd_schedule.specs.Deeds.{Deeds}
 use Rattle.rbd_schedule.specs.Notices.{is_due}
 use Rattle.rbd_schedule.specs.Playing.{GoesOn, given_to, lost_in}
@@ -9,8 +10,8 @@ use Rattle.rbd_schedule.proofs.runner.Runner.deliver_due.Given as goal
 -- the notices so far were delivered where they were due at first, and of the others the same are
 -- due
 abbrev pub invariant-loop-k : goal.invariant-loop-k
-invariant-loop-k g l = record {
-  goes : GoesOn (stands_of g.E.Machine.stands) l.fn.self l.self;
-  notices : Deeds (λ k. DeliversWhere (stands_of g.E.Machine.stands) (given_to l.fn.self) (is_due (lost_in l.fn.self) l.fn.session (k + 1) l.fn.self.world) (k + 1)) l.k l.fn.self.world l.self.world;
-  due : (k : ℕ) → l.k ≤ k → is_due (lost_in l.fn.self) l.fn.session (k + 1) l.self.world ≡ is_due (lost_in l.fn.self) l.fn.session (k + 1) l.fn.self.world;
+invariant-loop-k l = record {
+  goes : GoesOn l.fn.self l.self;
+  notices : Deeds (λ k. DeliversWhere as_is (given_to l.fn.self) (is_due (lost_in l.fn.self) l.fn.session (k + 1) (seen l.fn.self.world)) (k + 1)) l.k (seen l.fn.self.world) (seen l.self.world);
+  due : (k : ℕ) → l.k ≤ k → is_due (lost_in l.fn.self) l.fn.session (k + 1) (seen l.self.world) ≡ is_due (lost_in l.fn.self) l.fn.session (k + 1) (seen l.fn.self.world);
 }

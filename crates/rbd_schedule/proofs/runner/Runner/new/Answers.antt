@@ -1,20 +1,19 @@
 use Rattle.std.proofs.Common.{◌≤◌, nat_eq, false, refl, sym, ap, subst}
 use Rattle.std.specs.Prelude.{is_some}
 use Rattle.std.specs.List.{list_any}
-use Rattle.rbd_requests.specs.Session.{stands_of}
 use Rattle.rbd_schedule.proofs.Goes.{given_none, keeps_new}
 use Rattle.rbd_schedule.proofs.runner.Runner.new.Goals as goal
 
 pub returns-clause-keeps : goal.returns-clause-keeps
-returns-clause-keeps g c =
-    keeps_new (stands_of g.E.Machine.stands)
+returns-clause-keeps c =
+    keeps_new
     (record { world = c.in_ok-world.world; queues = c.in_ok-queues.queues; over = c.new-2.result; is_due = false; highest = 0; heard = c.new-3.result; lost = c.new-4.result; passed = c.in_ok-passed.passed })
     c.in_ok-world.ensures.sound
     (subst (λ n. n ≤ 32) (sym c.in_ok-queues.ensures.count) c.requires) c.in_ok-queues.ensures.empty c.in_ok-world.ensures.new (λ line. ap is_some (c.new-2.ensures line))
     (λ number. ap (list_any (nat_eq number)) c.new-3.ensures.empty) refl c.in_ok-passed.ensures
 
 pub returns-clause-given : goal.returns-clause-given
-returns-clause-given g c = given_none (record { world = c.in_ok-world.world; queues = c.in_ok-queues.queues; over = c.new-2.result; is_due = false; highest = 0; heard = c.new-3.result; lost = c.new-4.result; passed = c.in_ok-passed.passed }) c.in_ok-queues.ensures.empty
+returns-clause-given c = given_none (record { world = c.in_ok-world.world; queues = c.in_ok-queues.queues; over = c.new-2.result; is_due = false; highest = 0; heard = c.new-3.result; lost = c.new-4.result; passed = c.in_ok-passed.passed }) c.in_ok-queues.ensures.empty
 
 pub returns-clause-queues : goal.returns-clause-queues
-returns-clause-queues g c = c.in_ok-queues.ensures.count
+returns-clause-queues c = c.in_ok-queues.ensures.count

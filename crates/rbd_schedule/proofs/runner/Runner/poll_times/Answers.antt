@@ -1,5 +1,6 @@
 use Rattle.std.proofs.Common.{◌≡◌, subst, arith}
-use Rattle.rbd_requests.specs.Session.{stands_of}
+use Rattle.rbd_client.specs.Seen.{as_is}
+use Rattle.rbd_world.specs.Seen.{seen}
 use Rattle.rbd_schedule.specs.Deeds.{Deeds}
 use Rattle.rbd_schedule.specs.Playing.{given_to}
 use Rattle.rbd_schedule.specs.Schedule.{Polls}
@@ -8,27 +9,27 @@ use Rattle.rbd_schedule.proofs.Goes.{goes_same, goes_then}
 use Rattle.rbd_schedule.proofs.runner.Runner.poll_times.Goals as goal
 
 pub loop-init : goal.loop-init
-loop-init g c = record {
+loop-init c = record {
   goes = goes_same c.args.self.now;
-  polls = none_done (λ k. Polls (stands_of g.E.Machine.stands) (given_to c.args.self.now) c.args.session c.args.slot) c.args.self.now.world;
+  polls = none_done (λ k. Polls as_is (given_to c.args.self.now) c.args.session c.args.slot) (seen c.args.self.now.world);
 }
 
 pub poll-requires : goal.poll-requires
-poll-requires g c = c.loop.invariant.goes.keeps c.requires
+poll-requires c = c.loop.invariant.goes.keeps c.requires
 
 pub loop-preserved : goal.loop-preserved
-loop-preserved g c = record {
+loop-preserved c = record {
   goes = goes_then c.args.self.now c.loop.self c.poll.new.self c.loop.invariant.goes c.in_ok-poll.ensures.goes;
-  polls = one_more (λ k. Polls (stands_of g.E.Machine.stands) (given_to c.args.self.now) c.args.session c.args.slot) c.loop.counter c.args.self.now.world c.loop.self.world c.poll.new.self.world
+  polls = one_more (λ k. Polls as_is (given_to c.args.self.now) c.args.session c.args.slot) c.loop.counter (seen c.args.self.now.world) (seen c.loop.self.world) (seen c.poll.new.self.world)
       c.loop.invariant.polls
-      (subst (λ given. Polls (stands_of g.E.Machine.stands) given c.args.session c.args.slot c.loop.self.world c.poll.new.self.world) c.loop.invariant.goes.given
+      (subst (λ given. Polls as_is given c.args.session c.args.slot (seen c.loop.self.world) (seen c.poll.new.self.world)) c.loop.invariant.goes.given
       (record { result = c.in_ok-poll.field-0; comes = c.in_ok-poll.ensures.comes }));
 }
 
 pub returns-clause-polls : goal.returns-clause-polls
-returns-clause-polls g c =
+returns-clause-polls c =
     let all : c.loop.counter ≡ c.args.times = omega (arith, c.loop-test.false, c.loop.auto.counter-end) in
-    subst (λ n. Deeds (λ k. Polls (stands_of g.E.Machine.stands) (given_to c.args.self.now) c.args.session c.args.slot) n c.args.self.now.world c.loop.self.world) all c.loop.invariant.polls
+    subst (λ n. Deeds (λ k. Polls as_is (given_to c.args.self.now) c.args.session c.args.slot) n (seen c.args.self.now.world) (seen c.loop.self.world)) all c.loop.invariant.polls
 
 pub returns-clause-goes : goal.returns-clause-goes
-returns-clause-goes g c = c.loop.invariant.goes
+returns-clause-goes c = c.loop.invariant.goes

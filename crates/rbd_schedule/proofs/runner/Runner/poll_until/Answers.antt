@@ -1,6 +1,7 @@
 use Rattle.std.proofs.Common.{inl, inr, sym, ◌∙◌, subst, arith}
 use Rattle.std.proofs.lemmas.Bool.{false≢true}
-use Rattle.rbd_requests.specs.Session.{stands_of}
+use Rattle.rbd_client.specs.Seen.{as_is}
+use Rattle.rbd_world.specs.Seen.{seen}
 use Rattle.rbd_schedule.specs.Playing.{given_to}
 use Rattle.rbd_schedule.specs.Schedule.{PollsBefore}
 use Rattle.rbd_schedule.proofs.Done.{none_done, one_more}
@@ -8,20 +9,20 @@ use Rattle.rbd_schedule.proofs.Goes.{goes_same, goes_then}
 use Rattle.rbd_schedule.proofs.runner.Runner.poll_until.Goals as goal
 
 pub loop-init : goal.loop-init
-loop-init g c = record {
+loop-init c = record {
   goes = goes_same c.args.self.now;
-  polls = none_done (λ k. PollsBefore (stands_of g.E.Machine.stands) (given_to c.args.self.now) c.args.session c.args.slot c.args.kind) c.args.self.now.world;
+  polls = none_done (λ k. PollsBefore as_is (given_to c.args.self.now) c.args.session c.args.slot c.args.kind) (seen c.args.self.now.world);
 }
 
 pub poll-requires : goal.poll-requires
-poll-requires g c = c.loop.invariant.goes.keeps c.requires
+poll-requires c = c.loop.invariant.goes.keeps c.requires
 
 pub loop-preserved : goal.loop-preserved
-loop-preserved g c = record {
+loop-preserved c = record {
   goes = goes_then c.args.self.now c.loop.self c.poll.new.self c.loop.invariant.goes c.in_ok-poll.ensures.goes;
-  polls = one_more (λ k. PollsBefore (stands_of g.E.Machine.stands) (given_to c.args.self.now) c.args.session c.args.slot c.args.kind) c.loop.counter c.args.self.now.world c.loop.self.world
-      c.poll.new.self.world c.loop.invariant.polls
-      (subst (λ given. PollsBefore (stands_of g.E.Machine.stands) given c.args.session c.args.slot c.args.kind c.loop.self.world c.poll.new.self.world) c.loop.invariant.goes.given
+  polls = one_more (λ k. PollsBefore as_is (given_to c.args.self.now) c.args.session c.args.slot c.args.kind) c.loop.counter (seen c.args.self.now.world) (seen c.loop.self.world)
+      (seen c.poll.new.self.world) c.loop.invariant.polls
+      (subst (λ given. PollsBefore as_is given c.args.session c.args.slot c.args.kind (seen c.loop.self.world) (seen c.poll.new.self.world)) c.loop.invariant.goes.given
       (record {
         not_yet = λ wants. false≢true (sym c.if-wants.false ∙ c.wants.ensures.1 wants);
         polls = record { result = c.in_ok-poll.field-0; comes = c.in_ok-poll.ensures.comes };
@@ -29,7 +30,7 @@ loop-preserved g c = record {
 }
 
 pub returns-then-wants-clause-polls : goal.returns-then-wants-clause-polls
-returns-then-wants-clause-polls g c = record {
+returns-then-wants-clause-polls c = record {
   count = c.loop.counter;
   most = c.loop.auto.counter-end;
   polls = c.loop.invariant.polls;
@@ -37,10 +38,10 @@ returns-then-wants-clause-polls g c = record {
 }
 
 pub returns-then-wants-clause-goes : goal.returns-then-wants-clause-goes
-returns-then-wants-clause-goes g c = c.loop.invariant.goes
+returns-then-wants-clause-goes c = c.loop.invariant.goes
 
 pub returns-clause-polls : goal.returns-clause-polls
-returns-clause-polls g c = record {
+returns-clause-polls c = record {
   count = c.loop.counter;
   most = c.loop.auto.counter-end;
   polls = c.loop.invariant.polls;
@@ -48,4 +49,4 @@ returns-clause-polls g c = record {
 }
 
 pub returns-clause-goes : goal.returns-clause-goes
-returns-clause-goes g c = c.loop.invariant.goes
+returns-clause-goes c = c.loop.invariant.goes

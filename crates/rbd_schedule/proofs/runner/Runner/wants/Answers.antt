@@ -7,7 +7,7 @@ use Rattle.rbd_kinds.specs.contracts.operation_kind.OpKind.{the_type}
 use Rattle.rbd_schedule.proofs.runner.Runner.wants.Goals as goal
 
 pub returns-in-Some : goal.returns-in-Some
-returns-in-Some g c = (
+returns-in-Some c = (
   λ is. record {
     site = c.in-Some.field-0-0;
     wants = sym c.kind.ensures ∙ c.in-Some.is

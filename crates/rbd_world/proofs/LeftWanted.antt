@@ -1,0 +1,180 @@
+-- Where an instance is stopped: for whom each of its slots wanted what it may still send.
+use Rattle.std.proofs.Common.{◌≡◌, ℕ, ◌==◌, cond, Bool, true, false, List, Option, Some, None, refl, sym, ap, ◌∙◌, subst}
+use Rattle.std.proofs.lemmas.Bool.{eqb-true, true≢false}
+use Rattle.std.proofs.lemmas.Option.{none-some, same_Some}
+use Rattle.std.proofs.Math.Bool.{or-false}
+use Rattle.rbd_client.specs.declared.actor.Actor.{Actor}
+use Rattle.rbd_client.specs.declared.actor.Actor.TheVariants as actor
+use Rattle.rbd_client.specs.Actor.{actor_at, actor_on, due_release, is_acquiring, op_by, op_wanted, releasing}
+use Rattle.rbd_client.specs.Client.{ClientView, state_in}
+use Rattle.rbd_client.specs.Sound.{WaitsForLook}
+use Rattle.rbd_client.proofs.OnWay.{is_release, on_way_no_release, way_waits}
+use Rattle.rbd_kinds.specs.declared.id.Instance.{Instance}
+use Rattle.rbd_kinds.specs.declared.id.SiteId.{SiteId}
+use Rattle.rbd_kinds.specs.declared.operation.Op.{Op}
+use Rattle.rbd_known.proofs.Wanting.{Wants, wants}
+use Rattle.rbd_machine.specs.Knowledge.{Knowledge}
+use Rattle.rbd_machine.specs.Plan.{Standing}
+use Rattle.rbd_owner.specs.Acquire.{op_of}
+use Rattle.rbd_owner.specs.Release.{release_op}
+use Rattle.rbd_owner.specs.declared.acquire.Acquire.{Acquire}
+use Rattle.rbd_owner.specs.declared.release.Release.{Release}
+use Rattle.rbd_session.specs.declared.running.Occupant.{Occupant}
+use Rattle.rbd_session.specs.declared.running.Occupant.TheVariants as occupant
+use Rattle.rbd_session.specs.declared.running.Running.{Running}
+use Rattle.rbd_session.specs.Session.{held_in, is_look_at, kind_asked, own_look_at, running_at, running_in, script_line}
+use Rattle.rbd_world.specs.Run.{Asked, Doer, Itself, OnWay, House, Happening, asked_by, is_among, is_for, steps_of, way_of}
+use Rattle.rbd_world.specs.Seats.{seat_at}
+use Rattle.rbd_world.specs.Sending.{doer_at}
+use Rattle.rbd_world.specs.Sound.{IsHeldRightly, IsLedTo, IsLeft, IsLiving, IsUnderWay, KeepsToItsWay, TakesAlone}
+use Rattle.rbd_world.specs.Ways.{GoesWith, IsNextOfRelease}
+use Rattle.rbd_world.proofs.LetGo.{next_of_release}
+use Rattle.rbd_world.proofs.Watching.{takes_behind_watch, way_watched}
+use Rattle.rbd_world.proofs.Ways.{asks_next, way_acts, way_is_over}
+
+-- for whom who acts at a slot does so
+abbrev doer_in : {R : Type 0} → Option (Occupant R) → Actor → Doer
+doer_in None acts = House
+doer_in (Some (occupant.Refused line refusal)) acts = House
+doer_in (Some (occupant.Running r)) acts = doer_at r.line acts
+
+for_line : (line other : ℕ) (b : Bool) → is_for line (cond b (OnWay other) (Itself other)) ≡ true → other ≡ line
+for_line line other true is = eqb-true other line is
+for_line line other false is = eqb-true other line (sym (or-false (other == line)) ∙ is)
+
+in_line : {R : Type 0} (o : Option (Occupant R)) (acts : Actor) (line : ℕ) → is_for line (doer_in o acts) ≡ true → script_line o ≡ Some line
+in_line None acts line is = absurd (true≢false (sym is))
+in_line (Some (occupant.Refused other refusal)) acts line is = absurd (true≢false (sym is))
+in_line (Some (occupant.Running r)) acts line is = ap Some (for_line line r.line (is_acquiring acts) is)
+
+module _ {R : Type 0} (stands : R → Standing) (homes : ℕ → SiteId) (session : ℕ) (run : List Happening) (knows : (slot : ℕ) → Knowledge) (c : ClientView R)
+    (living : IsLiving stands (homes session) session run knows c) (lost : List ℕ) (are_lost : (x line : ℕ) → script_line (held_in x c.session.slots) ≡ Some line → is_among line lost ≡ true)
+    (alone : (x : ℕ) (r : Running R) → held_in x c.session.slots ≡ Some (occupant.Running r) → (a : Acquire) → actor_at stands x c ≡ actor.Way a → TakesAlone c.session.instance a.site (op_of a) run) where
+  abbrev who : Instance
+  who = c.session.instance
+
+  abbrev pub for_whom : (slot : ℕ) → Doer
+  for_whom x = doer_in (held_in x c.session.slots) (actor_at stands x c)
+
+  -- the line that it is for is in the slot
+  pub whose_slot : (line x : ℕ) → is_for line (for_whom x) ≡ true → script_line (held_in x c.session.slots) ≡ Some line
+  whose_slot line x is = in_line (held_in x c.session.slots) (actor_at stands x c) line is
+
+  -- ---- of a request
+
+  module _ (x : ℕ) (r : Running R) (holds : held_in x c.session.slots ≡ Some (occupant.Running r)) where
+    runs : running_at x c.session ≡ Some r
+    runs = ap running_in holds
+
+    way : IsUnderWay stands (seat_at homes session) who run r
+    way = subst (IsHeldRightly stands (seat_at homes session) who run) holds (living.held x)
+
+    keeps : GoesWith (stands r.request).plan (state_in x c.slots).way (way_of r.line run)
+    keeps = subst (KeepsToItsWay stands run (state_in x c.slots).way) runs (living.ways x)
+
+    is_mine : (asked : Asked) → asked_by r.line run ≡ Some asked → who ≡ asked.who
+    is_mine asked is = sym (ap (λ (a : Asked). a.who) (same_Some asked way.begun.asked (sym is ∙ way.begun.is)) ∙ way.mine)
+
+    is_lost : is_among r.line lost ≡ true
+    is_lost = are_lost x r.line (ap script_line holds)
+
+    led_there : IsLedTo (seat_at homes way.begun.asked.who.session) way.begun.asked.command (steps_of r.line run) (stands r.request).plan
+    led_there =
+        subst (λ i. IsLedTo (seat_at homes i) way.begun.asked.command (steps_of r.line run) (stands r.request).plan) (sym (ap (λ (i : Instance). i.session) way.mine ∙ living.whose))
+        (record { start = way.start; plan = way.plan; feds = way.feds; walk = way.walk; given = way.given; standalone = way.standalone })
+
+    -- it acts itself
+    itself : (s : SiteId) (o : Op) (w : Wants stands x c.session.lines s o (held_in x c.session.slots)) → w.request ≡ r → actor_at stands x c ≡ actor.Request
+        → IsLeft homes who lost x s o (Itself r.line) run
+    itself s o w same acts = record {
+      wanted = (
+        is_lost,
+        record {
+          begun = way.begun;
+          why = w.why;
+          next = w.next;
+          led =
+              subst (IsLedTo (seat_at homes way.begun.asked.who.session) way.begun.asked.command (steps_of r.line run))
+              (ap (λ (q : Running R). (stands q.request).plan) (sym same) ∙ w.plan) led_there;
+        },
+      );
+      whose = is_mine;
+      next = way_is_over stands x c living.sound r runs (way_of r.line run) keeps acts;
+    }
+
+    -- it is on its way
+    module _ (a : Acquire) (acts : actor_at stands x c ≡ actor.Way a) where
+      waiting : WaitsForLook stands x a.site a.image c.session
+      waiting = way_waits stands x c a living.sound acts
+
+      on_way : IsLeft homes who lost x a.site (op_of a) (OnWay r.line) run
+      on_way = record {
+        wanted = (
+          is_lost,
+          record {
+            begun = way.begun;
+            plan = (stands r.request).plan;
+            led = led_there;
+            wants = subst (λ (q : Running R). is_look_at a.site (kind_asked (stands q.request).plan) ≡ true) (same_Some waiting.request r (sym waiting.runs ∙ runs)) waiting.wants;
+          },
+        );
+        whose = is_mine;
+        next = (
+          asks_next a (way_of r.line run) (way_acts stands x c living.sound r runs (way_of r.line run) keeps a acts),
+          takes_behind_watch a who run (way_watched stands x c who run living.watches a acts),
+          alone x r holds a acts,
+        );
+      }
+
+  -- ---- of the house
+
+  module _ (x : ℕ) (z : Release) (acts : actor_at stands x c ≡ actor.Release z) where
+    at_zero : x ≡ 0
+    at_zero = by (x == 0) refl
+      where
+        by : (b : Bool) → (x == 0) ≡ b → x ≡ 0
+        by true is = eqb-true x 0 is
+        by false is =
+            absurd (true≢false (sym (ap is_release acts) ∙ ap (λ b. is_release (cond b (releasing c.release (due_release c)) (actor_on (state_in x c.slots).way (own_look_at stands x c.session) c.locks))) is
+            ∙ on_way_no_release (state_in x c.slots).way (own_look_at stands x c.session) c.locks))
+
+    is_free : held_in x c.session.slots ≡ None
+    is_free = ap (λ n. held_in n c.session.slots) at_zero ∙ living.sound.session.zero
+
+    of_house : IsLeft homes who lost x z.site (release_op z) House run
+    of_house = record {
+      wanted = at_zero;
+      whose = living.runs;
+      next = subst (λ o. IsNextOfRelease o z.site (release_op z)) living.releases (next_of_release stands x c z acts);
+    }
+
+  -- ---- what a slot wanted
+
+  abbrev Left : (x : ℕ) → SiteId × Op → Doer → Type 0
+  Left x p by = IsLeft homes who lost x p.0 p.1 by run
+
+  by_request : (x : ℕ) (p : SiteId × Op) → actor_at stands x c ≡ actor.Request → Wants stands x c.session.lines p.0 p.1 (held_in x c.session.slots)
+      → Left x p (doer_in (held_in x c.session.slots) actor.Request)
+  by_request x p acts w = subst (λ h. Left x p (doer_in h actor.Request)) (sym w.is) (itself x w.request w.is p.0 p.1 w refl acts)
+
+  by_way : (x : ℕ) (a : Acquire) → actor_at stands x c ≡ actor.Way a → (h : Option (Occupant R)) → held_in x c.session.slots ≡ h → (r : Running R) → running_in h ≡ Some r
+      → Left x (a.site, op_of a) (doer_in h (actor.Way a))
+  by_way x a acts None holds r is = absurd (none-some r is)
+  by_way x a acts (Some (occupant.Refused line refusal)) holds r is = absurd (none-some r is)
+  by_way x a acts (Some (occupant.Running q)) holds r is = on_way x q holds a acts
+
+  by_house : (x : ℕ) (z : Release) → actor_at stands x c ≡ actor.Release z → Left x (z.site, release_op z) (doer_in (held_in x c.session.slots) (actor.Release z))
+  by_house x z acts = subst (λ h. Left x (z.site, release_op z) (doer_in h (actor.Release z))) (sym (is_free x z acts)) (of_house x z acts)
+
+  pub left_of : (x : ℕ) (p : SiteId × Op) → op_wanted stands x c ≡ Some p → IsLeft homes who lost x p.0 p.1 (for_whom x) run
+  left_of x p is = by (actor_at stands x c) refl is
+    where
+      by : (m : Actor) → actor_at stands x c ≡ m → op_by stands x c.session m ≡ Some p → Left x p (doer_in (held_in x c.session.slots) m)
+      by actor.Nobody acts is = absurd (none-some p is)
+      by actor.Request acts is = by_request x p acts (wants stands x c.session.lines p.0 p.1 (held_in x c.session.slots) is)
+      by (actor.Way a) acts is =
+          let waiting = way_waits stands x c a living.sound acts in
+          subst (λ w. Left x w (doer_in (held_in x c.session.slots) (actor.Way a))) (same_Some (a.site, op_of a) p is)
+          (by_way x a acts (held_in x c.session.slots) refl waiting.request waiting.runs)
+      by (actor.Release z) acts is =
+          subst (λ w. Left x w (doer_in (held_in x c.session.slots) (actor.Release z))) (same_Some (z.site, release_op z) p is) (by_house x z acts)
