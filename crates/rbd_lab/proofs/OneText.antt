@@ -1,5 +1,7 @@
 -- A script has one text, since it has one run.
 use Rattle.std.proofs.Common.{◌≡◌, ℕ, List, sym, ap, ◌∙◌}
+use Rattle.rbd_client.specs.Seen.{as_is}
+use Rattle.rbd_machine.specs.Plan.{Standing}
 use Rattle.rbd_kinds.specs.declared.id.SiteId.TheVariants.{A, B}
 use Rattle.rbd_script.specs.declared.script.Script.{Script}
 use Rattle.rbd_words.specs.declared.asked.Mode.{Mode}
@@ -9,12 +11,12 @@ use Rattle.rbd_generate.specs.Generated.{script_of}
 use Rattle.rbd_generate.specs.Summary.{summary_text}
 use Rattle.rbd_one_run.specs.OneRun.{IsSameRun}
 use Rattle.rbd_one_run.proofs.ScheduleRun.{one_run}
-use Rattle.rbd_lab.specs.Output.{IsPlayed, IsSummed, IsTold, Requests, stands, text_of, told_text}
+use Rattle.rbd_lab.specs.Output.{IsPlayed, IsSummed, IsTold, text_of, told_text}
 
-same_run : (script : Script) (v w : WorldView Requests) → IsPlayed script v → IsPlayed script w → IsSameRun v w
-same_run script v w one other = one_run stands script v w one.play other.play
+same_run : (script : Script) (v w : WorldView Standing) → IsPlayed script v → IsPlayed script w → IsSameRun v w
+same_run script v w one other = one_run as_is script v w one.play other.play
 
-same_text : (mode : Mode) (script : Script) (v w : WorldView Requests) → IsSameRun v w → text_of mode script v ≡ text_of mode script w
+same_text : (mode : Mode) (script : Script) (v w : WorldView Standing) → IsSameRun v w → text_of mode script v ≡ text_of mode script w
 same_text mode script v w same =
     ap (λ history. told_text mode script history (site_in A v.sites).log (site_in B v.sites).log) same.history
     ∙ ap (λ log. told_text mode script w.history log (site_in B v.sites).log) (same.logs A)

@@ -2,6 +2,8 @@
 use Rattle.std.proofs.Common.{◌≡◌, ℕ, ◌+◌, ◌&&◌, ◌||◌, not, cond, Bool, true, false, List, [], ◌∷◌, ◌++◌, length, count_by, refl, sym, ap, ◌∙◌, arith}
 use Rattle.std.specs.List.{list_any}
 use Rattle.std.proofs.lemmas.List.Sums.{sum_by-cons}
+use Rattle.rbd_client.specs.Seen.{as_is}
+use Rattle.rbd_machine.specs.Plan.{Standing}
 use Rattle.rbd_ends.specs.AddUp.{AddUp, is_reply}
 use Rattle.rbd_ends.specs.OneChanger.{is_replied, is_reply_of}
 use Rattle.rbd_ends.proofs.AddUp.{play_adds_up}
@@ -20,7 +22,7 @@ use Rattle.rbd_script.specs.declared.script.Script.{Script}
 use Rattle.rbd_text.specs.Unanswered.{answers}
 use Rattle.rbd_world.specs.World.{WorldView}
 use Rattle.rbd_world.specs.declared.event.Event.TheVariants as event
-use Rattle.rbd_lab.specs.Output.{AddsUp, Requests, stands}
+use Rattle.rbd_lab.specs.Output.{AddsUp}
 
 -- ---- the commands of a script
 
@@ -92,5 +94,5 @@ counts script history add =
     (count_by (has_none history) (commands_of script.lines)) (count_by (is_unfinished history) script.lines)
     (commands_counted script.lines) add (replies_parted history) (unfinished_counted history script.lines)
 
-pub counts_add_up : (script : Script) (w : WorldView Requests) → AreInOrder script.lines → IsPlay stands script w → AddsUp script w.history
-counts_add_up script w in_order play = counts script w.history (play_adds_up stands script w in_order play)
+pub counts_add_up : (script : Script) (w : WorldView Standing) → AreInOrder script.lines → IsPlay as_is script w → AddsUp script w.history
+counts_add_up script w in_order play = counts script w.history (play_adds_up as_is script w in_order play)

@@ -97,12 +97,14 @@ pub record IsLoadRun (load : Load) (status : Status) (held held' : Option (List 
   pub cut : status ≡ WriteFault → PrintsFront (IsSummed load) held held'
   pub no_memory : status ≡ NoMemory → held' ≡ held
 
--- The words are others: the usage line was printed, or the sink failed before its end.
+-- The words are others: the usage line was printed, or the sink failed before its end, or memory was
+-- refused while they were read.
 pub record IsUsageRun (status : Status) (held held' : Option (List ℕ)) (write_faults write_faults' : ℕ) : Type 0 where
-  pub ends : (status ≡ Usage) ⊎ (status ≡ WriteFault)
+  pub ends : (status ≡ Usage) ⊎ (status ≡ WriteFault) ⊎ (status ≡ NoMemory)
   pub usage : status ≡ Usage → held' ≡ held_with usage_text held
   pub write_fault : Tells WriteFault status write_faults write_faults'
   pub cut : status ≡ WriteFault → PrintsFront (λ text. text ≡ usage_text) held held'
+  pub no_memory : status ≡ NoMemory → held' ≡ held
 
 -- the source is as it was, and counted no fault
 pub record IsUntouched {S : Type 0} (source source' : S) (old new : Devices) : Type 0 where

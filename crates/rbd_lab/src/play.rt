@@ -5,9 +5,9 @@ ghost use Rattle.rbd_text.specs.Text.{AreShown};
 ghost use Rattle.rbd_schedule.specs.InOrder.{AreInOrder};
 ghost use Rattle.rbd_schedule.specs.Playing.{IsPlayable};
 ghost use Rattle.rbd_words.specs.Load.{IsLoad};
+ghost use Rattle.rbd_world.specs.Seen.{seen};
 ghost use Rattle.rbd_lab.specs.Output.{text_of, told_text, IsSummed, IsTold};
 
-use rbd_admin::CreateRequest;
 use rbd_flat::Entry;
 use rbd_generate::{generated, summary};
 use rbd_kinds::{NoMemory, SiteId};
@@ -25,8 +25,7 @@ pub fn output(alloc: Global, mode: Mode, script: &Script) -> Result<Vec<u8>, NoM
     requires in_order { AreInOrder script.now.lines }
     ensures { IfOk result (λ text. IsTold mode script.now text.items) }
 {
-    // (no machine is brought, so any type may stand where its type would)
-    let world: World<CreateRequest> = play(alloc, script)?;
+    let world: World = play(alloc, script)?;
     let text = tell_world(alloc, mode, script, &world);
     world.close();
     text
@@ -38,15 +37,15 @@ pub fn summed(alloc: Global, load: &Load) -> Result<Vec<u8>, NoMemory>
     ensures { IfOk result (λ text. IsSummed load.now text.items) }
 {
     let script = generated(alloc, load)?;
-    let world: World<CreateRequest> = play(alloc, &script)?;
+    let world: World = play(alloc, &script)?;
     let text = sum_up(alloc, &script, &world);
     world.close();
     text
 }
 
 /// The summary of a world.
-fn sum_up(alloc: Global, script: &Script, world: &World<CreateRequest>) -> Result<Vec<u8>, NoMemory>
-    ensures { IfOk result (λ text. text.items ≡ summary_text script.now world.now.history) }
+fn sum_up(alloc: Global, script: &Script, world: &World) -> Result<Vec<u8>, NoMemory>
+    ensures { IfOk result (λ text. text.items ≡ summary_text script.now (seen world.now).history) }
 {
     summary(alloc, script, world.history())
 }
@@ -56,10 +55,10 @@ fn tell_world(
     alloc: Global,
     mode: Mode,
     script: &Script,
-    world: &World<CreateRequest>,
+    world: &World,
 ) -> Result<Vec<u8>, NoMemory>
-    requires { AreShown world.now.history }
-    ensures { IfOk result (λ text. text.items ≡ text_of mode script.now world.now) }
+    requires { AreShown (seen world.now).history }
+    ensures { IfOk result (λ text. text.items ≡ text_of mode script.now (seen world.now)) }
 {
     let a = world.operations(SiteId::A);
     let b = world.operations(SiteId::B);

@@ -71,6 +71,7 @@ pub fn run<R: Threads + Wait + Sync, S: Source, K: Sink>(
 /// A script is read to its end, or to one byte past the limit, before it is judged; one that isn't
 /// one plays nothing. Where the words don't ask for a script, the source is left as it is. What is
 /// printed is whole before printing begins.
+#[tactic(auto, using(crate::proofs::Refused::memory_refused))]
 pub fn run_alone<S: Source, K: Sink>(
     alloc: Global,
     words: &[String],
@@ -81,10 +82,11 @@ pub fn run_alone<S: Source, K: Sink>(
     requires sink_countable { K.faults sink.old < 2 ^ 64 - 1 }
     ensures { IsRun (map (λ w. string_bytes w) words.now) result source.old source.new (devices (S.left source.old) (K.held sink.old) (S.faults source.old) (K.faults sink.old)) (devices (S.left source.new) (K.held sink.new) (S.faults source.new) (K.faults sink.new)) }
 {
-    match Asked::of(words) {
-        None => print(sink, usage().as_bytes(), Status::Usage),
-        Some(Asked::Run(mode)) => run_script(alloc, mode, source, sink),
-        Some(Asked::Generate(load)) => run_load(alloc, &load, sink),
+    match Asked::of(alloc, words) {
+        Ok(None) => print(sink, usage().as_bytes(), Status::Usage),
+        Ok(Some(Asked::Run(mode))) => run_script(alloc, mode, source, sink),
+        Ok(Some(Asked::Generate(load))) => run_load(alloc, &load, sink),
+        Err(NoMemory) => Status::NoMemory,
     }
 }
 

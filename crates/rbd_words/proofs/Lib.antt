@@ -1,4 +1,12 @@
+mod Commands
+mod Ends
+mod Forms
+mod Matched
 mod NumberLemmas
 mod OnlySo
 mod OptionLemmas
+mod Reading
+mod Rows
 mod SpellingLemmas
+mod Telling
+mod Walks

@@ -21,7 +21,7 @@ use Rattle.rbd_words.specs.Words.{asked_by, has_value, is_equals, load_asked, lo
 -- ---- one option
 
 -- a word that has its value is made of both
-own_is : (word : List ℕ) → has_value word ≡ true → word ≡ before_first is_equals word ++ 61 ∷ after_first is_equals word
+pub own_is : (word : List ℕ) → has_value word ≡ true → word ≡ before_first is_equals word ++ 61 ∷ after_first is_equals word
 own_is word has =
     let short : position_or_len is_equals word < length word = ltb-true _ _ has in
     let equals = eqb-true _ 61 (passes_at_first is_equals word 0 short) in

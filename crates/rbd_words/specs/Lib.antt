@@ -1,3 +1,4 @@
+pub mod Command
 pub mod Load
 pub mod Words
 pub mod Spelling

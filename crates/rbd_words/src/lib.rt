@@ -21,12 +21,19 @@
 //! [`Asked::of`] is exactly `asked_by` (`specs/Words.antt`), a function of the words. [`laws`] says
 //! that the three options ask for their numbers in each order and in each of their forms.
 //!
+//! # Method
+//!
+//! The kit's `clap` reads the words, by a command that is built for them (`specs/Command.antt`). Its
+//! contract tells which lists of words have faults, and what the others are matched with;
+//! `proofs/Commands.antt` shows that the rules above say the same of every list.
+//!
 //! # Cost
 //!
-//! One pass over the words, and no memory.
+//! A few passes over the words, and memory for the command and the matches, which may be refused.
 #![tactic(auto)]
 
 mod asked;
+mod command;
 pub mod laws;
 mod load;
 mod options;

@@ -1,12 +1,12 @@
 //! The options of `gen`.
-ghost use Rattle.std.specs.Prelude.{◌≡◌, ◌≤◌, ℕ, map, decimal, IfNone, IfSome, IsTrue, MatchOption, false, Some, option_and_then};
-ghost use Rattle.std.specs.List.{after_first, before_first};
-ghost use Rattle.std.specs.String.{string_bytes};
-ghost use Rattle.rbd_script.specs.Token.{is as is_word};
+ghost use Rattle.std.specs.Prelude.{◌≡◌, ◌≤◌, ℕ, decimal, IfNone, IfSome, option_and_then};
+ghost use Rattle.clap.specs.Words.{first_of, found_of, rows_of};
+ghost use Rattle.rbd_words.specs.Command.{read, told};
 ghost use Rattle.rbd_words.specs.Load.{IsLoad};
-ghost use Rattle.rbd_words.specs.Words.{has_value, is_equals, load_of as load_in, no_options, number as number_in, once as once_in, with_option as option_in, with_words as words_in};
+ghost use Rattle.rbd_words.specs.Words.{load_of as load_in};
 
 use crate::load::Load;
+use clap::ArgMatches;
 use itoa::Buffer;
 
 /// The options that were told so far.
@@ -17,88 +17,30 @@ pub struct Options {
     pub commands: Option<u32>,
 }
 
-/// The load that the words behind `gen` ask for, or `None` where they are others.
-pub fn load(words: &[String]) -> Option<Load>
-    ensures asked { result ≡ option_and_then load_in (words_in no_options (map (λ w. string_bytes w) words.now)) }
+/// The load that the options of `gen` ask for, or `None` where they ask for none.
+pub fn load<'a>(matches: &ArgMatches<'a>) -> Option<Load>
+    ensures asked { result ≡ option_and_then load_in (told (rows_of (found_of matches.now))) }
     ensures range { IfSome result IsLoad }
 {
-    let none = Options {
-        seed: None,
-        clients: None,
-        commands: None,
+    let told = Options {
+        seed: value(matches, "seed")?,
+        clients: value(matches, "clients")?,
+        commands: value(matches, "commands")?,
     };
-    with_words(&none, words)?.load()
+    told.load()
 }
 
-/// The options that words tell behind those that were told, each with its value: that in the word,
-/// or else the next word.
-fn with_words(told: &Options, words: &[String]) -> Option<Options>
-    ensures { result ≡ words_in told.now (map (λ w. string_bytes w) words.now) }
+/// The number of an option, where it was told, or `None` where its value isn't a number.
+fn value<'a>(matches: &ArgMatches<'a>, name: &str) -> Option<Option<u32>>
+    ensures { result ≡ read (first_of name.now (rows_of (found_of matches.now))) }
 {
-    let Some((word, behind)) = words.split_first() else {
-        return Some(*told);
-    };
-    if let Some((name, value)) = in_two(word.as_str()) {
-        return with_words(&told.with(name, value)?, behind);
+    match matches.get_str(name) {
+        None => Some(None),
+        Some(text) => Some(Some(number(text)?)),
     }
-    let (value, behind) = behind.split_first()?;
-    with_words(&told.with(word.as_str(), value.as_str())?, behind)
-}
-
-/// What stands in a word before and behind its first `=`.
-fn in_two(word: &str) -> Option<(&str, &str)>
-    ensures { MatchOption result (has_value word.now ≡ false) (λ x. IsTrue (has_value word.now) × (x.0.now ≡ before_first is_equals word.now) × (x.1.now ≡ after_first is_equals word.now)) }
-{
-    word.split_once('=')
 }
 
 impl Options {
-    /// One option more.
-    fn with(&self, name: &str, value: &str) -> Option<Options>
-        ensures { result ≡ option_in self.now name.now value.now }
-    {
-        if is(name, "--seed") {
-            return self.with_seed(once(self.seed, value)?);
-        }
-        if is(name, "--clients") {
-            return self.with_clients(once(self.clients, value)?);
-        }
-        if is(name, "--commands") {
-            return self.with_commands(once(self.commands, value)?);
-        }
-        None
-    }
-
-    fn with_seed(&self, seed: u32) -> Option<Options>
-        ensures { result ≡ Some (record self.now { seed = Some seed }) }
-    {
-        Some(Options {
-            seed: Some(seed),
-            clients: self.clients,
-            commands: self.commands,
-        })
-    }
-
-    fn with_clients(&self, clients: u32) -> Option<Options>
-        ensures { result ≡ Some (record self.now { clients = Some clients }) }
-    {
-        Some(Options {
-            seed: self.seed,
-            clients: Some(clients),
-            commands: self.commands,
-        })
-    }
-
-    fn with_commands(&self, commands: u32) -> Option<Options>
-        ensures { result ≡ Some (record self.now { commands = Some commands }) }
-    {
-        Some(Options {
-            seed: self.seed,
-            clients: self.clients,
-            commands: Some(commands),
-        })
-    }
-
     /// All three options, where their numbers are in their ranges.
     fn load(&self) -> Option<Load>
         ensures asked { result ≡ load_in self.now }
@@ -116,23 +58,6 @@ impl Options {
             commands,
         })
     }
-}
-
-/// Whether a word is this one.
-pub fn is(word: &str, other: &str) -> bool
-    ensures { result ≡ is_word other.now word.now }
-{
-    word == other
-}
-
-/// A number that wasn't told before.
-fn once(before: Option<u32>, value: &str) -> Option<u32>
-    ensures { result ≡ once_in before (number_in value.now) }
-{
-    if before.is_some() {
-        return None;
-    }
-    number(value)
 }
 
 /// A number as scripts have numbers: decimal, without sign or leading zeros.
