@@ -1,5 +1,6 @@
 """Which functions of a crate a must-fail edit changes, by the paths that rattle prints, and which of
 them call each other."""
+import functools
 import re
 from pathlib import Path
 
@@ -38,6 +39,7 @@ def paths_in(named):
     return paths if any("::" in it for it in paths) else []
 
 
+@functools.cache
 def home_of(owner, module, folder):
     """Returns the module that rattle gives to the functions of an `impl`: a method stands in that of
     its type, wherever its `impl` does. Of two types of one name it's that beside the `impl`."""
@@ -47,6 +49,12 @@ def home_of(owner, module, folder):
         if re.search(rf"^(?:pub(?:\([^)]*\))? )?(?:struct|enum) {name}\b", path.read_text(), re.M):
             return module_of(path.relative_to(folder))
     return module
+
+
+def path_of(module, owner, name, folder):
+    """Returns the path that rattle gives to a function, or to the method of an owner."""
+    home = home_of(owner, module, folder) if owner else module
+    return "::".join(it for it in (home, owner, name) if it)
 
 
 def module_of(path):
@@ -98,10 +106,7 @@ def changes_of(edit, folder):
             function = function_at(texts[path], at)
             if not function:
                 return None
-            module = module_of(path)
-            if function[0]:
-                module = home_of(function[0], module, folder)
-            found.add("::".join(it for it in (module, *function) if it))
+            found.add(path_of(module_of(path), *function, folder))
             texts[path] = texts[path].replace(old, new)
             old = None
     return found or None
@@ -110,20 +115,26 @@ def changes_of(edit, folder):
 # ---- which call each other
 
 
-def called_in(folder, functions):
-    """Returns what the bodies of these functions call, each as what stands before the name, and the name."""
-    wanted = {it.rpartition("::")[2] for it in functions}
-    found = set()
+@functools.cache
+def calls_in(folder):
+    """Returns what the body of each function of a crate calls, by the function's path: each call as what
+    stands before the name, and the name."""
+    calls = {}
     for path in Path(folder, "src").rglob("*.rt"):
-        name, depth = None, 0
+        module, owner, own, depth = module_of(path.relative_to(folder)), "", None, 0
         for line in path.read_text().split("\n"):
+            if impl := IMPL.match(line):
+                owner = owner if impl[1] else owner_of(line)
+            elif line == "}":
+                owner = ""
             if head := FN.match(line):
-                name, depth = head[2], len(head[1])
-            elif name in wanted and not IN_CLAUSE.match(line):
-                found.update((before or "", called) for before, called in CALL.findall(line))
+                own = calls.setdefault(path_of(module, owner, head[2], folder), set())
+                depth = len(head[1])
+            elif own is not None and not IN_CLAUSE.match(line):
+                own.update((before or "", called) for before, called in CALL.findall(line))
             if line == " " * depth + "}":
-                name = None
-    return found
+                own = None
+    return calls
 
 
 def calls_one_of(calls, functions):
@@ -135,3 +146,26 @@ def calls_one_of(calls, functions):
             if called == name and (of_type and before if is_method else before != "."):
                 return True
     return False
+
+
+def without_bodies(text, module, folder, functions):
+    """Returns the text of a module in which no function but these has a body of its own."""
+    lines, owner, path, end = [], "", None, None
+    for line in text.split("\n"):
+        if end not in (None, line):
+            continue
+        end = None
+        if impl := IMPL.match(line):
+            owner = owner if impl[1] else owner_of(line)
+        elif line == "}":
+            owner = ""
+        if head := FN.match(line):
+            path = path_of(module, owner, head[2], folder)
+            indent = head[1]
+        lines.append(line)
+        if path and (line == indent + "{" or head and line.endswith("{")):
+            if path not in functions:
+                lines.append(f"{indent}    unreachable!()")
+                end = indent + "}"
+            path = None
+    return "\n".join(lines)

@@ -12,11 +12,23 @@ import types
 from collections import defaultdict
 from pathlib import Path
 
-from edit_changes import called_in, calls_one_of, changes_of
+from edit_changes import calls_in, calls_one_of, changes_of, module_of, without_bodies
 
 CACHE = Path.home() / ".cache/rbd_lab/edits"
 FLAGS = ["--jobs", "1"]
 LANES = 4
+# What stands in the place of a proof, and the one hole that all of them cite: a hole's goal is printed.
+TAKEN = """\
+use Rattle.{crate}.proofs.{path}.Statement.{{statement}}
+use Rattle.{crate}.proofs.TakenByContract.{{taken}}
+
+pub {name}_spec : {{M : Type 1}} → statement M
+{name}_spec = taken
+"""
+HOLE = """\
+pub taken : {A : Type 2} → A
+taken = ?
+"""
 REFUSED_BY = re.compile(r"^# refused by: (\S+)$", re.M)
 # By crate, the processor seconds of each check.
 COSTS = defaultdict(list)
@@ -51,7 +63,7 @@ def first_group(edits, crate, rt):
     group = {"edits": [], "functions": set(), "calls": set(), "text": ""}
     for edit, functions in edits:
         own = Path(edit).read_text().rstrip("\n") + "\n"
-        calls = called_in(crate.folder, functions)
+        calls = set().union(*(calls_in(crate.folder).get(it, ()) for it in functions))
         is_apart = not functions & group["functions"] and not calls_one_of(calls, group["functions"])
         if not is_apart or calls_one_of(group["calls"], functions):
             continue
@@ -65,10 +77,12 @@ def first_group(edits, crate, rt):
     return group
 
 
-def is_own(said):
+def is_own(said, path, crate):
     """Whether what is said of a function is that a goal of its own isn't shown. One that calls what
     isn't proved may just lack that, and one that the borrow checker doesn't cover says nothing."""
     reasons = re.sub(r"^(no proof: |not proved(; )?)", "", said).split("; ")
+    if named := [it for it in reasons if it.startswith("it stands on ")]:
+        return stands_on_own(named[0], path, crate)
     of_calls = [it for it in reasons if it.startswith("it calls ") or "is not made yet: a call of" in it]
     if said.startswith("not proved"):
         return not of_calls and "waits for" not in said
@@ -76,10 +90,19 @@ def is_own(said):
     return said.startswith("no proof") and len(of_calls) < len(reasons) and is_covered
 
 
+def stands_on_own(said, path, crate):
+    """Whether one of the declarations that aren't admitted, on which a function is said to stand, is
+    its own or a lemma's."""
+    named = [f"{it}." for it in re.findall(r"`Rattle\.\w+\.proofs\.([^`]+)`", said)]
+    own = path.replace("fn::", "").replace("::", ".") + "."
+    others = tuple(it.replace("::", ".") + "." for it in calls_in(crate.folder))
+    return any(it.startswith(own) or not it.startswith(others) for it in named)
+
+
 def refused_in(printed, crate):
     """Returns the functions that a check refuses by goals of their own, each with what is said."""
     lines = re.findall(rf"^fn {crate.name}::(\S+): (.*)$", printed, re.M)
-    return {name: said for name, said in lines if is_own(said)}
+    return {name: said for name, said in lines if is_own(said, name, crate)}
 
 
 def why_refused(functions, refused):
@@ -99,10 +122,56 @@ def only(functions):
 
 
 def check_only(crate, texts, functions, kept, rt):
-    """Checks these functions of a crate, or all of it where there are none, or where rattle has another
-    name for one of them."""
+    """Checks these functions of a crate and what they call, or all of it where there are none, or where
+    rattle has another name for one of them."""
     ran = rt.checked(crate, texts, [*FLAGS, *only(functions)], kept)
     return rt.checked(crate, texts, FLAGS, kept) if ran.returncode == 2 and functions else ran
+
+
+def checked(crate, texts, functions, kept, rt):
+    """Checks these functions of an edited crate over the contracts of those that they call: each other
+    one has no body, and a hole in the place of its proof, and rattle takes it by its contract. It checks
+    all of the crate where there are none."""
+    if not functions:
+        return rt.checked(crate, texts, FLAGS, kept)
+    words = crate.words([*FLAGS, "--allow-holes", *only(functions)], keeps=False)
+    words = [*rt.rtlib.guarded(), rt.rtlib.RATTLE, "check", *words, "--incremental", kept]
+    with tempfile.TemporaryDirectory(prefix="rbd-edit-") as room:
+        for part in rt.rtlib.PARTS:
+            if os.path.isdir(f"{crate.folder}/{part}"):
+                shutil.copytree(f"{crate.folder}/{part}", f"{room}/{part}")
+        take_by_contract(calls_in(crate.folder).keys() - set(functions), crate, room)
+        whole = {path: path.read_text() for path in Path(room, "src").rglob("*.rt")}
+        whole |= {Path(room, path): text for path, text in texts.items()}
+        for path, text in whole.items():
+            module = module_of(path.relative_to(room))
+            path.write_text(without_bodies(text, module, crate.folder, functions))
+        how = {"cwd": room, "stdin": subprocess.DEVNULL, "stderr": subprocess.STDOUT}
+        how |= {"stdout": subprocess.PIPE, "errors": "replace"}
+        ran = rt.subprocess.run(words, **how)
+        if ran.returncode and not re.search(r"^fn ", ran.stdout, re.M):
+            # (there may be a body without which it doesn't compile)
+            for path, text in whole.items():
+                path.write_text(text)
+            ran = rt.subprocess.run(words, **how)
+    return ran
+
+
+def take_by_contract(functions, crate, room):
+    """Puts a hole in the place of the proof of each of these functions. No other proof cites what stands
+    in its files."""
+    for function in functions:
+        folder = Path(room, "proofs", *function.split("::"))
+        folder.mkdir(parents=True, exist_ok=True)
+        for name in "Answers.antt", "Invariants.antt":
+            (folder / name).unlink(missing_ok=True)
+        text = TAKEN.format(crate=crate.name, path=function.replace("::", "."), name=folder.name)
+        (folder / "Proof.antt").write_text(text)
+    own = Path(room, "proofs")
+    own.mkdir(exist_ok=True)
+    (own / "TakenByContract.antt").write_text(HOLE)
+    with (own / "Lib.antt").open("a") as lib:
+        lib.write("\npub mod TakenByContract\n")
 
 
 def try_code(crate, code, kept, rt):
@@ -111,7 +180,10 @@ def try_code(crate, code, kept, rt):
     alone = []
     while code:
         group = first_group(code, crate, rt)
-        ran = check_only(crate, group["texts"], group["functions"], kept, rt)
+        ran = checked(crate, group["texts"], group["functions"], kept, rt)
+        if ran.returncode == 2:
+            # (rattle has another name for one of them)
+            ran = checked(crate, group["texts"], (), kept, rt)
         refused = refused_in(ran.stdout, crate)
         why = {edit: why_refused(functions, refused) for edit, functions in group["edits"]}
         yield {edit: answer(crate, edit, True, said) for edit, said in why.items() if said}
@@ -143,7 +215,7 @@ def try_alone(crate, edit, functions, kept, rt):
     if why:
         return {edit: answer(crate, edit, False, f"BAD EDIT: {why}")}
     with linked(kept) as over:
-        ran = rt.checked(crate, texts, [*FLAGS, *only(functions)], over)
+        ran = checked(crate, texts, functions, over, rt)
     refused = refused_in(ran.stdout, crate)
     unread = [it for it in ran.stdout.split("\n") if is_unread(it, texts)]
     if unread or ran.returncode == 2:

@@ -95,11 +95,14 @@ client b c | c | a or b
 
 
 def ends(pid, seconds=20):
-    """Whether a process, which may be nobody's child any more, ends and is reaped within this time."""
+    """Whether a process, which may be nobody's child any more, ends within this time. Who reaps it then may
+    be late."""
     for _ in range(seconds * 50):
         try:
-            os.kill(pid, 0)
-        except ProcessLookupError:
+            state = Path(f"/proc/{pid}/stat").read_text().rpartition(")")[2].split()[0]
+        except (FileNotFoundError, ProcessLookupError):
+            return True
+        if state in "ZX":
             return True
         time.sleep(0.02)
     return False
