@@ -2,7 +2,7 @@
 use Rattle.std.proofs.Common.{◌≡◌, ◌≢◌, ℕ, ◌+◌, ◌*◌, ◌/◌, ◌%◌, ◌<◌, ◌≤◌, List, [], ◌∷◌, ◌++◌, length, get_or, set, refl, sym, ap, ◌∙◌, subst, inl, inr, arith}
 use Rattle.std.specs.Prelude.{zero, suc}
 use Rattle.std.proofs.lemmas.Bool.{cases_lt, cases_eq}
-use Rattle.std.proofs.lemmas.List.{get_or_past, get_or_append_left, get_or-set_same, get_or-set_other, length-set, get_or_read}
+use Rattle.std.proofs.lemmas.List.{get_or_past, get_or_append_left, get_or-set_same, get_or-set_other, get_or_read}
 use Rattle.rbd_pages.specs.Sheets.{Sheet, Changed, free_sheet, sheet_at, count_at, bytes_at}
 use Rattle.rbd_pages.specs.Paging.{occurs, bytes_on, AreApart, AreCounted, Moved, Prepared}
 use Rattle.rbd_pages.specs.Sheaves.{AreFull, AreStocked, IsSame, Stock, named_in, pages_in}
@@ -280,19 +280,17 @@ stocked_step a b i stocked change named counts free = record {
 -- ---- in terms of the fields: `items` are the sheaves and `sheets` the pages
 
 pub stocked_set : (items sheets after : List Sheet) (i : ℕ) (s : Sheet)
-    → AreStocked (record { sheaves = items; sheets = sheets }) × (length items < 4294967296) → i < length items
+    → AreStocked (record { sheaves = items; sheets = sheets }) → i < length items
     → ((x : ℕ) → count_at after x + occurs x (bytes_at items i) ≡ count_at sheets x + occurs x s.bytes) → (s.count ≡ 0 → s.bytes ≡ [])
-    → AreStocked (record { sheaves = set items i s; sheets = after }) × (length (set items i s) < 4294967296)
-stocked_set items sheets after i s sound below counts free =
+    → AreStocked (record { sheaves = set items i s; sheets = after })
+stocked_set items sheets after i s stocked below counts free =
     let here : sheet_at (set items i s) i ≡ s = get_or-set_same items i s free_sheet below in
-    let bytes : bytes_at (set items i s) i ≡ s.bytes = ap (λ (t : Sheet). t.bytes) here in (
-      stocked_step (record { sheaves = items; sheets = sheets }) (record { sheaves = set items i s; sheets = after }) i sound.0
-          (changed_set items i s below)
-          (λ x. let named = named_in-set items i s x below in let same = ap (occurs x) bytes in omega arith)
-          (λ x. let count = counts x in let same = ap (occurs x) bytes in omega arith)
-          (λ none. bytes ∙ free (sym (ap (λ (t : Sheet). t.count) here) ∙ none)),
-      let l = length-set items i s in let few = sound.1 in omega arith,
-    )
+    let bytes : bytes_at (set items i s) i ≡ s.bytes = ap (λ (t : Sheet). t.bytes) here in
+    stocked_step (record { sheaves = items; sheets = sheets }) (record { sheaves = set items i s; sheets = after }) i stocked
+    (changed_set items i s below)
+    (λ x. let named = named_in-set items i s x below in let same = ap (occurs x) bytes in omega arith)
+    (λ x. let count = counts x in let same = ap (occurs x) bytes in omega arith)
+    (λ none. bytes ∙ free (sym (ap (λ (t : Sheet). t.count) here) ∙ none))
 
 -- the pages that were read of a sheaf
 pub pages_read : (items : List Sheet) (i : ℕ) (r s : Sheet) → i < length items → r ≡ get_or items i r → s.bytes ≡ r.bytes → s.bytes ≡ bytes_at items i
@@ -300,11 +298,11 @@ pages_read items i r s below read same = same ∙ ap (λ (t : Sheet). t.bytes) (
 
 -- another count alone
 pub stocked_count : (items sheets : List Sheet) (i : ℕ) (s : Sheet)
-    → AreStocked (record { sheaves = items; sheets = sheets }) × (length items < 4294967296) → i < length items
+    → AreStocked (record { sheaves = items; sheets = sheets }) → i < length items
     → s.bytes ≡ bytes_at items i → 0 < s.count
-    → AreStocked (record { sheaves = set items i s; sheets = sheets }) × (length (set items i s) < 4294967296)
-stocked_count items sheets i s sound below same some =
-    stocked_set items sheets sheets i s sound below (λ x. let e = ap (occurs x) same in omega arith) (λ none. absurd (let f : ⊥ = omega arith in f))
+    → AreStocked (record { sheaves = set items i s; sheets = sheets })
+stocked_count items sheets i s stocked below same some =
+    stocked_set items sheets sheets i s stocked below (λ x. let e = ap (occurs x) same in omega arith) (λ none. absurd (let f : ⊥ = omega arith in f))
 
 -- a sheaf's pages are counted
 pub counted_read : (items sheets : List Sheet) (i : ℕ) (r : Sheet) → AreStocked (record { sheaves = items; sheets = sheets })

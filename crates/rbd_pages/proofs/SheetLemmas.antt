@@ -2,7 +2,7 @@
 use Rattle.std.proofs.Common.{◌≡◌, ℕ, ◌+◌, ◌-◌, ◌<◌, ◌≤◌, cond, List, [], ◌∷◌, ◌++◌, length, get_or, set, take, drop, replicate, min, refl, sym, ap, ◌∙◌, subst, inl, inr, arith}
 use Rattle.std.specs.Prelude.{zero, suc}
 use Rattle.std.proofs.lemmas.Bool.{cases_lt}
-use Rattle.std.proofs.lemmas.List.{get_or_past, get_or_append_left, get_or-set_same, get_or-set_other, get_or_push, length_push, length-set, get_or_read, take_at, get_or-replicate, length-replicate, places}
+use Rattle.std.proofs.lemmas.List.{get_or_past, get_or_append_left, get_or-set_same, get_or-set_other, get_or_push, length_push, get_or_read, take_at, get_or-replicate, length-replicate, places}
 use Rattle.std.proofs.lemmas.List.FromFn.{fill_by_all}
 use Rattle.rbd_parts.specs.Contents.{overwritten, zeroed, is_within, window}
 use Rattle.rbd_parts.proofs.ContentsLemmas.{length_overwritten, get_or-overwritten_any, length-zeroed, get_or-zeroed}
@@ -15,13 +15,13 @@ within sheets i named = elim (cases_lt i (length sheets)) [
   | inr past ↦ let none : count_at sheets i ≡ 0 = ap (λ (s : Sheet). s.count) (get_or_past sheets i free_sheet past) in omega arith
 ]
 
-in_use-set : (sheets : List Sheet) (i : ℕ) (s : Sheet) → i < length sheets
+pub in_use-set : (sheets : List Sheet) (i : ℕ) (s : Sheet) → i < length sheets
     → in_use (set sheets i s) + min (count_at sheets i) 1 ≡ in_use sheets + min s.count 1
 in_use-set [] i s below = omega arith
 in_use-set (t ∷ sheets) zero s below = omega arith
 in_use-set (t ∷ sheets) (suc i) s below = let rest = in_use-set sheets i s (omega arith) in omega arith
 
-in_use-push : (sheets : List Sheet) (s : Sheet) → in_use (sheets ++ s ∷ []) ≡ in_use sheets + min s.count 1
+pub in_use-push : (sheets : List Sheet) (s : Sheet) → in_use (sheets ++ s ∷ []) ≡ in_use sheets + min s.count 1
 in_use-push [] s = omega arith
 in_use-push (t ∷ sheets) s = let rest = in_use-push sheets s in omega arith
 
@@ -64,45 +64,9 @@ changed_at items now i s is below = subst (λ sheets. Changed i sheets (set item
 pub within_items : (items now : List Sheet) (i : ℕ) → items ≡ now → 0 < count_at now i → i < length items
 within_items items now i is named = subst (λ sheets. i < length sheets) (sym is) (within now i named)
 
-pub used_after : (items : List Sheet) (i : ℕ) (s : Sheet) (before after : ℕ)
-    → (before ≡ in_use items) × (length items < 4294967296) → i < length items
-    → after + min (count_at items i) 1 ≡ before + min s.count 1
-    → (after ≡ in_use (set items i s)) × (length (set items i s) < 4294967296)
-used_after items i s before after sound below counts =
-    let change = in_use-set items i s below in
-    let same = length-set items i s in
-    let was = sound.0 in
-    let few = sound.1 in
-    (omega arith, omega arith)
-
 -- what was read of a page
 pub count_read : (items : List Sheet) (i : ℕ) (s : Sheet) → i < length items → s ≡ get_or items i s → s.count ≡ count_at items i
 count_read items i s below read = ap (λ (t : Sheet). t.count) (get_or_read items i s below read free_sheet)
-
--- there is room for one more where one is free
-pub more_used : (items : List Sheet) (i : ℕ) (used : ℕ) (s : Sheet)
-    → (used ≡ in_use items) × (length items < 4294967296) → i < length items → count_at items i ≡ 0 → s.count ≡ 1 → used + 1 < 4294967296
-more_used items i used s sound below free one =
-    let change = in_use-set items i s below in
-    let same = length-set items i s in
-    let most = in_use-le-length (set items i s) in
-    let was = sound.0 in
-    let few = sound.1 in
-    omega arith
-
-pub less_used : (items : List Sheet) (i : ℕ) (used : ℕ)
-    → (used ≡ in_use items) × (length items < 4294967296) → i < length items → 0 < count_at items i → 1 ≤ used
-less_used items i used sound below named =
-    let change = in_use-set items i free_sheet below in let was = sound.0 in omega arith
-
-pub grown : (items new : List Sheet) (s : Sheet) (used : ℕ)
-    → (used ≡ in_use items) × (length items < 4294967296) → new ≡ items ++ s ∷ [] → length items < 4294967295 → s.count ≡ 1
-    → (used + 1 ≡ in_use new) × (length new < 4294967296)
-grown items new s used sound pushed room one =
-    let sum = in_use-push items s in
-    let long = length_push items s in
-    let was = sound.0 in
-    rw pushed (omega arith, omega arith)
 
 pub changed_grown : (items now new : List Sheet) (s : Sheet) (i : ℕ) → items ≡ now → i ≡ length items → new ≡ items ++ s ∷ [] → Changed i now new
 changed_grown items now new s i is at pushed = rw (at, pushed) (subst (λ sheets. Changed (length items) sheets (items ++ s ∷ [])) is (changed_push items s))

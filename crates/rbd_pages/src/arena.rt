@@ -1,5 +1,6 @@
 //! The pages that the contents of an object share.
-ghost use Rattle.std.specs.Prelude.{◌≡◌, ◌≢◌, ℕ, ◌+◌, ◌-◌, ◌<◌, ◌≤◌, [], length, slice_index, if◌then◌else◌, IfOk, IfSome, OnOk, OnErr, IsTrue};
+ghost use Rattle.std.specs.Prelude.{◌≡◌, ◌≢◌, ℕ, ◌+◌, ◌-◌, ◌<◌, ◌≤◌, [], length, slice_index, if◌then◌else◌, IfOk, OnOk, OnErr, IsTrue};
+ghost use Rattle.rbd_pages.specs.Places.{TakesFreeFirst};
 ghost use Rattle.rbd_parts.specs.Contents.{is_within, window};
 ghost use Rattle.rbd_pages.specs.Sheets.{Changed, sheet_at, count_at, bytes_at, in_use, released};
 ghost use Rattle.rbd_pages.specs.declared.page.TheConstants.{PAGE};
@@ -10,25 +11,26 @@ use std::alloc::Global;
 use std::marker::Model;
 
 /// Counted pages, named by their index. Contracts see them as the list of pages. A page with count
-/// 0 is free: its place is taken again before the arena grows.
+/// 0 is free: its place is taken again before the arena grows, so there are never more places than
+/// pages were named at once.
 #[derive(Drop)]
 pub struct Arena {
     pages: Vec<Page>,
-    /// The first free page, from which the others are linked by index. No page's index ends the
-    /// list.
-    free: u32,
-    used: u32,
+    /// The places that are free. It has room for all.
+    free: Vec<u32>,
 }
 
 impl Model for Arena {
-    ghost use Rattle.std.specs.Prelude.{◌≡◌, ◌<◌, ◌^◌, List, length};
-    ghost use Rattle.rbd_pages.specs.Sheets.{Sheet, in_use};
+    ghost use Rattle.std.specs.Prelude.{List};
+    ghost use Rattle.std.specs.Vec.{vec_capacity};
+    ghost use Rattle.rbd_pages.specs.Places.{KnowsFree};
+    ghost use Rattle.rbd_pages.specs.Sheets.{Sheet};
 
     ghost Value = { List Sheet };
 
     ghost view = { λ a. a.pages.items };
 
-    ghost invariant = { λ a. (a.used ≡ in_use a.pages.items) × (length a.pages.items < 2 ^ 32) };
+    ghost invariant = { λ a. KnowsFree a.pages.items a.free.items (vec_capacity a.free) };
 }
 
 impl Arena {
@@ -38,8 +40,7 @@ impl Arena {
     {
         Arena {
             pages: Vec::new(alloc),
-            free: u32::MAX,
-            used: 0,
+            free: Vec::new(alloc),
         }
     }
 
@@ -47,7 +48,7 @@ impl Arena {
     pub fn used(&self) -> u32
         ensures { result ≡ in_use self.now }
     {
-        self.used
+        (self.pages.len() - self.free.len()) as u32
     }
 
     /// How many places there are, free ones among them.
@@ -61,8 +62,7 @@ impl Arena {
     pub fn reserve(&mut self, more: usize) -> Result<(), NoMemory>
         ensures { self.new ≡ self.old }
     {
-        let free = self.pages.len().saturating_sub(self.used as usize);
-        self.pages.reserve(more.saturating_sub(free))?;
+        self.pages.reserve(more.saturating_sub(self.free.len()))?;
         Ok(())
     }
 
@@ -88,6 +88,7 @@ impl Arena {
         ensures free { IfOk result (λ i. count_at self.old i ≡ 0) }
         ensures changed { IfOk result (λ i. Changed i self.old self.new) }
         ensures page { IfOk result (λ i. sheet_at self.new i ≡ record { count = 1; bytes = [] }) }
+        ensures places { TakesFreeFirst self.old self.new }
         ensures err { OnErr result (self.new ≡ self.old) }
     {
         let page = Page::new(*self.pages.allocator());
@@ -100,6 +101,7 @@ impl Arena {
         ensures free { IfOk result (λ i. count_at self.old i ≡ 0) }
         ensures changed { IfOk result (λ i. Changed i self.old self.new) }
         ensures page { IfOk result (λ i. sheet_at self.new i ≡ record { count = 1; bytes = bytes_at self.old index }) }
+        ensures places { TakesFreeFirst self.old self.new }
         ensures err { OnErr result (self.new ≡ self.old) }
     {
         let page = self.pages[index as usize].copied()?;
@@ -112,45 +114,20 @@ impl Arena {
         ensures free { IfOk result (λ i. count_at self.old i ≡ 0) }
         ensures changed { IfOk result (λ i. Changed i self.old self.new) }
         ensures page { IfOk result (λ i. sheet_at self.new i ≡ page) }
+        ensures places { TakesFreeFirst self.old self.new }
         ensures err { OnErr result (self.new ≡ self.old) }
     {
-        match self.first_free() {
-            Some(index) => {
-                self.fill(index, page);
-                Ok(index)
-            }
-            None => self.grow(page),
-        }
-    }
-
-    fn first_free(&self) -> Option<u32>
-        ensures within { IfSome result (λ i. i < length self.now) }
-        ensures free { IfSome result (λ i. count_at self.now i ≡ 0) }
-    {
-        if self.free as usize >= self.pages.len() {
-            return None;
-        }
-        if self.pages[self.free as usize].count() > 0 {
-            return None;
-        }
-        Some(self.free)
-    }
-
-    /// Puts a page at the place of a free one, which no longer is.
-    fn fill(&mut self, index: u32, page: Page)
-        requires within { index < length self.old }
-        requires free { count_at self.old index ≡ 0 }
-        requires used { page.count ≡ 1 }
-        ensures changed { Changed index self.old self.new }
-        ensures page { sheet_at self.new index ≡ page }
-    {
-        self.free = self.pages[index as usize].next();
+        let Some(index) = self.free.pop() else {
+            return self.grow(page);
+        };
         self.pages[index as usize] = page;
-        self.used += 1;
+        Ok(index)
     }
 
+    /// One more place, where none is free.
     fn grow(&mut self, page: Page) -> Result<u32, NoMemory>
-        requires { page.count ≡ 1 }
+        requires page { page.count ≡ 1 }
+        requires full { in_use self.old ≡ length self.old }
         ensures free { IfOk result (λ i. count_at self.old i ≡ 0) }
         ensures changed { IfOk result (λ i. Changed i self.old self.new) }
         ensures page { IfOk result (λ i. sheet_at self.new i ≡ page) }
@@ -160,11 +137,9 @@ impl Arena {
         if index >= u32::MAX as usize {
             return Err(NoMemory);
         }
-        let Ok(()) = self.pages.reserve(1) else {
-            return Err(NoMemory);
-        };
+        self.free.reserve(index + 1)?;
+        self.pages.reserve(1)?;
         self.pages.push_reserved(page);
-        self.used += 1;
         Ok(index as u32)
     }
 
@@ -191,9 +166,8 @@ impl Arena {
             page.set_count(count - 1);
             return;
         }
-        page.free(self.free);
-        self.free = index;
-        self.used -= 1;
+        page.free();
+        self.free.push_reserved(index);
     }
 
     /// Takes the memory for a page's bytes, which stay as they are.

@@ -14,17 +14,17 @@ pub const PAGE: usize = 4096;
 /// The bytes of a page at its first one that isn't zero.
 const ZEROS: [u8; PAGE] = [0; PAGE];
 
-/// How many places name it, its bytes, and the free page after it. A page of zeros has no bytes:
-/// they are taken at the first one that isn't zero.
+/// How many places name it, and its bytes. A page of zeros has none, and keeps no memory for them:
+/// it is taken at the first byte that isn't zero.
 #[derive(Drop)]
 pub struct Page {
     count: u32,
-    next: u32,
     bytes: Vec<u8>,
 }
 
 impl Model for Page {
     ghost use Rattle.std.specs.Prelude.{◌≡◌, ◌<◌, length};
+    ghost use Rattle.std.specs.Vec.{vec_capacity};
     ghost use Rattle.rbd_pages.specs.Sheets.{Sheet};
     ghost use Rattle.rbd_pages.specs.declared.page.TheConstants.{PAGE};
 
@@ -32,7 +32,8 @@ impl Model for Page {
 
     ghost view = { λ p. record { count = p.count; bytes = p.bytes.items } };
 
-    ghost invariant = { λ p. 0 < length p.bytes.items → length p.bytes.items ≡ PAGE };
+    ghost invariant = { λ p. (0 < length p.bytes.items → length p.bytes.items ≡ PAGE)
+        × (length p.bytes.items ≡ 0 → vec_capacity p.bytes ≡ 0) };
 }
 
 impl Page {
@@ -42,7 +43,6 @@ impl Page {
     {
         Page {
             count: 1,
-            next: 0,
             bytes: Vec::new(alloc),
         }
     }
@@ -63,11 +63,6 @@ impl Page {
             return false;
         }
         !self.bytes.is_empty()
-    }
-
-    /// The free page after this one, where this one is free.
-    pub fn next(&self) -> u32 {
-        self.next
     }
 
     /// One place more names it. It is refused where the count would be too large.
@@ -103,13 +98,11 @@ impl Page {
         self.count = count;
     }
 
-    /// Drops the bytes of a page that no place names any more, and puts it before the free page
-    /// `next`.
-    pub fn free(&mut self, next: u32)
+    /// Drops the bytes of a page that no place names any more.
+    pub fn free(&mut self)
         ensures { self.new ≡ record { count = 0; bytes = [] } }
     {
         self.count = 0;
-        self.next = next;
         self.bytes = Vec::new(*self.bytes.allocator());
     }
 
@@ -130,10 +123,13 @@ impl Page {
     pub fn copied(&self) -> Result<Self, NoMemory>
         ensures { IfOk result (λ page. page ≡ record { count = 1; bytes = self.now.bytes }) }
     {
+        let alloc = *self.bytes.allocator();
+        if self.bytes.is_empty() {
+            return Ok(Page::new(alloc));
+        }
         Ok(Page {
             count: 1,
-            next: 0,
-            bytes: Vec::from_slice(*self.bytes.allocator(), self.bytes.as_slice())?,
+            bytes: Vec::from_slice(alloc, self.bytes.as_slice())?,
         })
     }
 

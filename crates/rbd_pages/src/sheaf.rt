@@ -12,12 +12,11 @@ use std::marker::Model;
 /// How many pages a full sheaf has (own): a full object of the largest size has 64 sheaves.
 pub const SHEAF: usize = 128;
 
-/// How many places name it, its pages, and the free sheaf after it. Contracts see it as a `Sheet`,
-/// with its pages in place of bytes.
+/// How many places name it, and its pages. Contracts see it as a `Sheet`, with its pages in place
+/// of bytes.
 #[derive(Drop)]
 pub struct Sheaf {
     count: u32,
-    next: u32,
     pages: Vec<u32>,
 }
 
@@ -36,7 +35,6 @@ impl Sheaf {
     {
         Sheaf {
             count: 1,
-            next: 0,
             pages: Vec::new(alloc),
         }
     }
@@ -46,11 +44,6 @@ impl Sheaf {
         ensures { result ≡ self.now.count }
     {
         self.count
-    }
-
-    /// The free sheaf after this one, where this one is free.
-    pub fn next(&self) -> u32 {
-        self.next
     }
 
     /// One place more names it. It is refused where the count would be too large.
@@ -119,7 +112,6 @@ impl Sheaf {
     {
         Ok(Sheaf {
             count: 1,
-            next: 0,
             pages: pages::share(*self.pages.allocator(), self.pages.as_slice(), arena)?,
         })
     }
@@ -143,9 +135,8 @@ impl Sheaf {
         pages::prepare_page(&mut self.pages, arena, k, stored)
     }
 
-    /// Lets the pages go of a sheaf that no place names any more, and puts it before the free sheaf
-    /// `next`.
-    pub fn free(&mut self, arena: &mut Arena, next: u32)
+    /// Lets the pages go of a sheaf that no place names any more.
+    pub fn free(&mut self, arena: &mut Arena)
         requires { AreCounted arena.old self.old.bytes }
         ensures sheaf { self.new ≡ record { count = 0; bytes = [] } }
         ensures moved { Moved arena.old self.old.bytes arena.new [] }
@@ -154,7 +145,6 @@ impl Sheaf {
     {
         pages::let_go(self.pages.as_slice(), arena);
         self.count = 0;
-        self.next = next;
         self.pages = Vec::new(*self.pages.allocator());
     }
 }

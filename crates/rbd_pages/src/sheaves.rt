@@ -1,5 +1,6 @@
 //! The sheaves that the contents of an object share, and their pages.
-ghost use Rattle.std.specs.Prelude.{◌≡◌, ◌≢◌, ℕ, ◌+◌, ◌/◌, ◌<◌, ◌≤◌, [], length, max, slice_index, IfOk, IfSome, OnOk, OnErr, IsTrue, false};
+ghost use Rattle.std.specs.Prelude.{◌≡◌, ◌≢◌, ℕ, ◌+◌, ◌/◌, ◌<◌, ◌≤◌, [], length, max, slice_index, IfOk, OnOk, OnErr, IsTrue, false};
+ghost use Rattle.rbd_pages.specs.Places.{KnowsFree, TakesFreeFirst};
 ghost use Rattle.rbd_pages.specs.Paging.{AreApart, AreCounted, IsReady, IsWritten, IsZeroed, Prepared, byte_at, occurs};
 ghost use Rattle.rbd_pages.specs.Sheaves.{AreFull, AreStocked, IsOnOwn, IsSame, named_in, pages_in};
 ghost use Rattle.std.specs.Vec.{vec_len, vec_capacity};
@@ -15,25 +16,27 @@ use std::alloc::Global;
 use std::marker::Model;
 
 /// Counted sheaves, named by their index, and the counted pages that they name. A sheaf with count
-/// 0 is free and has no page: its place is taken again before there are more.
+/// 0 is free and has no page: its place is taken again before there are more, so there are never
+/// more places than sheaves were named at once.
 #[derive(Drop)]
 pub struct Sheaves {
     arena: Arena,
     sheaves: Vec<Sheaf>,
-    /// The first free sheaf, from which the others are linked by index. No sheaf's index ends the
-    /// list.
-    free: u32,
+    /// The places for sheaves that are free. It has room for all.
+    free: Vec<u32>,
 }
 
 impl Model for Sheaves {
-    ghost use Rattle.std.specs.Prelude.{◌<◌, ◌^◌, length};
+    ghost use Rattle.std.specs.Vec.{vec_capacity};
+    ghost use Rattle.rbd_pages.specs.Places.{KnowsFree};
     ghost use Rattle.rbd_pages.specs.Sheaves.{AreStocked, Stock};
 
     ghost Value = { Stock };
 
     ghost view = { λ a. record { sheaves = a.sheaves.items; sheets = a.arena } };
 
-    ghost invariant = { λ a. AreStocked (record { sheaves = a.sheaves.items; sheets = a.arena }) × (length a.sheaves.items < 2 ^ 32) };
+    ghost invariant = { λ a. AreStocked (record { sheaves = a.sheaves.items; sheets = a.arena })
+        × KnowsFree a.sheaves.items a.free.items (vec_capacity a.free) };
 }
 
 impl Sheaves {
@@ -44,7 +47,7 @@ impl Sheaves {
         Sheaves {
             arena: Arena::new(alloc),
             sheaves: Vec::new(alloc),
-            free: u32::MAX,
+            free: Vec::new(alloc),
         }
     }
 
@@ -93,11 +96,12 @@ impl Sheaves {
         ensures changed { IfOk result (λ s. Changed s self.old.sheaves self.new.sheaves) }
         ensures sheaf { IfOk result (λ s. sheet_at self.new.sheaves s ≡ record { count = 1; bytes = [] }) }
         ensures sheets { self.new.sheets ≡ self.old.sheets }
+        ensures places { TakesFreeFirst self.old.sheaves self.new.sheaves }
         ensures err { OnErr result (self.new ≡ self.old) }
     {
         let mut sheaf = Sheaf::new(*self.sheaves.allocator());
         sheaf.reserve(room)?;
-        make_room(&mut self.sheaves)?;
+        make_room(&mut self.sheaves, &mut self.free)?;
         Ok(put_in(&mut self.sheaves, &mut self.free, sheaf))
     }
 
@@ -111,10 +115,11 @@ impl Sheaves {
             ≡ count_at self.old.sheets page + occurs page (bytes_at self.old.sheaves index)) }
         ensures bytes { (page : ℕ) → 0 < count_at self.old.sheets page → bytes_at self.new.sheets page ≡ bytes_at self.old.sheets page }
         ensures used { in_use self.new.sheets ≤ in_use self.old.sheets }
+        ensures places { TakesFreeFirst self.old.sheaves self.new.sheaves }
         ensures err { OnErr result (self.new.sheaves ≡ self.old.sheaves) }
         ensures same { OnErr result ((page : ℕ) → count_at self.new.sheets page ≡ count_at self.old.sheets page) }
     {
-        make_room(&mut self.sheaves)?;
+        make_room(&mut self.sheaves, &mut self.free)?;
         let sheaf = self.sheaves[index as usize].copied(&mut self.arena)?;
         Ok(put_in(&mut self.sheaves, &mut self.free, sheaf))
     }
@@ -147,8 +152,8 @@ impl Sheaves {
             sheaf.set_count(count - 1);
             return;
         }
-        sheaf.free(&mut self.arena, self.free);
-        self.free = index;
+        sheaf.free(&mut self.arena);
+        self.free.push_reserved(index);
     }
 
     /// Makes the page at place `k` of a sheaf ready to be changed, which is the next one where it
@@ -229,33 +234,41 @@ impl Sheaves {
     }
 }
 
-/// Takes the memory for one more sheaf.
-fn make_room(sheaves: &mut Vec<Sheaf>) -> Result<(), NoMemory>
+/// Takes the memory for one more sheaf, and for its place among the free ones.
+fn make_room(sheaves: &mut Vec<Sheaf>, free: &mut Vec<u32>) -> Result<(), NoMemory>
+    requires known { KnowsFree sheaves.old.items free.old.items (vec_capacity free.old) }
     ensures items { sheaves.new.items ≡ sheaves.old.items }
+    ensures known { KnowsFree sheaves.new.items free.new.items (vec_capacity free.new) }
     ensures room { OnOk result (vec_len sheaves.new < vec_capacity sheaves.new) }
+    ensures place { OnOk result (length sheaves.new.items < vec_capacity free.new) }
     ensures few { OnOk result (length sheaves.old.items < 4294967295) }
 {
-    if sheaves.len() >= u32::MAX as usize {
+    let len = sheaves.len();
+    if len >= u32::MAX as usize {
         return Err(NoMemory);
     }
+    free.reserve(len + 1 - free.len())?;
     sheaves.reserve(1)?;
     Ok(())
 }
 
 /// Puts a sheaf at a free place, or at one more, for which there has to be room.
-fn put_in(sheaves: &mut Vec<Sheaf>, free: &mut u32, sheaf: Sheaf) -> u32
+fn put_in(sheaves: &mut Vec<Sheaf>, free: &mut Vec<u32>, sheaf: Sheaf) -> u32
+    requires sheaf { sheaf.count ≡ 1 }
+    requires known { KnowsFree sheaves.old.items free.old.items (vec_capacity free.old) }
     requires room { vec_len sheaves.old < vec_capacity sheaves.old }
+    requires place { length sheaves.old.items < vec_capacity free.old }
     requires few { length sheaves.old.items < 4294967295 }
     ensures free { count_at sheaves.old.items result ≡ 0 }
     ensures changed { Changed result sheaves.old.items sheaves.new.items }
     ensures sheaf { sheet_at sheaves.new.items result ≡ sheaf }
     ensures named { (page : ℕ) → named_in page sheaves.new.items + occurs page (bytes_at sheaves.old.items result)
         ≡ named_in page sheaves.old.items + occurs page sheaf.bytes }
-    ensures few { length sheaves.new.items < 4294967296 }
+    ensures places { TakesFreeFirst sheaves.old.items sheaves.new.items }
+    ensures known { KnowsFree sheaves.new.items free.new.items (vec_capacity free.new) }
 {
-    match first_free(sheaves, *free) {
+    match free.pop() {
         Some(index) => {
-            *free = sheaves[index as usize].next();
             sheaves[index as usize] = sheaf;
             index
         }
@@ -265,18 +278,4 @@ fn put_in(sheaves: &mut Vec<Sheaf>, free: &mut u32, sheaf: Sheaf) -> u32
             index
         }
     }
-}
-
-/// The first of the free sheaves, which `free` leads to, if there is one.
-fn first_free(sheaves: &Vec<Sheaf>, free: u32) -> Option<u32>
-    ensures within { IfSome result (λ s. s < length sheaves.now.items) }
-    ensures free { IfSome result (λ s. count_at sheaves.now.items s ≡ 0) }
-{
-    if free as usize >= sheaves.len() {
-        return None;
-    }
-    if sheaves[free as usize].count() > 0 {
-        return None;
-    }
-    Some(free)
 }

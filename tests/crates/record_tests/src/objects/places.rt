@@ -44,7 +44,7 @@ fn one_free_place_is_taken_again(rt: HostRuntime) -> Result<(), Fail> {
     let mut object = PagedObject::new(alloc);
     fill(alloc, &mut object)?;
     assert!(rt; has_places(&object, 300, 3));
-    for number in 1..200 {
+    for number in 1..=10_000 {
         write(&mut object, &taken(alloc, number)?, number * 7 % 300)?;
         object.trim(&[]);
     }

@@ -1,6 +1,7 @@
 use Rattle.std.proofs.Common.{◌<◌, arith}
 use Rattle.rbd_pages.specs.Sheets.{count_at}
-use Rattle.rbd_pages.proofs.SheetLemmas.{changed_at, used_after, within_items, count_read}
+use Rattle.rbd_pages.proofs.PlacesLemmas.{knows_changed}
+use Rattle.rbd_pages.proofs.SheetLemmas.{changed_at, within_items, count_read}
 use Rattle.rbd_pages.proofs.arena.Arena.hold.Goals as goal
 
 pub invariant_of-self : goal.invariant_of-self
@@ -9,7 +10,7 @@ invariant_of-self c =
     let named : 0 < count_at c.self.inside.pages.items c.args.index = rw c.self.view_is c.requires in
     let read = count_read c.self.inside.pages.items c.args.index _ below c.index_mut.ensures.value in
     let more = c.hold.ensures.named (omega arith) in
-    used_after c.self.inside.pages.items c.args.index c.hold.new.self c.self.inside.used _ c.self.invariant below (omega arith)
+    knows_changed c.self.inside.pages.items c.self.inside.free.items _ c.args.index c.hold.new.self c.self.invariant below named (omega arith)
 
 pub returns-clause-changed : goal.returns-clause-changed
 returns-clause-changed c =

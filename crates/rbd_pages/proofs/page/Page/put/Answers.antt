@@ -7,7 +7,7 @@ use Rattle.rbd_pages.proofs.page.Page.put.Goals as goal
 pub returns-clause-bytes : goal.returns-clause-bytes
 returns-clause-bytes c = λ k.
     let there : 0 < length c.self.inside.bytes.items = search rules in
-    let full = c.self.invariant there in
+    let full = c.self.invariant.0 there in
     let within = c.requires.within in
     put_byte c.self.inside.bytes.items _ c.args.bytes.now c.args.at _ k
     (c.copy_over.ensures ∙ ap (λ old. overwritten old c.args.at c.args.bytes.now) c.as_mut_slice.ensures.value)

@@ -14,7 +14,7 @@ returns-then-is_empty c =
 pub returns : goal.returns
 returns c =
     let some : 0 < length c.self.inside.bytes.items = search rules in
-    let full = c.self.invariant some in
+    let full = c.self.invariant.0 some in
     let within = c.requires in
     c.copy_from_slice.ensures.after
     ∙ ap (λ bytes. take (c.args.at + length c.args.into.now - c.args.at) (drop c.args.at bytes)) c.deref.ensures.value

@@ -1,7 +1,8 @@
-use Rattle.std.proofs.Common.{ap, set, subst, arith}
+use Rattle.std.proofs.Common.{◌<◌, ap, set, subst, arith}
 use Rattle.rbd_pages.specs.Paging.{Prepared}
 use Rattle.rbd_pages.specs.Sheaves.{IsSame, Stock}
 use Rattle.rbd_pages.specs.Sheets.{bytes_at, count_at}
+use Rattle.rbd_pages.proofs.PlacesLemmas.{knows_changed}
 use Rattle.rbd_pages.proofs.SheetLemmas.{changed_at, within_items, count_read}
 use Rattle.rbd_pages.proofs.SheavesLemmas.{counted_read, kept_prepared, moved_read, prepared_set, stocked_set}
 use Rattle.rbd_pages.proofs.sheaves.Sheaves.prepare_page.Goals as goal
@@ -16,12 +17,17 @@ pub invariant_of-self : goal.invariant_of-self
 invariant_of-self c =
     let is = ap (λ (x : Stock). x.sheaves) c.self.view_is in
     let below = within_items c.self.inside.sheaves.items c.args.self.now.sheaves c.args.index is (let alone = c.requires.alone in omega arith) in
-    stocked_set c.self.inside.sheaves.items c.self.inside.arena c.prepare_page.new.arena c.args.index c.prepare_page.new.self c.self.invariant below
-    (moved_read c.self.inside.sheaves.items c.self.inside.arena c.prepare_page.new.arena c.args.index _ c.prepare_page.new.self below
-    c.index_mut.ensures.value c.prepare_page.ensures.prepared.moved)
-    (λ none. absurd (let alone = ap (λ sheaves. count_at sheaves c.args.index) is in let one = c.requires.alone in
-    let count = c.prepare_page.ensures.count in let read = count_read c.self.inside.sheaves.items c.args.index _ below c.index_mut.ensures.value in
-    let f : ⊥ = omega arith in f))
+    let alone = ap (λ sheaves. count_at sheaves c.args.index) is in
+    let one = c.requires.alone in
+    let count = c.prepare_page.ensures.count in
+    let read = count_read c.self.inside.sheaves.items c.args.index _ below c.index_mut.ensures.value in
+    let named : 0 < c.prepare_page.new.self.count = omega arith in (
+      stocked_set c.self.inside.sheaves.items c.self.inside.arena c.prepare_page.new.arena c.args.index c.prepare_page.new.self c.self.invariant.0 below
+          (moved_read c.self.inside.sheaves.items c.self.inside.arena c.prepare_page.new.arena c.args.index _ c.prepare_page.new.self below
+          c.index_mut.ensures.value c.prepare_page.ensures.prepared.moved)
+          (λ none. absurd (let f : ⊥ = omega arith in f)),
+      knows_changed c.self.inside.sheaves.items c.self.inside.free.items _ c.args.index c.prepare_page.new.self c.self.invariant.1 below (omega arith) named,
+    )
 
 pub returns-clause-changed : goal.returns-clause-changed
 returns-clause-changed c =
