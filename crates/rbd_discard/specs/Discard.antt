@@ -32,11 +32,13 @@ is_discard _ = false
 -- each piece at its turn, by ascending object
 abbrev pub zero_pieces : SiteId → (image : ℕ) → HeaderView → List Piece → (next : Plan) → Plan
 zero_pieces site image h [] next = next
-zero_pieces site image h (p ∷ pieces) next = Await (wait.Turn p.object) (zero_piece site image h p (zero_pieces site image h pieces next))
+zero_pieces site image h (p ∷ pieces) next =
+    Await (wait.Turn p.object) (zero_piece site image h p (zero_pieces site image h pieces next))
 
 -- its event is noted, then the pieces become zeros, and then the event counts as applied
 abbrev pub zero : SiteId → Extent → (image : ℕ) → HeaderView → Plan
-zero site e image h = Note site image (event.Discard e.at e.len) (zero_pieces site image h (pieces_of h.layout e) (applied site image))
+zero site e image h =
+    Note site image (event.Discard e.at e.len) (zero_pieces site image h (pieces_of h.layout e) (applied site image))
 
 abbrev pub discard : SiteId → (name : List ℕ) → Extent → Plan
 discard site name e = change site name sharing.Discard (write_refuses e) (zero site e)

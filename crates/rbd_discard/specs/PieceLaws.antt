@@ -28,5 +28,6 @@ pub piece_asks : (t : DiscardTurn) (next : Plan) → AsksByItself (rest_of_piece
 piece_asks t next = asks_at t.piece.stage t.piece next
 
 -- what it may be fed tells it how to go on
-pub piece_tells : (t : DiscardTurn) (next : Plan) (a : Answer) → CanBeFed (rest_of_piece t next) (fed.Answer a) → TellsPiece t a
+pub piece_tells : (t : DiscardTurn) (next : Plan) (a : Answer) → CanBeFed (rest_of_piece t next) (fed.Answer a)
+    → TellsPiece t a
 piece_tells t next a can = zero_tells t.piece.stage t.piece next a can

@@ -7,8 +7,8 @@ ghost use Rattle.rbd_discard.specs.PieceLaws.{piece_asks, piece_tells};
 use crate::pieces::zero_pieces;
 use rbd_change::{ExtentChange, ExtentRequest, Part, Piece};
 use rbd_kinds::{
-    Answer, Command, Event, Extent, HeaderView, ImageAt, ImageId, NoMemory, Op, Refusal, Sharing,
-    SiteId, Want,
+    Answer, Command, Extent, HeaderView, ImageAt, ImageId, NoMemory, Op, Refusal, Sharing, SiteId,
+    Want,
 };
 use rbd_machine::{Progress, Refuses};
 use rbd_request::range_refusal;
@@ -74,13 +74,6 @@ impl ExtentChange for DiscardChange {
     ghost noted = { event_of };
 
     ghost does = { does };
-
-    fn event(&self) -> Result<Event, NoMemory> {
-        Ok(Event::Discard {
-            at: self.extent.at,
-            len: self.extent.len,
-        })
-    }
 
     fn pieces(
         &self,

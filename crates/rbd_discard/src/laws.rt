@@ -32,7 +32,8 @@ pub fn discards_are_bounded()
 /// layout that its look under the lock told, one after another and at no others. They ascend, as
 /// those of a write do.
 pub fn turns_are_those_of_the_pieces()
-    ensures { (site : SiteId) (e : Extent) (image : ℕ) (h : HeaderView) → AreTurns (zero site e image h) (objects_of (pieces_of h.layout e)) }
+    ensures { (site : SiteId) (e : Extent) (image : ℕ) (h : HeaderView)
+        → AreTurns (zero site e image h) (objects_of (pieces_of h.layout e)) }
 {}
 
 /// A discard begins no part again.
@@ -59,6 +60,8 @@ pub fn discards_are_whole()
 /// is told has a parent. A refused discard was refused by its last answer and by none before; what
 /// it had done is the front of a whole one, or looks alone. No other reply comes.
 pub fn replies_are_meant()
-    ensures { (site : SiteId) (image : List ℕ) (at len : ℕ) (feds : List Fed) (steps : List Answered) (reply : Reply) → AreGiven steps → AreParentless steps
-        → IsWalk Goto (discard site image (record { at = at; len = len })) feds steps (Return reply) → DiscardMeans site image at len steps reply }
+    ensures { (site : SiteId) (image : List ℕ) (at len : ℕ) (feds : List Fed) (steps : List Answered) (reply : Reply)
+        → AreGiven steps → AreParentless steps
+        → IsWalk Goto (discard site image (record { at = at; len = len })) feds steps (Return reply)
+        → DiscardMeans site image at len steps reply }
 {}

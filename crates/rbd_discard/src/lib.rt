@@ -10,7 +10,7 @@
 //!                                  // its turn at object 0, data-zero,
 //!                                  // its turn at object 1, map-set 2, data-remove, map-set 0,
 //!                                  // applied
-//!     request.next(alloc)?         // the operation, where it wants one; `event` tells the event
+//!     request.next(alloc)?         // the operation, where it wants one
 //!     request.ready(alloc, &fed)?  // takes the memory that the answer needs
 //!     match request.feed(&fed) {
 //!         Turn::More => continue,
@@ -54,10 +54,11 @@
 //! # Cost
 //!
 //! A request takes a step for each thing that it wants. It asks one to three times for each object
-//! that it touches. The snapshot context is one for all pieces.
+//! that it touches. The snapshot context is one for all pieces, and parts are made of those alone
+//! that don't have all bytes of their object.
 //!
 //! Memory is taken by `next` and `ready`, and these may be refused it without a change.
-//! [`discard_request`], `wants`, `event` and `feed` take none.
+//! [`discard_request`], `wants` and `feed` take none.
 //!
 //! # How it works
 //!

@@ -1,7 +1,7 @@
 //! The pieces of a discard, made before the first becomes zeros.
-ghost use Rattle.std.specs.Prelude.{◌≡◌, None, IfOk};
+ghost use Rattle.std.specs.Prelude.{◌≡◌, ◌+◌, ◌≤◌, None, IfOk};
 ghost use Rattle.rbd_kinds.specs.Form.{IsHeaderInForm};
-ghost use Rattle.rbd_layout.specs.Pieces.{pieces_of};
+ghost use Rattle.rbd_layout.specs.Pieces.{piece_in, pieces_of};
 ghost use Rattle.rbd_header.specs.Header as of_header;
 ghost use Rattle.rbd_machine.specs.Plan.{Plan};
 ghost use Rattle.rbd_meaning.specs.Range.{out_of_range};
@@ -11,7 +11,7 @@ ghost use Rattle.rbd_discard.specs.Discard as of_discard;
 use crate::discard::DiscardTurn;
 use rbd_header::context_of;
 use rbd_kinds::{Extent, HeaderView, ImageAt, NoMemory, SnapContext, TryClone};
-use rbd_layout::{Piece, pieces};
+use rbd_layout::objects_within;
 use rbd_zero::ZeroPiece;
 use std::alloc::Global;
 use std::collections::VecDeque;
@@ -29,29 +29,32 @@ pub fn zero_pieces(
         ≡ of_discard.zero_pieces target.site target.image header.now (pieces_of header.now.layout extent.now) next) }
 {
     let context = context_of(alloc, header)?;
-    let listed = pieces(alloc, &header.layout, extent)?;
+    let touched = objects_within(alloc, &header.layout, extent)?;
     let mut made = VecDeque::new(alloc);
-    for piece in listed {
-        made.push_back(zero_piece(alloc, target, header, &context, piece)?)?;
+    for object in touched {
+        made.push_back(zero_piece(alloc, target, header, &context, extent, object)?)?;
     }
     Ok(made)
 }
 
-/// One piece of the range.
+/// The piece of one object.
 fn zero_piece(
     alloc: Global,
     target: ImageAt,
     header: &HeaderView,
     context: &SnapContext,
-    piece: Piece,
+    extent: &Extent,
+    object: u64,
 ) -> Result<DiscardTurn, NoMemory>
     requires form { IsHeaderInForm header.now }
-    requires head { of_zero.IsOfHead header.now piece.object }
+    requires head { of_zero.IsOfHead header.now object }
+    requires within { extent.now.at + extent.now.len ≤ header.now.size }
     requires context { context.now ≡ of_header.context_of header.now }
-    ensures plan { IfOk result (λ z. (next : Plan) → of_discard.rest_of_piece z next ≡ of_zero.zero_piece target.site target.image header.now piece next) }
-    ensures object { IfOk result (λ z. of_discard.object_of z ≡ piece.object) }
+    ensures plan { IfOk result (λ z. (next : Plan) → of_discard.rest_of_piece z next
+        ≡ of_zero.zero_piece target.site target.image header.now (piece_in header.now.layout extent.now object) next) }
+    ensures object { IfOk result (λ z. of_discard.object_of z ≡ object) }
 {
     let context = context.try_clone()?;
-    let piece = ZeroPiece::under(alloc, target.site, target.image, header, context, piece)?;
+    let piece = ZeroPiece::new(alloc, &target, header, context, extent, object)?;
     Ok(DiscardTurn { piece })
 }

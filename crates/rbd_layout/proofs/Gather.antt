@@ -12,7 +12,7 @@ use Rattle.rbd_kinds.specs.declared.layout.Part.{Part}
 use Rattle.rbd_kinds.specs.declared.layout.Extent.{Extent}
 use Rattle.rbd_kinds.specs.Striping.{IsLayout, IsObjectCount, object_of}
 use Rattle.rbd_layout.specs.declared.types.Piece.{Piece}
-use Rattle.rbd_layout.specs.Pieces.{IsPartsOf, IsPieces, places_in}
+use Rattle.rbd_layout.specs.Pieces.{IsPartsOf, IsPieces, first_object, places_in}
 use Rattle.rbd_layout.proofs.Mixed.{cases_lt}
 use Rattle.rbd_layout.proofs.Places.{set_at_most}
 
@@ -84,7 +84,14 @@ pub record Gathered (l : Layout) (e : Extent) (n : ℕ) (pieces : List Piece) : 
   pub whole : (x : ℕ) → e.at ≤ x → x < e.at + e.len → object_of l x < n → Any (λ p. p.object ≡ object_of l x) pieces
 
 -- no place of the extent lies in an object before those of its first byte's set
-pub gather_begins : (l : Layout) → IsLayout l → (e : Extent) → Gathered l e (object_of l e.at / l.count * l.count) []
+pub first_before : (l : Layout) → IsLayout l → (e : Extent) (x : ℕ) → e.at ≤ x → first_object l e ≤ object_of l x
+first_before l h e x le =
+    let set : object_of l e.at / l.count ≤ object_of l x / l.count = set_at_most l h e.at x le in
+    let up : object_of l e.at / l.count * l.count ≤ object_of l x / l.count * l.count = mul-le-mul_right l.count set in
+    let low : object_of l x / l.count * l.count ≤ object_of l x = div-mul-le_self (object_of l x) l.count in
+    omega arith
+
+pub gather_begins : (l : Layout) → IsLayout l → (e : Extent) → Gathered l e (first_object l e) []
 gather_begins l h e = record {
   parts = λ k d less. absurd (not-suc-le-zero less);
   touched = λ k d less. absurd (not-suc-le-zero less);
@@ -93,12 +100,8 @@ gather_begins l h e = record {
   whole = λ x le _ less. absurd (earlier x le less);
 }
   where
-    earlier : (x : ℕ) → e.at ≤ x → object_of l x < object_of l e.at / l.count * l.count → ⊥
-    earlier x le less =
-        let set : object_of l e.at / l.count ≤ object_of l x / l.count = set_at_most l h e.at x le in
-        let up : object_of l e.at / l.count * l.count ≤ object_of l x / l.count * l.count = mul-le-mul_right l.count set in
-        let low : object_of l x / l.count * l.count ≤ object_of l x = div-mul-le_self (object_of l x) l.count in
-        omega arith
+    earlier : (x : ℕ) → e.at ≤ x → object_of l x < first_object l e → ⊥
+    earlier x le less = omega (arith, first_before l h e x le)
 
 -- an object that the extent doesn't touch
 pub gather_passes : (l : Layout) (e : Extent) (n : ℕ) (pieces : List Piece) → IsPartsOf l e n [] → Gathered l e n pieces → Gathered l e (n + 1) pieces

@@ -1,5 +1,5 @@
 -- Which bytes of an extent lie in which object (Ceph: RBD striping).
-use Rattle.std.specs.Prelude.{◌≡◌, ℕ, ◌+◌, ◌<◌, ◌≤◌, ◌==◌, ◌↔◌, nat_lt, Bool, if◌then◌else◌, List, [], ◌∷◌, length, map, filter, All, AllPairs, Any}
+use Rattle.std.specs.Prelude.{◌≡◌, ℕ, ◌+◌, ◌*◌, ◌/◌, ◌<◌, ◌≤◌, ◌==◌, ◌↔◌, nat_lt, Bool, if◌then◌else◌, List, [], ◌∷◌, length, map, filter, All, AllPairs, Any}
 use Rattle.std.specs.List.{range_with_len, flat_map}
 use Rattle.rbd_kinds.specs.declared.layout.Layout.{Layout}
 use Rattle.rbd_kinds.specs.declared.layout.Extent.{Extent}
@@ -67,10 +67,18 @@ piece_in l e object = record { object = object; parts = parts_at l (places_in l 
 abbrev pub is_touched : Piece → Bool
 is_touched p = nat_lt 0 (length p.parts)
 
+-- the pieces of so many objects, from one on: one for each that the extent touches
+abbrev pub pieces_among : Layout → Extent → (first many : ℕ) → List Piece
+pieces_among l e first many = filter is_touched (map (piece_in l e) (range_with_len first many))
+
 -- One piece for each object that the extent touches. No byte has an object whose number is above
 -- its own.
 abbrev pub pieces_of : Layout → Extent → List Piece
-pieces_of l e = filter is_touched (map (piece_in l e) (range_with_len 0 (e.at + e.len)))
+pieces_of l e = pieces_among l e 0 (e.at + e.len)
+
+-- The first object of the set in which the extent begins: it touches none before that.
+abbrev pub first_object : Layout → Extent → ℕ
+first_object l e = object_of l e.at / l.count * l.count
 
 -- How many bytes of an object lie below an image byte: they are its first ones.
 pub record IsHeld (l : Layout) (object below held : ℕ) : Type 0 where

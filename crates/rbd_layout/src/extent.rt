@@ -1,6 +1,8 @@
 //! What an extent touches, object by object.
-ghost use Rattle.std.specs.Prelude.{◌+◌, ◌^◌, ◌<◌, ◌≤◌, IfOk};
+ghost use Rattle.std.specs.Prelude.{◌≡◌, ◌+◌, ◌^◌, ◌<◌, ◌≤◌, length, map, IfOk};
 ghost use Rattle.rbd_kinds.specs.Striping.{IsLayout};
+ghost use Rattle.rbd_layout.specs.declared.types.Piece as of_piece;
+ghost use Rattle.rbd_layout.specs.Pieces as of_pieces;
 ghost use Rattle.rbd_layout.specs.Pieces.{IsHeld, IsPartsOf, IsPieces};
 
 use crate::count::objects;
@@ -19,8 +21,7 @@ pub fn pieces(alloc: Global, layout: &Layout, extent: &Extent) -> Result<Vec<Pie
     requires end { extent.now.at + extent.now.len ≤ 2 ^ 45 }
     ensures pieces { IfOk result (λ list. IsPieces layout.now extent.now list.items) }
 {
-    let count = u64::from(layout.count);
-    let first = place(layout, extent.at).object / count * count;
+    let first = first_object(layout, extent);
     let end = objects(layout, extent.at + extent.len);
     let mut pieces = Vec::new(alloc);
     for object in first..end {
@@ -30,6 +31,48 @@ pub fn pieces(alloc: Global, layout: &Layout, extent: &Extent) -> Result<Vec<Pie
         }
     }
     Ok(pieces)
+}
+
+/// The numbers of the objects that an extent touches, ascending: those of its [`pieces`], without
+/// their parts.
+///
+/// The answer `NoMemory` comes only where a growth of the list was refused.
+pub fn objects_within(alloc: Global, layout: &Layout, extent: &Extent) -> Result<Vec<u64>, NoMemory>
+    requires layout { IsLayout layout.now }
+    requires end { extent.now.at + extent.now.len ≤ 2 ^ 45 }
+    ensures { IfOk result (λ list. list.items
+        ≡ map (λ (p : of_piece.Piece). p.object) (of_pieces.pieces_of layout.now extent.now)) }
+{
+    let first = first_object(layout, extent);
+    let end = objects(layout, extent.at + extent.len);
+    let mut touched = Vec::new(alloc);
+    for object in first..end {
+        if bytes_in(layout, extent, object) > 0 {
+            touched.push(object)?;
+        }
+    }
+    Ok(touched)
+}
+
+/// The first object of the set in which an extent begins: the extent touches none before it, and
+/// of the set at most 15 that it doesn't touch.
+pub fn first_object(layout: &Layout, extent: &Extent) -> u64
+    requires layout { IsLayout layout.now }
+    requires end { extent.now.at + extent.now.len ≤ 2 ^ 45 }
+    ensures { result ≡ of_pieces.first_object layout.now extent.now }
+{
+    let count = u64::from(layout.count);
+    place(layout, extent.at).object / count * count
+}
+
+/// How many bytes of an extent lie in an object: 0 where it doesn't touch the object. Whether an
+/// extent has all bytes of an object is told by such sums, without the parts.
+pub fn bytes_in(layout: &Layout, extent: &Extent, object: u64) -> u64
+    requires layout { IsLayout layout.now }
+    requires end { extent.now.at + extent.now.len ≤ 2 ^ 45 }
+    ensures { result ≡ length (of_pieces.places_in layout.now extent.now object) }
+{
+    held(layout, object, extent.at + extent.len) - held(layout, object, extent.at)
 }
 
 /// The parts of an extent that lie in one object: those of its piece in [`pieces`], or none where

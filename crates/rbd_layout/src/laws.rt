@@ -1,11 +1,11 @@
 //! What the layers above rely on, each law the contract of a function that does nothing.
-ghost use Rattle.std.specs.Prelude.{◌≡◌, ℕ, ◌+◌, ◌*◌, ◌<◌, ◌≤◌, ◌↔◌, List, AllPairs, Any};
+ghost use Rattle.std.specs.Prelude.{◌≡◌, ℕ, ◌+◌, ◌-◌, ◌*◌, ◌<◌, ◌≤◌, ◌↔◌, nat_lt, List, length, AllPairs, Any};
 ghost use Rattle.rbd_kinds.specs.declared.layout.Layout.{Layout};
 ghost use Rattle.rbd_kinds.specs.declared.layout.Extent.{Extent};
 ghost use Rattle.rbd_kinds.specs.declared.layout.Part.{Part};
 ghost use Rattle.rbd_kinds.specs.Striping.{IsLayout, IsObjectCount, object_of, offset_of, byte_at};
 ghost use Rattle.rbd_layout.specs.declared.types.Piece.{Piece};
-ghost use Rattle.rbd_layout.specs.Pieces.{IsIn, IsInPiece, IsPartsOf, IsPieces, IsWithin, parts_at, pieces_of, places_in};
+ghost use Rattle.rbd_layout.specs.Pieces.{IsIn, IsInPiece, IsPartsOf, IsPieces, IsWithin, first_object, is_touched, parts_at, piece_in, pieces_among, pieces_of, places_in};
 
 /// A byte's object and offset determine it, and lie within their bounds.
 pub fn place_of_a_byte()
@@ -83,4 +83,17 @@ pub fn pieces_are_listed()
     ensures pieces { (l : Layout) → IsLayout l → (e : Extent) (pieces : List Piece) → IsPieces l e pieces
         → pieces ≡ pieces_of l e }
     ensures are { (l : Layout) → IsLayout l → (e : Extent) → IsPieces l e (pieces_of l e) }
+{}
+
+/// The objects that an extent touches lie between the first of the set in which it begins and the
+/// number of objects of its end. It touches those of which it has bytes, and an extent within a
+/// size that has as many bytes of an object as the size has them all.
+pub fn objects_are_told_by_sums()
+    ensures between { (l : Layout) → IsLayout l → (e : Extent) (end : ℕ) → IsObjectCount l (e.at + e.len) end
+        → pieces_of l e ≡ pieces_among l e (first_object l e) (end - first_object l e) }
+    ensures touched { (l : Layout) → IsLayout l → (e : Extent) (object : ℕ)
+        → is_touched (piece_in l e object) ≡ nat_lt 0 (length (places_in l e object)) }
+    ensures all { (l : Layout) (e : Extent) (size object : ℕ) → e.at + e.len ≤ size
+        → length (places_in l e object) ≡ length (places_in l (record { at = 0; len = size }) object)
+        → places_in l e object ≡ places_in l (record { at = 0; len = size }) object }
 {}

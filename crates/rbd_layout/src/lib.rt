@@ -15,16 +15,18 @@
 //! [`check`] says whether a layout keeps the limits. For such a layout [`place`] says in which
 //! object an image byte lies and at which offset, [`back`] which image byte lies at a place,
 //! [`objects`] how many objects an image of a size has, [`pieces`] which parts of which objects an
-//! extent touches, and [`parts_in`] which parts of one object. [`layout_of`] is the layout of an
-//! image that is made new with a shape, [`clone_layout_of`] that of a clone, and [`keeps_limits`]
-//! says whether an image with a layout and a size may be made.
+//! extent touches, [`objects_within`] which objects alone, and of one object [`parts_in`] which
+//! parts and [`bytes_in`] how many bytes. [`layout_of`] is the layout of an image that is made new
+//! with a shape, [`clone_layout_of`] that of a clone, and [`keeps_limits`] says whether an image
+//! with a layout and a size may be made.
 //!
 //! # Cost
 //!
-//! All but [`pieces`] and [`parts_in`] is a handful of divisions, and takes no memory. These two
-//! take a step for each part that they return, and [`pieces`] one for each object of the first and
-//! the last set that the extent doesn't touch, at most 15 in each. Neither the object's size nor
-//! the image's counts. They take no memory but for what they return.
+//! All but [`pieces`], [`objects_within`] and [`parts_in`] is a handful of divisions, and takes no
+//! memory. [`pieces`] and [`parts_in`] take a step for each part that they return,
+//! [`objects_within`] one for each object, and [`pieces`] and [`objects_within`] one for each object
+//! of the first and the last set that the extent doesn't touch, at most 15 in each. Neither the
+//! object's size nor the image's counts. They take no memory but for what they return.
 //!
 //! # How it works
 //!
@@ -38,7 +40,8 @@
 //! on: places and bytes are inverse ([`place_of_a_byte`], [`byte_at_a_place`]), which bytes an
 //! object has ([`bytes_ascend`], [`bytes_of_an_object`], [`first_byte_decides`]), and that the
 //! pieces of an extent are its bytes, each once, and are one list ([`parts_are_the_bytes`],
-//! [`pieces_are_the_bytes`]), which a definition computes ([`pieces_are_listed`]).
+//! [`pieces_are_the_bytes`]), which a definition computes ([`pieces_are_listed`]) and of which the
+//! objects are known by sums alone ([`objects_are_told_by_sums`]).
 #![tactic(auto)]
 
 mod asked;
@@ -51,10 +54,11 @@ mod types;
 
 pub use asked::{clone_layout_of, keeps_limits, layout_of};
 pub use count::objects;
-pub use extent::{parts_in, pieces};
+pub use extent::{bytes_in, first_object, objects_within, parts_in, pieces};
 pub use laws::{
-    byte_at_a_place, bytes_ascend, bytes_of_an_object, first_byte_decides, objects_grow,
-    parts_are_the_bytes, pieces_are_listed, pieces_are_the_bytes, place_of_a_byte,
+    byte_at_a_place, bytes_ascend, bytes_of_an_object, first_byte_decides,
+    objects_are_told_by_sums, objects_grow, parts_are_the_bytes, pieces_are_listed,
+    pieces_are_the_bytes, place_of_a_byte,
 };
 pub use shape::{BadShape, check};
 pub use striping::{back, place};

@@ -128,7 +128,7 @@ module _ {R : Type 0} (stands : R → Standing) (s new : SessionView R) (sound :
 abbrev KeepsMay : (slot : ℕ) → (List Member → List Member) → Type 0
 KeepsMay slot change = (members : List Member) → may_pass slot members ≡ true → may_pass slot (change members) ≡ true
 
-abbrev may_at : (slot : ℕ) → Lines → SiteId → (image : ℕ) → Bool
+abbrev pub may_at : (slot : ℕ) → Lines → SiteId → (image : ℕ) → Bool
 may_at slot lines site image = may_pass slot (lines site image)
 
 may_still : (slot : ℕ) (place : Option ImageAt) (change : List Member → List Member) (lines : Lines) → KeepsMay slot change
@@ -180,7 +180,7 @@ module _ (slot other : ℕ) (differ : other ≢ slot) where
   fed_may e t (Return reply) f site image may = may
   fed_may e t (Goto label) f site image may = may
 
-  ended_may : (t : Track) (site : SiteId) (image : ℕ) → may_at slot t.lines site image ≡ true → may_at slot (ended_by other t).lines site image ≡ true
+  pub ended_may : (t : Track) (site : SiteId) (image : ℕ) → may_at slot t.lines site image ≡ true → may_at slot (ended_by other t).lines site image ≡ true
   ended_may t site image may = may_still slot t.place (without other) t.lines left_may site image may
 
   module _ {R : Type 0} (stands : R → Standing) (site : SiteId) (image : ℕ) where
@@ -206,17 +206,19 @@ module _ (slot other : ℕ) (differ : other ≢ slot) where
         comes_may (stands r.request).labels (at_operation (stands r.request).labels (plan_after plan f)) (run other (plan_after plan f) (fed_by other r.extent t plan f)) reply r q after comes
         (run_may (plan_after plan f) (fed_by other r.extent t plan f) site image (fed_may r.extent t plan f site image may))
 
+    -- whatever it is fed
+    pub feeding_may : (lines after : LinesView) (f : Fed) (reply : Option Reply) (r : Running R) (o : Option (Occupant R)) → ComesToIn stands other lines f reply r o after
+        → may_at slot (lines_of lines) site image ≡ true → may_at slot (lines_of after) site image ≡ true
+    feeding_may lines after f reply r (Some (occupant.Running q)) comes may = its_way_may f reply r q lines after comes.1 may
+    feeding_may lines after f reply r None comes may = its_way_may f reply r r lines after comes.1 may
+    feeding_may lines after f reply r (Some (occupant.Refused line refusal)) comes may = elim comes [ ]
+
     may_behind_feeding : (s new : SessionView R) (f : Fed) (reply : Option Reply) → IsFed stands other f reply s new → may_at slot (lines_of s.lines) site image ≡ true
         → may_at slot (lines_of new.lines) site image ≡ true
     may_behind_feeding s new f reply fed may = by (held_in other s.slots) fed
       where
-        to : (r : Running R) (o : Option (Occupant R)) → ComesToIn stands other s.lines f reply r o new.lines → may_at slot (lines_of new.lines) site image ≡ true
-        to r (Some (occupant.Running q)) comes = its_way_may f reply r q s.lines new.lines comes.1 may
-        to r None comes = its_way_may f reply r r s.lines new.lines comes.1 may
-        to r (Some (occupant.Refused line refusal)) comes = elim comes [ ]
-
         by : (o : Option (Occupant R)) → OfRunning (λ r. ComesToIn stands other s.lines f reply r (held_in other new.slots) new.lines) o → may_at slot (lines_of new.lines) site image ≡ true
-        by (Some (occupant.Running r)) comes = to r (held_in other new.slots) comes
+        by (Some (occupant.Running r)) comes = feeding_may s.lines new.lines f reply r (held_in other new.slots) comes may
         by (Some (occupant.Refused line refusal)) comes = elim comes [ ]
         by None comes = elim comes [ ]
 

@@ -7,19 +7,7 @@ ghost use Rattle.rbd_layout.specs.Pieces.{pieces_of};
 ghost use Rattle.rbd_session.specs.Advance.{image_looked_at};
 
 use rbd_kinds::{Extent, HeaderOp, HeaderView, ImageId, NoMemory, Op, Sequence};
-use rbd_layout::{Piece, pieces};
 use std::alloc::Global;
-
-/// The objects of pieces, in their order.
-fn objects_of(alloc: Global, pieces: &[Piece]) -> Result<Sequence<u64>, NoMemory>
-    ensures { IfOk result (λ objects. objects ≡ objects_of_pieces pieces.now) }
-{
-    let mut objects = Vec::with_capacity(alloc, pieces.len())?;
-    for piece in pieces {
-        objects.push(piece.object)?;
-    }
-    Ok(Sequence::from_vec(objects))
-}
 
 /// The objects of an extent that ends within the size.
 fn objects_within(
@@ -31,8 +19,8 @@ fn objects_within(
     requires fits { fits extent.now header.now.size ≡ true }
     ensures { IfOk result (λ objects. objects ≡ objects_of_pieces (pieces_of header.now.layout extent.now)) }
 {
-    let listed = pieces(alloc, &header.layout, extent)?;
-    objects_of(alloc, listed.as_slice())
+    let touched = rbd_layout::objects_within(alloc, &header.layout, extent)?;
+    Ok(Sequence::from_vec(touched))
 }
 
 /// The objects that a request changes beside others, by a header: none where its extent doesn't end

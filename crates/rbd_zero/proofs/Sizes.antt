@@ -1,19 +1,23 @@
 -- The pieces that a new size zeros.
-use Rattle.std.proofs.Common.{◌≡◌, ℕ, suc, ◌+◌, ◌≤◌, ◌<◌, true, false, cond, List, [], ◌∷◌, ◌++◌, All, length, get_or, Option, Some, None, refl, ap, ◌∙◌, sym, subst, arith}
+use Rattle.std.proofs.Common.{◌≡◌, ℕ, suc, ◌+◌, ◌-◌, ◌≤◌, ◌<◌, ◌&&◌, Bool, true, false, cond, List, [], ◌∷◌, ◌++◌, All, length, get_or, refl, ap, ◌∙◌, sym, subst, arith}
 use Rattle.std.specs.Prelude.{filter}
 use Rattle.std.proofs.lemmas.Bool.{le-leb, lt-leb}
+use Rattle.std.proofs.lemmas.List.Elements.{All-map}
 use Rattle.rbd_kinds.specs.declared.header.HeaderView.{HeaderView}
 use Rattle.rbd_kinds.specs.declared.id.SiteId.{SiteId}
 use Rattle.rbd_kinds.specs.declared.layout.Extent.{Extent}
 use Rattle.rbd_kinds.specs.declared.layout.Part.{Part}
-use Rattle.rbd_kinds.specs.Striping.{IsLayout, byte_at, object_of}
+use Rattle.rbd_kinds.specs.Form.{IsHeaderInForm}
+use Rattle.rbd_kinds.specs.Striping.{IsLayout, IsObjectCount, byte_at, object_of}
 use Rattle.rbd_layout.specs.declared.types.Piece.{Piece}
-use Rattle.rbd_layout.specs.Pieces.{IsPart, IsPieces}
+use Rattle.rbd_layout.specs.Pieces.{IsPart, IsPieces, is_touched, piece_in, pieces_among, pieces_of}
+use Rattle.rbd_layout.proofs.Derived.{counted_begin}
+use Rattle.rbd_layout.proofs.Listed.{next_object, no_object_left, numbers, pieces_listed}
 use Rattle.rbd_layout.proofs.Places.{first_below}
 use Rattle.rbd_layout.proofs.Within.{lies_in}
 use Rattle.rbd_machine.specs.Plan.{Plan}
 use Rattle.rbd_zero.specs.Shrink.{has_bytes}
-use Rattle.rbd_zero.specs.Size.{growing, resize, resize_by, rest_of_some, rest_of_zeros, shrinking, zero_pieces}
+use Rattle.rbd_zero.specs.Size.{growing, resize, resize_by, rest_of_zeros, shrinking, zero_pieces}
 use Rattle.rbd_zero.specs.Zero as zeros
 use Rattle.rbd_zero.specs.declared.zero_piece.ZeroPiece.{ZeroPiece}
 
@@ -37,34 +41,71 @@ pieces_of_head h e pieces is within are = λ k d below.
         let there : byte_at h.layout p.object 0 ≤ first.at + 0 = subst (λ number. byte_at h.layout number 0 ≤ first.at + 0) object least in
         omega arith
 
-pub first_of_head : (h : HeaderView) (p : Piece) (pieces : List Piece) → All (λ (q : Piece). zeros.IsOfHead h q.object) (p ∷ pieces) → zeros.IsOfHead h p.object
-first_of_head h p pieces each = each 0 p (omega arith)
+pub counted_of_head : (h : HeaderView) (count object : ℕ) → IsHeaderInForm h → IsObjectCount h.layout h.size count → object < count → zeros.IsOfHead h object
+counted_of_head h count object form is less = (counted_begin h.layout form.layout h.size count object is).0 less
 
-pub rest_of_head : (h : HeaderView) (p : Piece) (pieces : List Piece) → All (λ (q : Piece). zeros.IsOfHead h q.object) (p ∷ pieces) → All (λ (q : Piece). zeros.IsOfHead h q.object) pieces
-rest_of_head h p pieces each = λ k d below. each (suc k) d (omega arith)
+pub objects_of_head : (h : HeaderView) (e : Extent) → IsLayout h.layout → e.at + e.len ≤ h.size → All (zeros.IsOfHead h) (numbers (pieces_of h.layout e))
+objects_of_head h e is within =
+    All-map (zeros.IsOfHead h) (λ (p : Piece). p.object) (pieces_of h.layout e)
+    (λ k d below. pieces_of_head h e (pieces_of h.layout e) is within (pieces_listed h.layout is e) k d below)
+
+pub first_number : (h : HeaderView) (object : ℕ) (objects : List ℕ) → All (zeros.IsOfHead h) (object ∷ objects) → zeros.IsOfHead h object
+first_number h object objects each = each 0 object (omega arith)
+
+pub rest_of_numbers : (h : HeaderView) (object : ℕ) (objects : List ℕ) → All (zeros.IsOfHead h) (object ∷ objects) → All (zeros.IsOfHead h) objects
+rest_of_numbers h object objects each = λ k d below. each (suc k) d (omega arith)
 
 pub rest_of_more : (made : List ZeroPiece) (z : ZeroPiece) (next : Plan) → rest_of_zeros (made ++ z ∷ []) next ≡ rest_of_zeros made (zeros.rest_of_zero z next)
 rest_of_more [] z next = refl
 rest_of_more (y ∷ made) z next = ap (zeros.rest_of_zero y) (rest_of_more made z next)
 
-pub none_is_left : (some : Option ZeroPiece) (next : Plan) → ((z : ZeroPiece) → some ≡ Some z → ⊥) → next ≡ rest_of_some some next
-none_is_left None next none = refl
-none_is_left (Some z) next none = absurd (none z refl)
+module _ (site : SiteId) (image : ℕ) (h : HeaderView) (bits : List ℕ) (e : Extent) where
+  -- the pieces that are left to make, from an object on
+  abbrev pub left : (object end : ℕ) → List Piece
+  left object end = filter (has_bytes h bits) (pieces_among h.layout e object (end - object))
 
-module _ (site : SiteId) (image : ℕ) (h : HeaderView) (bits : List ℕ) where
-  pub passed_over : (made : List ZeroPiece) (p : Piece) (pieces : List Piece) (next : Plan) → has_bytes h bits p ≡ false
-      → rest_of_zeros made (zero_pieces site image h (filter (has_bytes h bits) pieces) next) ≡ rest_of_zeros made (zero_pieces site image h (filter (has_bytes h bits) (p ∷ pieces)) next)
-  passed_over made p pieces next none =
-      ap (λ b. rest_of_zeros made (zero_pieces site image h (cond b (p ∷ filter (has_bytes h bits) pieces) (filter (has_bytes h bits) pieces)) next)) (sym none)
+  abbrev pub is_next : (object : ℕ) → Bool
+  is_next object = has_bytes h bits (piece_in h.layout e object) && is_touched (piece_in h.layout e object)
 
-  pub added : (made : List ZeroPiece) (z : ZeroPiece) (p : Piece) (pieces : List Piece) (next : Plan) → has_bytes h bits p ≡ true
-      → ((rest : Plan) → zeros.rest_of_zero z rest ≡ zeros.zero_piece site image h p rest)
-      → rest_of_zeros (made ++ z ∷ []) (zero_pieces site image h (filter (has_bytes h bits) pieces) next) ≡ rest_of_zeros made (zero_pieces site image h (filter (has_bytes h bits) (p ∷ pieces)) next)
-  added made z p pieces next some is =
-      rest_of_more made z (zero_pieces site image h (filter (has_bytes h bits) pieces) next)
-      ∙ ap (rest_of_zeros made)
-      (is (zero_pieces site image h (filter (has_bytes h bits) pieces) next)
-      ∙ ap (λ b. zero_pieces site image h (cond b (p ∷ filter (has_bytes h bits) pieces) (filter (has_bytes h bits) pieces)) next) (sym some))
+  next_left : (object end : ℕ) → object < end → left object end ≡ cond (is_next object) (piece_in h.layout e object ∷ left (object + 1) end) (left (object + 1) end)
+  next_left object end less =
+      ap (filter (has_bytes h bits)) (next_object h.layout e object end less)
+      ∙ push (is_touched p)
+      ∙ both (is_touched p) (has_bytes h bits p)
+    where
+      p : Piece
+      p = piece_in h.layout e object
+
+      behind : List Piece
+      behind = pieces_among h.layout e (object + 1) (end - (object + 1))
+
+      push : (t : Bool) → filter (has_bytes h bits) (cond t (p ∷ behind) behind) ≡ cond t (filter (has_bytes h bits) (p ∷ behind)) (filter (has_bytes h bits) behind)
+      push true = refl
+      push false = refl
+
+      both : (t b : Bool) → cond t (cond b (p ∷ left (object + 1) end) (left (object + 1) end)) (left (object + 1) end) ≡ cond (b && t) (p ∷ left (object + 1) end) (left (object + 1) end)
+      both true true = refl
+      both true false = refl
+      both false true = refl
+      both false false = refl
+
+  pub passed_over : (made : List ZeroPiece) (object end : ℕ) (next : Plan) → object < end → is_next object ≡ false
+      → rest_of_zeros made (zero_pieces site image h (left (object + 1) end) next) ≡ rest_of_zeros made (zero_pieces site image h (left object end) next)
+  passed_over made object end next less none =
+      ap (λ pieces. rest_of_zeros made (zero_pieces site image h pieces next))
+      (sym (next_left object end less ∙ ap (λ b. cond b (piece_in h.layout e object ∷ left (object + 1) end) (left (object + 1) end)) none))
+
+  pub added : (made : List ZeroPiece) (z : ZeroPiece) (object end : ℕ) (next : Plan) → object < end → is_next object ≡ true
+      → ((rest : Plan) → zeros.rest_of_zero z rest ≡ zeros.zero_piece site image h (piece_in h.layout e object) rest)
+      → rest_of_zeros (made ++ z ∷ []) (zero_pieces site image h (left (object + 1) end) next) ≡ rest_of_zeros made (zero_pieces site image h (left object end) next)
+  added made z object end next less some is =
+      rest_of_more made z (zero_pieces site image h (left (object + 1) end) next)
+      ∙ ap (rest_of_zeros made) (is (zero_pieces site image h (left (object + 1) end) next))
+      ∙ ap (λ pieces. rest_of_zeros made (zero_pieces site image h pieces next))
+      (sym (next_left object end less ∙ ap (λ b. cond b (piece_in h.layout e object ∷ left (object + 1) end) (left (object + 1) end)) some))
+
+  pub none_left : (object end : ℕ) → end ≤ object → left object end ≡ []
+  none_left object end done = ap (filter (has_bytes h bits)) (no_object_left h.layout e object end done)
 
 -- ---- which way it goes
 

@@ -77,7 +77,8 @@ rest_of_full f next = rest_from f.way next
 abbrev pub replaced_by : SiteId → (image : ℕ) → HeaderView → Piece → (left : List ℕ) → List Answered
 replaced_by site image h piece [] = all_zeroed site image (context_of h) piece (is_inside h piece.object)
 replaced_by site image h piece (byte ∷ left) =
-    done site (map_set image piece.object 1) ∷ done site (data_write_full image (context_of h) piece.object (byte ∷ left)) ∷ []
+    done site (map_set image piece.object 1)
+    ∷ done site (data_write_full image (context_of h) piece.object (byte ∷ left)) ∷ []
 
 abbrev pub replaced : SiteId → (image : ℕ) → HeaderView → Piece → (bytes : List ℕ) → List Answered
 replaced site image h piece bytes = replaced_by site image h piece (cut_bytes bytes)

@@ -14,7 +14,8 @@ known_behind k (a ∷ steps) = known_behind (learned k a.site a.op a.answer) ste
 
 -- It owns the image by this header.
 abbrev pub IsOwn : Knowledge → SiteId → (image : ℕ) → (alone : Bool) → HeaderView → Type 0
-IsOwn k site image alone h = own_of k.owns site image ≡ Some (record { site = site; image = image; alone = alone; header = Some h })
+IsOwn k site image alone h =
+    own_of k.owns site image ≡ Some (record { site = site; image = image; alone = alone; header = Some h })
 
 -- It owns the image by this header, alone, or at its turn at the object.
 pub record OwnsObject (k : Knowledge) (site : SiteId) (image : ℕ) (h : HeaderView) (number : ℕ) : Type 0 where

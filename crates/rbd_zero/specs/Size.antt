@@ -1,5 +1,5 @@
 -- The size of the head is set.
-use Rattle.std.specs.Prelude.{◌≡◌, ℕ, nat_le, Bool, true, false, List, [], ◌∷◌, ◌++◌, Option, Some, None}
+use Rattle.std.specs.Prelude.{◌≡◌, ℕ, nat_le, Bool, true, false, List, [], ◌∷◌, ◌++◌}
 use Rattle.rbd_kinds.specs.declared.answer.Answer.{Answer}
 use Rattle.rbd_kinds.specs.declared.answer.Answer.TheVariants as answer
 use Rattle.rbd_kinds.specs.declared.header.HeaderView.{HeaderView}
@@ -52,15 +52,11 @@ abbrev pub rest_of_zeros : List ZeroPiece → (next : Plan) → Plan
 rest_of_zeros [] next = next
 rest_of_zeros (z ∷ pieces) next = rest_of_zero z (rest_of_zeros pieces next)
 
--- a piece, where there is one
-abbrev pub rest_of_some : Option ZeroPiece → (next : Plan) → Plan
-rest_of_some None next = next
-rest_of_some (Some z) next = rest_of_zero z next
-
 abbrev pub rest_from : Stage → Size → (next : Plan) → Plan
 rest_from (stage.Growing objects to) s next = growing s.site s.image to objects next
 rest_from (stage.Looking shrink) s next = shrinking s.site s.image shrink.header shrink.to next
-rest_from (stage.Zeroing piece to) s next = rest_of_zero piece (rest_of_zeros s.pieces.items (sizing s.site s.image to next))
+rest_from (stage.Zeroing piece to) s next =
+    rest_of_zero piece (rest_of_zeros s.pieces.items (sizing s.site s.image to next))
 rest_from (stage.Sizing to) s next = sizing s.site s.image to next
 
 -- what is left of one
@@ -76,7 +72,8 @@ Tells _ = TellsDone
 
 abbrev pub IsReadyAt : Stage → Size → Answer → Type 0
 IsReadyAt (stage.Looking shrink) s (answer.Bits bits) = (next : Plan)
-    → rest_of_zeros s.pieces.items next ≡ zero_pieces s.site s.image shrink.header (pieces_from shrink.header shrink.to bits) next
+    → rest_of_zeros s.pieces.items next
+    ≡ zero_pieces s.site s.image shrink.header (pieces_from shrink.header shrink.to bits) next
 IsReadyAt _ s _ = Unit {0}
 
 abbrev pub IsReady : Size → Answer → Type 0
@@ -96,7 +93,8 @@ grown site image to objects = done site (map_resize image objects) ∷ done site
 
 abbrev pub shrunk : SiteId → (image : ℕ) → HeaderView → (to : ℕ) → (bits : List ℕ) → List Answered
 shrunk site image h to bits =
-    states_told site image bits ∷ (pieces_zeroed site image h (pieces_from h to bits) ++ done site (header_set_size image to) ∷ [])
+    states_told site image bits
+    ∷ (pieces_zeroed site image h (pieces_from h to bits) ++ done site (header_set_size image to) ∷ [])
 
 -- by some states that the head's map told
 pub record IsShrunk (site : SiteId) (image : ℕ) (h : HeaderView) (to : ℕ) (steps : List Answered) : Type 0 where

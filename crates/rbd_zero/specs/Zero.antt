@@ -78,7 +78,8 @@ module _ (site : SiteId) (image : ℕ) (context : SnapContext) (piece : Piece) w
 
 -- by a header, under its snapshot context
 abbrev pub zero_piece : SiteId → (image : ℕ) → HeaderView → Piece → (next : Plan) → Plan
-zero_piece site image h piece next = zero_by site image (context_of h) piece (is_whole h piece) (is_inside h piece.object) next
+zero_piece site image h piece next =
+    zero_by site image (context_of h) piece (is_whole h piece) (is_inside h piece.object) next
 
 -- ---- where it stands
 
@@ -89,7 +90,8 @@ rest_from stage.ZeroingThere z next = zeroing z.site z.image z.context z.piece t
 rest_from stage.RaisingToEmpty z next = zero_all z.site z.image z.context z.piece true next
 rest_from stage.Emptying z next = emptying z.site z.image z.context z.piece next
 rest_from stage.Marking z next = zero_all z.site z.image z.context z.piece false next
-rest_from stage.Removing z next = removing z.site z.image z.context z.piece (setting z.site z.image z.context z.piece 0 next)
+rest_from stage.Removing z next =
+    removing z.site z.image z.context z.piece (setting z.site z.image z.context z.piece 0 next)
 rest_from stage.Lowering z next = setting z.site z.image z.context z.piece 0 next
 
 -- what is left of one

@@ -1,10 +1,9 @@
 //! One piece that replaces its object.
 ghost use Rattle.std.specs.Prelude.{◌≡◌, true, IfOk};
-ghost use Rattle.rbd_kinds.specs.declared.machine.Fed.TheVariants as fed_with;
 ghost use Rattle.rbd_kinds.specs.Form.{IsHeaderInForm};
 ghost use Rattle.rbd_header.specs.Header as of_header;
-ghost use Rattle.rbd_machine.specs.Plan.{Plan, Wants, Asks, plan_after};
-ghost use Rattle.rbd_machine.specs.Steps.{Progresses, TellsDone};
+ghost use Rattle.rbd_machine.specs.Plan.{Plan, Wants, Asks};
+ghost use Rattle.rbd_machine.specs.Steps.{ProgressesBy, TellsDone};
 ghost use Rattle.rbd_zero.specs.Full as of_full;
 ghost use Rattle.rbd_zero.specs.Full.{rest_of_full};
 ghost use Rattle.rbd_zero.specs.Zero as of_zero;
@@ -61,7 +60,8 @@ impl FullPiece {
         requires form { IsHeaderInForm header.now }
         requires head { of_zero.IsOfHead header.now piece.object }
         requires whole { of_zero.is_whole header.now piece ≡ true }
-        ensures { IfOk result (λ f. (next : Plan) → rest_of_full f next ≡ of_full.full_piece site image header.now piece bytes.now next) }
+        ensures { IfOk result (λ f. (next : Plan)
+            → rest_of_full f next ≡ of_full.full_piece site image header.now piece bytes.now next) }
     {
         let context = context_of(alloc, header)?;
         FullPiece::under(site, image, header, context, piece, bytes)
@@ -80,7 +80,8 @@ impl FullPiece {
         requires head { of_zero.IsOfHead header.now piece.object }
         requires whole { of_zero.is_whole header.now piece ≡ true }
         requires context { context ≡ of_header.context_of header.now }
-        ensures { IfOk result (λ f. (next : Plan) → rest_of_full f next ≡ of_full.full_piece site image header.now piece bytes.now next) }
+        ensures { IfOk result (λ f. (next : Plan)
+            → rest_of_full f next ≡ of_full.full_piece site image header.now piece bytes.now next) }
     {
         let left = cut(bytes)?;
         if left.is_empty() {
@@ -119,7 +120,7 @@ impl FullPiece {
     /// Goes on with an answer. It takes no memory.
     pub fn feed(&mut self, answer: &Answer) -> Progress<()>
         requires { TellsDone answer.now }
-        ensures { (next : Plan) → Progresses next (plan_after (rest_of_full self.old next) (fed_with.Answer answer.now)) result (rest_of_full self.new next) }
+        ensures { ProgressesBy rest_of_full answer.now result self.old self.new }
     {
         match &mut self.way {
             Way::Replacing(replace) => replace.feed(answer),

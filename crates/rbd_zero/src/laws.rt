@@ -33,14 +33,16 @@ pub fn parts_are_bounded()
     ensures grow { (site : SiteId) (image : ℕ) (h : HeaderView) (to objects : ℕ) (next : Plan) (n : ℕ)
         → h.size ≤ to → IsBounded next n → IsBounded (resize site image h to objects next) (n + 2) }
     ensures shrink { (site : SiteId) (image : ℕ) (h : HeaderView) (to objects : ℕ) (next : Plan) (n : ℕ)
-        → to < h.size → IsBounded next n → IsBounded (resize site image h to objects next) (n + 2 + 3 * length (pieces_of h.layout (head_from h to))) }
+        → to < h.size → IsBounded next n
+        → IsBounded (resize site image h to objects next) (n + 2 + 3 * length (pieces_of h.layout (head_from h to))) }
 {}
 
 /// None begins a part again, unless what comes next does.
 pub fn parts_go_to_no_label()
     ensures zero { (labels : Label → Plan) (site : SiteId) (image : ℕ) (h : HeaderView) (piece : Piece) (next : Plan)
         → IsClosed labels next → IsClosed labels (zero_piece site image h piece next) }
-    ensures full { (labels : Label → Plan) (site : SiteId) (image : ℕ) (h : HeaderView) (piece : Piece) (bytes : List ℕ) (next : Plan)
+    ensures full { (labels : Label → Plan) (site : SiteId) (image : ℕ) (h : HeaderView) (piece : Piece)
+        (bytes : List ℕ) (next : Plan)
         → IsClosed labels next → IsClosed labels (full_piece site image h piece bytes next) }
     ensures size { (labels : Label → Plan) (site : SiteId) (image : ℕ) (h : HeaderView) (to objects : ℕ) (next : Plan)
         → IsClosed labels next → IsClosed labels (resize site image h to objects next) }
@@ -49,12 +51,18 @@ pub fn parts_go_to_no_label()
 /// What has been done where a part ends well: exactly these operations, in this order, each
 /// answered done, or told the states of the head's map.
 pub fn parts_are_done()
-    ensures zero { (site : SiteId) (image : ℕ) (h : HeaderView) (piece : Piece) (feds : List Fed) (steps : List Answered)
-        → IsWalk Goto (zero_piece site image h piece (Return Done)) feds steps (Return Done) → steps ≡ zeroed site image h piece }
-    ensures full { (site : SiteId) (image : ℕ) (h : HeaderView) (piece : Piece) (bytes : List ℕ) (feds : List Fed) (steps : List Answered)
-        → IsWalk Goto (full_piece site image h piece bytes (Return Done)) feds steps (Return Done) → steps ≡ replaced site image h piece bytes }
-    ensures size { (site : SiteId) (image : ℕ) (h : HeaderView) (to objects : ℕ) (feds : List Fed) (steps : List Answered)
-        → IsWalk Goto (resize site image h to objects (Return Done)) feds steps (Return Done) → IsResized site image h to objects steps }
+    ensures zero { (site : SiteId) (image : ℕ) (h : HeaderView) (piece : Piece) (feds : List Fed)
+        (steps : List Answered)
+        → IsWalk Goto (zero_piece site image h piece (Return Done)) feds steps (Return Done)
+        → steps ≡ zeroed site image h piece }
+    ensures full { (site : SiteId) (image : ℕ) (h : HeaderView) (piece : Piece) (bytes : List ℕ) (feds : List Fed)
+        (steps : List Answered)
+        → IsWalk Goto (full_piece site image h piece bytes (Return Done)) feds steps (Return Done)
+        → steps ≡ replaced site image h piece bytes }
+    ensures size { (site : SiteId) (image : ℕ) (h : HeaderView) (to objects : ℕ) (feds : List Fed)
+        (steps : List Answered)
+        → IsWalk Goto (resize site image h to objects (Return Done)) feds steps (Return Done)
+        → IsResized site image h to objects steps }
 {}
 
 /// The pieces of an extent that ends within the size are pieces of the head.
@@ -76,15 +84,19 @@ pub fn words_are_meant()
 /// the turn at its object. Bytes that replace are no more than the piece has. A resize
 /// holds the lock alone; each byte that it cuts is zero, as the map says or by its own zeroing.
 pub fn parts_are_lawful()
-    ensures zero { (at : Label → Knowledge) (k : Knowledge) (site : SiteId) (image : ℕ) (h : HeaderView) (piece : Piece) (next : Plan)
+    ensures zero { (at : Label → Knowledge) (k : Knowledge) (site : SiteId) (image : ℕ) (h : HeaderView)
+        (piece : Piece) (next : Plan)
         → OwnsObject k site image h piece.object → IsPieceOf h piece
         → IsLawful at (known_behind k (zeroed site image h piece)) next
         → IsLawful at k (zero_piece site image h piece next) }
-    ensures full { (at : Label → Knowledge) (k : Knowledge) (site : SiteId) (image : ℕ) (h : HeaderView) (piece : Piece) (bytes : List ℕ) (next : Plan)
-        → OwnsObject k site image h piece.object → IsLayout h.layout → IsPieceOf h piece → is_whole h piece ≡ true → length bytes ≤ parts_len piece.parts
+    ensures full { (at : Label → Knowledge) (k : Knowledge) (site : SiteId) (image : ℕ) (h : HeaderView) (piece : Piece)
+        (bytes : List ℕ) (next : Plan)
+        → OwnsObject k site image h piece.object → IsLayout h.layout → IsPieceOf h piece → is_whole h piece ≡ true
+        → length bytes ≤ parts_len piece.parts
         → IsLawful at (known_behind k (replaced site image h piece bytes)) next
         → IsLawful at k (full_piece site image h piece bytes next) }
-    ensures size { (at : Label → Knowledge) (k : Knowledge) (site : SiteId) (image : ℕ) (h : HeaderView) (to objects : ℕ) (next : Plan)
+    ensures size { (at : Label → Knowledge) (k : Knowledge) (site : SiteId) (image : ℕ) (h : HeaderView)
+        (to objects : ℕ) (next : Plan)
         → IsOwn k site image true h → IsLayout h.layout → HasFewObjects h.layout to → IsObjectCount h.layout to objects
         → ((steps : List Answered) → IsResized site image h to objects steps → IsLawful at (known_behind k steps) next)
         → IsLawful at k (resize site image h to objects next) }
@@ -94,8 +106,11 @@ pub fn parts_are_lawful()
 pub fn parts_leave_the_image_its_own()
     ensures zero { (k : Knowledge) (site : SiteId) (image : ℕ) (alone : Bool) (h own : HeaderView) (piece : Piece)
         → IsOwn k site image alone own → IsOwn (known_behind k (zeroed site image h piece)) site image alone own }
-    ensures full { (k : Knowledge) (site : SiteId) (image : ℕ) (alone : Bool) (h own : HeaderView) (piece : Piece) (bytes : List ℕ)
-        → IsOwn k site image alone own → IsOwn (known_behind k (replaced site image h piece bytes)) site image alone own }
+    ensures full { (k : Knowledge) (site : SiteId) (image : ℕ) (alone : Bool) (h own : HeaderView) (piece : Piece)
+        (bytes : List ℕ)
+        → IsOwn k site image alone own
+        → IsOwn (known_behind k (replaced site image h piece bytes)) site image alone own }
     ensures size { (k : Knowledge) (site : SiteId) (image : ℕ) (h : HeaderView) (to objects : ℕ) (steps : List Answered)
-        → IsOwn k site image true h → IsResized site image h to objects steps → IsOwn (known_behind k steps) site image true (with_size to h) }
+        → IsOwn k site image true h → IsResized site image h to objects steps
+        → IsOwn (known_behind k steps) site image true (with_size to h) }
 {}

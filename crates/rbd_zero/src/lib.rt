@@ -2,7 +2,8 @@
 //! `rbd_discard` and `rbd_resize` are made of them, and replay will be.
 //!
 //! ```text
-//! let mut zeros = ZeroPiece::new(alloc, SiteId::A, image, &header, piece)?;  // all of object 3
+//! let extent = Extent { at: 12_288, len: 4096 };                             // all of object 3
+//! let mut zeros = ZeroPiece::new(alloc, &target, &header, context, &extent, 3)?;
 //! zeros.next()?              // map-set of object 3, state 2
 //! zeros.feed(&done)          // More
 //! zeros.next()?              // data-remove of object 3, under the snapshot context
@@ -57,7 +58,7 @@
 //! their operation can be answered, and nothing else.
 //!
 //! They are made by a header in form, for pieces of its head ([`laws::pieces_are_of_the_head`]).
-//! A `FullPiece` is of a whole one ([`is_whole`] tells).
+//! A `FullPiece` is of a whole one ([`is_whole`] tells of an extent).
 //!
 //! The definitions are read after those of `rbd_machine`.
 //!
@@ -79,13 +80,13 @@
 //!
 //! | call | memory |
 //! |---|---|
-//! | [`ZeroPiece::new`], [`ZeroPiece::under`], [`is_whole`] | the parts of the whole object; `new` also makes the snapshot context, which `under` is given |
+//! | [`ZeroPiece::new`] | the parts of its extent, where that hasn't all bytes of the object |
 //! | [`FullPiece::new`], [`FullPiece::under`] | the cut bytes, where the bytes aren't shared; `new` also makes the snapshot context |
 //! | [`Size::new`] | for a smaller size a copy of the header |
-//! | [`Size::ready`] | at the answer to `map-get` its pieces, but for those passed over |
+//! | [`Size::ready`] | at the answer to `map-get` its pieces; it looks at each object from the new size on, and makes nothing for those passed over |
 //! | `next` | copies the parts, and the context's snapshots and the bytes where they aren't shared |
 //!
-//! `wants` and `feed` take none.
+//! [`is_whole`], `wants` and `feed` take none.
 //!
 //! # How it works
 //!

@@ -1,8 +1,7 @@
 //! Bytes that become all of an object.
 ghost use Rattle.std.specs.Prelude.{◌≡◌, IfOk};
-ghost use Rattle.rbd_kinds.specs.declared.machine.Fed.TheVariants as fed_with;
-ghost use Rattle.rbd_machine.specs.Plan.{Plan, Wants, Asks, plan_after};
-ghost use Rattle.rbd_machine.specs.Steps.{Progresses, TellsDone};
+ghost use Rattle.rbd_machine.specs.Plan.{Plan, Wants, Asks};
+ghost use Rattle.rbd_machine.specs.Steps.{ProgressesBy, TellsDone};
 ghost use Rattle.rbd_zero.specs.Full.{replacing, rest_of_replace};
 ghost use Rattle.rbd_zero.specs.Operations.{data_write_full};
 
@@ -87,7 +86,8 @@ impl Replace {
 
     /// Its object becomes the bytes.
     fn write(&self, alloc: Global) -> Result<Op, NoMemory>
-        ensures { IfOk result (λ op. op ≡ data_write_full self.now.image self.now.context self.now.object self.now.bytes) }
+        ensures { IfOk result (λ op. op
+            ≡ data_write_full self.now.image self.now.context self.now.object self.now.bytes) }
     {
         let op = DataOp::WriteFull {
             context: self.context.try_clone()?,
@@ -99,7 +99,7 @@ impl Replace {
     /// Goes on with an answer. It takes no memory.
     pub fn feed(&mut self, answer: &Answer) -> Progress<()>
         requires { TellsDone answer.now }
-        ensures { (next : Plan) → Progresses next (plan_after (rest_of_replace self.old next) (fed_with.Answer answer.now)) result (rest_of_replace self.new next) }
+        ensures { ProgressesBy rest_of_replace answer.now result self.old self.new }
     {
         match told_done(answer) {
             Ok(()) => match self.stage {

@@ -1,19 +1,19 @@
 //! What a shrink zeros before it sets the size.
-ghost use Rattle.std.specs.Prelude.{◌≡◌, ◌<◌, ◌≤◌, List, ◌∷◌, filter, IfOk};
+ghost use Rattle.std.specs.Prelude.{◌≡◌, ◌+◌, ◌<◌, ◌≤◌, ◌&&◌, IfOk};
 ghost use Rattle.rbd_kinds.specs.Form.{IsHeaderInForm};
-ghost use Rattle.rbd_header.specs.Header as of_header;
 ghost use Rattle.rbd_layout.specs.declared.types.Piece as of_piece;
+ghost use Rattle.rbd_layout.specs.Pieces.{is_touched, piece_in};
 ghost use Rattle.rbd_machine.specs.Plan.{Plan};
 ghost use Rattle.rbd_zero.specs.Shrink as of_shrink;
-ghost use Rattle.rbd_zero.specs.Size.{rest_of_some, rest_of_zeros, zero_pieces};
+ghost use Rattle.rbd_zero.specs.Size.{rest_of_zeros, zero_pieces};
 ghost use Rattle.rbd_zero.specs.Zero.{IsOfHead};
 
 use crate::states::state_in;
 use crate::whole::is_inside;
 use crate::zero_piece::ZeroPiece;
 use rbd_header::context_of;
-use rbd_kinds::{Extent, HeaderView, ImageAt, NoMemory, SnapContext, TryClone};
-use rbd_layout::{Piece, pieces};
+use rbd_kinds::{Extent, HeaderView, ImageAt, NoMemory, TryClone};
+use rbd_layout::{bytes_in, first_object, objects};
 use std::alloc::Global;
 use std::collections::VecDeque;
 use std::marker::Model;
@@ -65,7 +65,8 @@ impl Shrink {
         bits: &[u8],
     ) -> Result<VecDeque<ZeroPiece>, NoMemory>
         ensures { IfOk result (λ made. (next : Plan) → rest_of_zeros made.items next
-            ≡ zero_pieces target.now.site target.now.image self.now.header (of_shrink.pieces_from self.now.header self.now.to bits.now) next) }
+            ≡ zero_pieces target.now.site target.now.image self.now.header
+            (of_shrink.pieces_from self.now.header self.now.to bits.now) next) }
     {
         zeros(alloc, target, &self.header, self.to, bits)
     }
@@ -86,10 +87,13 @@ fn zeros(
 {
     let extent = head_from(header, to);
     let context = context_of(alloc, header)?;
-    let listed = pieces(alloc, &header.layout, &extent)?;
+    let first = first_object(&header.layout, &extent);
+    let end = objects(&header.layout, header.size);
     let mut made = VecDeque::new(alloc);
-    for piece in listed {
-        if let Some(zeros) = zeros_of(alloc, target, header, &context, bits, piece)? {
+    for object in first..end {
+        if is_zeroed(header, bits, &extent, object) {
+            let context = context.try_clone()?;
+            let zeros = ZeroPiece::new(alloc, target, header, context, &extent, object)?;
             made.push_back(zeros)?;
         }
     }
@@ -107,38 +111,29 @@ fn head_from(header: &HeaderView, to: u64) -> Extent
     }
 }
 
-/// The zeros of a piece, and `None` where its object has no bytes.
-fn zeros_of(
-    alloc: Global,
-    target: &ImageAt,
-    header: &HeaderView,
-    context: &SnapContext,
-    bits: &[u8],
-    piece: Piece,
-) -> Result<Option<ZeroPiece>, NoMemory>
+/// Whether bytes of an object become zeros: it has bytes, and the extent has some of them. Most
+/// often it has none, which costs least to find out.
+fn is_zeroed(header: &HeaderView, bits: &[u8], extent: &Extent, object: u64) -> bool
     requires form { IsHeaderInForm header.now }
-    requires head { IsOfHead header.now piece.object }
-    requires context { context.now ≡ of_header.context_of header.now }
-    ensures { IfOk result (λ made. (pieces : List of_piece.Piece) (next : Plan)
-        → rest_of_some made (zero_pieces target.now.site target.now.image header.now (filter (of_shrink.has_bytes header.now bits.now) pieces) next)
-        ≡ zero_pieces target.now.site target.now.image header.now (filter (of_shrink.has_bytes header.now bits.now) (piece ∷ pieces)) next) }
+    requires head { IsOfHead header.now object }
+    requires within { extent.now.at + extent.now.len ≤ header.now.size }
+    ensures { result ≡ (of_shrink.has_bytes header.now bits.now (piece_in header.now.layout extent.now object)
+        && is_touched (piece_in header.now.layout extent.now object)) }
 {
-    if !has_bytes(header, bits, &piece) {
-        return Ok(None);
+    if !has_bytes(header, bits, object) {
+        return false;
     }
-    let context = context.try_clone()?;
-    let zeros = ZeroPiece::under(alloc, target.site, target.image, header, context, piece)?;
-    Ok(Some(zeros))
+    bytes_in(&header.layout, extent, object) > 0
 }
 
-/// Whether the object of a piece has bytes: it is inside the overlap, or isn't in state 0.
-fn has_bytes(header: &HeaderView, bits: &[u8], piece: &Piece) -> bool
+/// Whether an object has bytes: it is inside the overlap, or isn't in state 0.
+fn has_bytes(header: &HeaderView, bits: &[u8], object: u64) -> bool
     requires form { IsHeaderInForm header.now }
-    requires head { IsOfHead header.now piece.now.object }
-    ensures { result ≡ of_shrink.has_bytes header.now bits.now piece.now }
+    requires head { IsOfHead header.now object }
+    ensures { (p : of_piece.Piece) → p.object ≡ object → result ≡ of_shrink.has_bytes header.now bits.now p }
 {
-    if is_inside(header, piece.object) {
+    if is_inside(header, object) {
         return true;
     }
-    state_in(bits, piece.object) != 0
+    state_in(bits, object) != 0
 }

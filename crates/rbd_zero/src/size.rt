@@ -1,10 +1,9 @@
 //! The size of an image's head.
 ghost use Rattle.std.specs.Prelude.{◌≡◌, ℕ, IfOk, OnOk};
-ghost use Rattle.rbd_kinds.specs.declared.machine.Fed.TheVariants as fed_with;
 ghost use Rattle.rbd_kinds.specs.Form.{HasFewObjects, IsHeaderInForm};
 ghost use Rattle.rbd_kinds.specs.Striping.{IsObjectCount};
-ghost use Rattle.rbd_machine.specs.Plan.{Plan, Wants, Asks, plan_after};
-ghost use Rattle.rbd_machine.specs.Steps.{Progresses};
+ghost use Rattle.rbd_machine.specs.Plan.{Plan, Wants, Asks};
+ghost use Rattle.rbd_machine.specs.Steps.{Progresses, ProgressesBy};
 ghost use Rattle.rbd_zero.specs.Size as of_size;
 ghost use Rattle.rbd_zero.specs.Size.{rest_of_size};
 ghost use Rattle.rbd_zero.specs.declared.size.Size as of_struct;
@@ -137,7 +136,7 @@ impl Size {
     pub fn feed(&mut self, answer: &Answer) -> Progress<()>
         requires tells { of_size.Tells self.old.stage answer.now }
         requires ready { of_size.IsReady self.old answer.now }
-        ensures { (next : Plan) → Progresses next (plan_after (rest_of_size self.old next) (fed_with.Answer answer.now)) result (rest_of_size self.new next) }
+        ensures { ProgressesBy rest_of_size answer.now result self.old self.new }
     {
         match &mut self.stage {
             Stage::Growing { objects: _, to } => match told_done(answer) {
@@ -171,7 +170,10 @@ impl Size {
 
     /// Goes on to the next piece, or to the size where none is left.
     fn begin_piece(&mut self, to: u64) -> Progress<()>
-        ensures { (next : Plan) → Progresses next (of_size.rest_of_zeros self.old.pieces.items (of_size.sizing self.old.site self.old.image to next)) result (rest_of_size self.new next) }
+        ensures { (next : Plan)
+            → Progresses next
+            (of_size.rest_of_zeros self.old.pieces.items (of_size.sizing self.old.site self.old.image to next))
+            result (rest_of_size self.new next) }
     {
         match self.pieces.pop_front() {
             Some(piece) => {
@@ -190,7 +192,8 @@ impl Size {
 fn first_stage(header: &HeaderView, to: u64) -> Result<Stage, NoMemory>
     requires form { IsHeaderInForm header.now }
     requires few { HasFewObjects header.now.layout to }
-    ensures { IfOk result (λ stage. (s : of_struct.Size) (objects : ℕ) (next : Plan) → IsObjectCount header.now.layout to objects
+    ensures { IfOk result (λ stage. (s : of_struct.Size) (objects : ℕ) (next : Plan)
+        → IsObjectCount header.now.layout to objects
         → of_size.rest_from stage s next ≡ of_size.resize s.site s.image header.now to objects next) }
 {
     if header.size <= to {

@@ -1,23 +1,24 @@
-//! Which bytes of its object a piece has, and whether the object is inside the overlap.
-ghost use Rattle.std.specs.Prelude.{◌≡◌, IfOk};
+//! Which bytes of an object an extent has, and whether the object is inside the overlap.
+ghost use Rattle.std.specs.Prelude.{◌≡◌, ◌+◌, ◌≤◌};
 ghost use Rattle.rbd_kinds.specs.Form.{IsHeaderInForm};
+ghost use Rattle.rbd_layout.specs.Pieces.{piece_in};
 ghost use Rattle.rbd_zero.specs.Zero as of_zero;
 
-use rbd_kinds::{Extent, HeaderView, NoMemory};
-use rbd_layout::{Piece, Place, back, parts_in};
-use std::alloc::Global;
+use rbd_kinds::{Extent, HeaderView};
+use rbd_layout::{Place, back, bytes_in};
 
-/// Whether a piece has all bytes of its object below the header's size.
-pub fn is_whole(alloc: Global, header: &HeaderView, piece: &Piece) -> Result<bool, NoMemory>
-    requires { IsHeaderInForm header.now }
-    ensures { IfOk result (λ whole. whole ≡ of_zero.is_whole header.now piece.now) }
+/// Whether an extent has all bytes of an object below the header's size: it is told by two sums,
+/// so the parts aren't made.
+pub fn is_whole(header: &HeaderView, extent: &Extent, object: u64) -> bool
+    requires form { IsHeaderInForm header.now }
+    requires within { extent.now.at + extent.now.len ≤ header.now.size }
+    ensures { result ≡ of_zero.is_whole header.now (piece_in header.now.layout extent.now object) }
 {
     let head = Extent {
         at: 0,
         len: header.size,
     };
-    let all = parts_in(alloc, &header.layout, &head, piece.object)?;
-    Ok(piece.parts.as_slice() == all.as_slice())
+    bytes_in(&header.layout, extent, object) == bytes_in(&header.layout, &head, object)
 }
 
 /// Whether an object of the head is inside its overlap: its first byte lies below it.

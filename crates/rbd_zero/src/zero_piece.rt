@@ -1,13 +1,13 @@
 //! One piece that becomes zeros.
-ghost use Rattle.std.specs.Prelude.{◌≡◌, IfOk};
-ghost use Rattle.rbd_kinds.specs.declared.machine.Fed.TheVariants as fed_with;
+ghost use Rattle.std.specs.Prelude.{◌≡◌, ◌+◌, ◌≤◌, IfOk};
+ghost use Rattle.rbd_layout.specs.Pieces.{piece_in};
 ghost use Rattle.rbd_kinds.specs.declared.answer.Answer.TheVariants as of_answer;
 ghost use Rattle.rbd_kinds.specs.declared.machine.Want.TheVariants as want;
 ghost use Rattle.rbd_kinds.specs.declared.operation.Op.TheVariants as op_of;
 ghost use Rattle.rbd_kinds.specs.Form.{IsHeaderInForm};
 ghost use Rattle.rbd_header.specs.Header as of_header;
-ghost use Rattle.rbd_machine.specs.Plan.{Plan, Wants, Asks, plan_after};
-ghost use Rattle.rbd_machine.specs.Steps.{Progresses, TellsDone};
+ghost use Rattle.rbd_machine.specs.Plan.{Plan, Wants, Asks};
+ghost use Rattle.rbd_machine.specs.Steps.{ProgressesBy, TellsDone};
 ghost use Rattle.rbd_zero.specs.Operations as operations;
 ghost use Rattle.rbd_zero.specs.Zero as of_zero;
 ghost use Rattle.rbd_zero.specs.declared.zero_piece.ZeroPiece as of_piece;
@@ -16,11 +16,11 @@ ghost use Rattle.rbd_zero.specs.Zero.{rest_of_zero};
 
 use crate::operations::map_set;
 use crate::whole::{is_inside, is_whole};
-use rbd_header::context_of;
 use rbd_kinds::{
-    Answer, DataOp, HeaderView, ImageId, NoMemory, Op, OpKind, SiteId, SnapContext, TryClone, Want,
+    Answer, DataOp, Extent, HeaderView, ImageAt, ImageId, NoMemory, Op, OpKind, Parts, SiteId,
+    SnapContext, TryClone, Want,
 };
-use rbd_layout::Piece;
+use rbd_layout::{Piece, parts_in};
 use rbd_machine::{Progress, told_done};
 use std::alloc::Global;
 
@@ -68,49 +68,41 @@ pub enum Stage {
 }
 
 impl ZeroPiece {
-    /// Zeros for a piece of an image's head, by a header: its object is one of the head's.
+    /// Zeros for the bytes that an extent has of an object of an image's head, by a header and
+    /// under its snapshot context. Where it has all of them, their parts aren't made.
     pub fn new(
         alloc: Global,
-        site: SiteId,
-        image: ImageId,
-        header: &HeaderView,
-        piece: Piece,
-    ) -> Result<Self, NoMemory>
-        requires form { IsHeaderInForm header.now }
-        requires head { of_zero.IsOfHead header.now piece.object }
-        ensures { IfOk result (λ z. (next : Plan) → rest_of_zero z next ≡ of_zero.zero_piece site image header.now piece next) }
-    {
-        let context = context_of(alloc, header)?;
-        ZeroPiece::under(alloc, site, image, header, context, piece)
-    }
-
-    /// The same, under the header's snapshot context.
-    pub fn under(
-        alloc: Global,
-        site: SiteId,
-        image: ImageId,
+        target: &ImageAt,
         header: &HeaderView,
         context: SnapContext,
-        piece: Piece,
+        extent: &Extent,
+        object: u64,
     ) -> Result<Self, NoMemory>
         requires form { IsHeaderInForm header.now }
-        requires head { of_zero.IsOfHead header.now piece.object }
+        requires head { of_zero.IsOfHead header.now object }
+        requires within { extent.now.at + extent.now.len ≤ header.now.size }
         requires context { context ≡ of_header.context_of header.now }
-        ensures { IfOk result (λ z. (next : Plan) → rest_of_zero z next ≡ of_zero.zero_piece site image header.now piece next) }
+        ensures { IfOk result (λ z. (next : Plan) → rest_of_zero z next
+            ≡ of_zero.zero_piece target.now.site target.now.image header.now
+            (piece_in header.now.layout extent.now object) next) }
     {
-        let whole = is_whole(alloc, header, &piece)?;
-        let inside = is_inside(header, piece.object);
+        let inside = is_inside(header, object);
+        if is_whole(header, extent, object) {
+            let parts = Parts::new(alloc);
+            let piece = Piece { object, parts };
+            return Ok(ZeroPiece::all(target.site, target.image, context, inside, piece));
+        }
+        let parts = parts_in(alloc, &header.layout, extent, object)?;
         Ok(ZeroPiece {
-            site,
-            image,
+            site: target.site,
+            image: target.image,
             context,
-            piece,
-            stage: first_stage(whole, inside),
+            piece: Piece { object, parts },
+            stage: first_stage(false, inside),
         })
     }
 
-    /// Zeros for a piece that has all bytes of its object, under a snapshot context. It takes no
-    /// memory.
+    /// Zeros for all bytes of an object, under a snapshot context. It takes no memory.
     pub(crate) fn all(
         site: SiteId,
         image: ImageId,
@@ -193,7 +185,8 @@ impl ZeroPiece {
 
     /// Its object goes.
     fn remove(&self, alloc: Global) -> Result<Op, NoMemory>
-        ensures { IfOk result (λ op. op ≡ operations.data_remove self.now.image self.now.context self.now.piece.object) }
+        ensures { IfOk result (λ op. op
+            ≡ operations.data_remove self.now.image self.now.context self.now.piece.object) }
     {
         let op = DataOp::Remove {
             context: self.context.try_clone()?,
@@ -211,7 +204,7 @@ impl ZeroPiece {
     /// Goes on with an answer. It takes no memory.
     pub fn feed(&mut self, answer: &Answer) -> Progress<()>
         requires { TellsDone answer.now }
-        ensures { (next : Plan) → Progresses next (plan_after (rest_of_zero self.old next) (fed_with.Answer answer.now)) result (rest_of_zero self.new next) }
+        ensures { ProgressesBy rest_of_zero answer.now result self.old self.new }
     {
         match told_done(answer) {
             Ok(()) => self.go_on(),
@@ -221,7 +214,7 @@ impl ZeroPiece {
 
     /// Goes on behind an operation that was done.
     fn go_on(&mut self) -> Progress<()>
-        ensures { (next : Plan) → Progresses next (plan_after (rest_of_zero self.old next) (fed_with.Answer of_answer.Done)) result (rest_of_zero self.new next) }
+        ensures { ProgressesBy rest_of_zero of_answer.Done result self.old self.new }
     {
         match self.stage {
             Stage::Zeroing => Progress::Ended(()),
@@ -251,7 +244,8 @@ impl ZeroPiece {
 /// Where the zeros of a piece begin, by how much of its object it has, and whether that is inside
 /// the overlap.
 fn first_stage(whole: bool, inside: bool) -> Stage
-    ensures { (z : of_piece.ZeroPiece) (next : Plan) → of_zero.rest_from result z next ≡ of_zero.zero_by z.site z.image z.context z.piece whole inside next }
+    ensures { (z : of_piece.ZeroPiece) (next : Plan)
+        → of_zero.rest_from result z next ≡ of_zero.zero_by z.site z.image z.context z.piece whole inside next }
 {
     match (whole, inside) {
         (false, false) => Stage::Zeroing,
@@ -263,7 +257,8 @@ fn first_stage(whole: bool, inside: bool) -> Stage
 
 /// The kind of the operation at a stage.
 fn kind_at(stage: Stage) -> OpKind
-    ensures { (z : of_piece.ZeroPiece) (next : Plan) (site : of_site.SiteId) → z.site ≡ site → Wants (of_zero.rest_from stage z next) (want.Op site result) }
+    ensures { (z : of_piece.ZeroPiece) (next : Plan) (site : of_site.SiteId)
+        → z.site ≡ site → Wants (of_zero.rest_from stage z next) (want.Op site result) }
 {
     match stage {
         Stage::Zeroing => OpKind::DataZero,

@@ -2,10 +2,11 @@
 //! calls of `rbd_zero`: tables of images and extents against the operations that are done, in
 //! order. They were worked out by hand, from the rules in words.
 use crate::fixtures::{Alone, IMAGE, Played, Scene, bytes, header, holds, number, play};
-use rbd_kinds::{Bytes, Extent, HeaderView, NoMemory, SiteId};
-use rbd_layout::{Piece, keeps_limits, pieces, place};
+use rbd_header::context_of;
+use rbd_kinds::{Bytes, Extent, HeaderView, ImageAt, NoMemory, SiteId};
+use rbd_layout::{Piece, keeps_limits, objects_within, pieces, place};
 use rbd_machine::Machine;
-use rbd_zero::{FullPiece, Size, ZeroPiece, is_whole};
+use rbd_zero::{FullPiece, Size, ZeroPiece};
 use std::alloc::Global;
 use std::process::Abort;
 use std::test::Fail;
@@ -54,13 +55,16 @@ fn is_of_head(header: &HeaderView, piece: &Piece) -> bool {
 fn zeros_into(
     alloc: Global,
     header: &HeaderView,
-    piece: Piece,
+    extent: &Extent,
+    object: u64,
     scene: &mut Scene<'_>,
 ) -> Result<bool, NoMemory> {
-    if !is_of_head(header, &piece) {
-        return Ok(false);
-    }
-    let part = ZeroPiece::new(alloc, SiteId::A, IMAGE, header, piece)?;
+    let target = ImageAt {
+        site: SiteId::A,
+        image: IMAGE,
+    };
+    let context = context_of(alloc, header)?;
+    let part = ZeroPiece::new(alloc, &target, header, context, extent, object)?;
     is_done(alloc, &mut Alone { part }, scene)
 }
 
@@ -83,11 +87,12 @@ fn extent_zeroed(
     len: u64,
     scene: &mut Scene<'_>,
 ) -> Result<bool, NoMemory> {
-    if at >= 1_000_000 || len >= 1_000_000 {
+    if at >= 1_000_000 || len >= 1_000_000 || at + len > header.size {
         return Ok(false);
     }
-    for piece in pieces(alloc, &header.layout, &Extent { at, len })? {
-        if !zeros_into(alloc, header, piece, scene)? {
+    let extent = Extent { at, len };
+    for object in objects_within(alloc, &header.layout, &extent)? {
+        if !zeros_into(alloc, header, &extent, object, scene)? {
             return Ok(false);
         }
     }
@@ -116,7 +121,7 @@ fn full_into(
     bytes: &Bytes,
     scene: &mut Scene<'_>,
 ) -> Result<bool, NoMemory> {
-    if !is_of_head(header, &piece) || !is_whole(alloc, header, &piece)? {
+    if !is_of_head(header, &piece) {
         return Ok(false);
     }
     let part = FullPiece::new(alloc, SiteId::A, IMAGE, header, piece, bytes)?;

@@ -4,7 +4,7 @@ use Rattle.rbd_layout.proofs.extent.pieces.Goals.{then-not-is_empty+in_ok-push, 
 
 pub loop-object-init : goal.loop-object-init
 loop-object-init c =
-    rw (c.new-pieces.ensures.items, c.from-count.ensures, c.place.ensures.object)
+    rw (c.new-pieces.ensures.items, c.first_object-first.ensures)
     (gather_begins c.args.layout.now c.requires.layout c.args.extent.now)
 
 pub loop-object-preserved : goal.loop-object-preserved

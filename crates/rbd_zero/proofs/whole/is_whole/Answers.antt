@@ -1,21 +1,15 @@
-use Rattle.std.proofs.Common.{◌≤◌, ap, ◌∙◌, arith}
-use Rattle.std.specs.Cmp.Lexicographic.{pointwise}
-use Rattle.rbd_layout.proofs.Bounds.{few_bytes}
-use Rattle.rbd_zero.specs.Zero.{is_same}
-use Rattle.rbd_zero.proofs.AllBytes.{parts_are_all, same_parts}
+use Rattle.std.proofs.Common.{arith}
+use Rattle.rbd_zero.specs.Zero.{head_of}
+use Rattle.rbd_zero.proofs.AllBytes.{ends_early, whole_by_sums}
 use Rattle.rbd_zero.proofs.whole.is_whole.Goals as goal
 
-pub parts_in-requires-clause-end : goal.parts_in-requires-clause-end
-parts_in-requires-clause-end c =
-    let h = c.args.header.now in
-    let few : h.size ≤ 35184372088832 = few_bytes h.layout c.requires.layout h.size c.requires.objects in
-    omega arith
+pub bytes_in-requires-clause-end : goal.bytes_in-requires-clause-end
+bytes_in-requires-clause-end c = ends_early c.args.header.now c.args.extent.now c.requires.form c.requires.within
+
+pub bytes_in-requires-2-clause-end : goal.bytes_in-requires-2-clause-end
+bytes_in-requires-2-clause-end c = ends_early c.args.header.now (head_of c.args.header.now) c.requires.form (omega arith)
 
 pub returns : goal.returns
 returns c =
-    let h = c.args.header.now in
-    let p = c.args.piece.now in
-    c.eq.ensures
-    ∙ same_parts c.as_slice.result.now c.as_slice-2.result.now
-    ∙ ap (λ parts. pointwise is_same parts c.as_slice-2.result.now) c.as_slice.ensures
-    ∙ ap (pointwise is_same p.parts) (c.as_slice-2.ensures ∙ parts_are_all h p.object c.in_ok-all.all c.requires.layout c.in_ok-all.ensures.parts)
+    rw (c.bytes_in.ensures, c.bytes_in-2.ensures)
+    (whole_by_sums c.args.header.now c.args.extent.now c.args.object c.requires.form.layout c.requires.within)
