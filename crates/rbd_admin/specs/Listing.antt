@@ -57,7 +57,8 @@ show_header site name shown = find site name (showing site shown)
 
 -- how many of so many objects the head's map has in use
 abbrev pub counting : SiteId → (image of : ℕ) → Plan
-counting site image of = own site (op.Map image (states.Get None)) (on_bits (λ bits. Return (reply.Used (used_among of bits) of)))
+counting site image of =
+    own site (op.Map image (states.Get None)) (on_bits (λ bits. Return (reply.Used (used_among of bits) of)))
 
 -- the objects of the size that the image's header tells
 abbrev pub measuring : SiteId → (image : ℕ) → Plan

@@ -40,7 +40,8 @@ taking site snap image next = own site (op.Header image (header.SnapAdd snap)) (
 
 -- the head's states become the map of the snapshot that is taken next
 abbrev pub putting : SiteId → (snap : List ℕ) → (image id : ℕ) → (next : Plan) → (bits : List ℕ) → Plan
-putting site snap image id next bits = own site (op.Map image (states.Put (Some id) bits)) (on_done (taking site snap image next))
+putting site snap image id next bits =
+    own site (op.Map image (states.Put (Some id) bits)) (on_done (taking site snap image next))
 
 abbrev pub copying : SiteId → (snap : List ℕ) → (image id : ℕ) → (next : Plan) → Plan
 copying site snap image id next = own site (op.Map image (states.Get None)) (on_bits (putting site snap image id next))
@@ -62,22 +63,26 @@ abbrev pub unmapping : SiteId → (image snap : ℕ) → (next : Plan) → Plan
 unmapping site image snap next = own site (op.Map image (states.Remove (Some snap))) (on_gone next)
 
 abbrev pub removing : SiteId → (image snap : ℕ) → (next : Plan) → Plan
-removing site image snap next = own site (op.Header image (header.SnapRemove snap)) (on_done (unmapping site image snap next))
+removing site image snap next =
+    own site (op.Header image (header.SnapRemove snap)) (on_done (unmapping site image snap next))
 
 -- ---- the commands
 
 abbrev pub take : SiteId → (snap : List ℕ) → (image : ℕ) → HeaderView → Plan
-take site snap image h = Note site image (event.SnapCreate snap) (copying site snap image (h.snap_seq + 1) (applied site image))
+take site snap image h =
+    Note site image (event.SnapCreate snap) (copying site snap image (h.snap_seq + 1) (applied site image))
 
 -- by the id that the look under the lock lists under the name
 abbrev pub remove_listed : SiteId → (snap : List ℕ) → (image : ℕ) → Option SnapView → Plan
 remove_listed site snap image None = refused refusal.NoSnap
-remove_listed site snap image (Some listed) = Note site image (event.SnapRemove snap) (removing site image listed.id (applied site image))
+remove_listed site snap image (Some listed) =
+    Note site image (event.SnapRemove snap) (removing site image listed.id (applied site image))
 
 abbrev pub remove : SiteId → (snap : List ℕ) → (image : ℕ) → HeaderView → Plan
 remove site snap image h = remove_listed site snap image (snap_named h.snaps snap)
 
 abbrev pub snap_plan : SiteId → Command → Plan
 snap_plan site (command.SnapCreate image snap) = change site image sharing.Alone (create_refuses snap) (take site snap)
-snap_plan site (command.SnapRemove image snap) = change site image sharing.Alone (remove_refuses snap) (remove site snap)
+snap_plan site (command.SnapRemove image snap) =
+    change site image sharing.Alone (remove_refuses snap) (remove site snap)
 snap_plan site _ = refused refusal.NoImage

@@ -1,5 +1,5 @@
--- The laws of the parts of `snap create` and `snap rm`: lemmas that the laws of an `impl` cite. They
--- define nothing.
+-- The laws of the parts of `snap create` and `snap rm`: lemmas that the laws of an `impl` cite.
+-- They define nothing.
 use Rattle.std.proofs.Common.{ℕ, List, Some, None, refl}
 use Rattle.rbd_kinds.specs.declared.answer.Answer.{Answer}
 use Rattle.rbd_kinds.specs.declared.answer.Answer.TheVariants as answer
@@ -31,12 +31,14 @@ states_tell image answer.Absent can = tt
 states_tell image answer.Fenced can = tt
 states_tell image _ can = let no = can.word in cc
 
-putting_tells : (image next : ℕ) (bits : List ℕ) (a : Answer) → CanGive (op.Map image (states.Put (Some next) bits)) a → TellsDone a
+putting_tells : (image next : ℕ) (bits : List ℕ) (a : Answer)
+    → CanGive (op.Map image (states.Put (Some next) bits)) a → TellsDone a
 putting_tells image next bits answer.Done can = tt
 putting_tells image next bits answer.Fenced can = tt
 putting_tells image next bits _ can = let no = can.word in cc
 
-taking_tells : (image : ℕ) (snap : List ℕ) (a : Answer) → CanGive (op.Header image (header.SnapAdd snap)) a → TellsSnap a
+taking_tells : (image : ℕ) (snap : List ℕ) (a : Answer)
+    → CanGive (op.Header image (header.SnapAdd snap)) a → TellsSnap a
 taking_tells image snap (answer.Snap taken) can = tt
 taking_tells image snap answer.Absent can = tt
 taking_tells image snap answer.Fenced can = tt
@@ -48,7 +50,8 @@ removing_tells image listed answer.Absent can = tt
 removing_tells image listed answer.Fenced can = tt
 removing_tells image listed _ can = let no = can.word in cc
 
-unmapping_tells : (image removed : ℕ) (a : Answer) → CanGive (op.Map image (states.Remove (Some removed))) a → TellsGone a
+unmapping_tells : (image removed : ℕ) (a : Answer)
+    → CanGive (op.Map image (states.Remove (Some removed))) a → TellsGone a
 unmapping_tells image removed answer.Done can = tt
 unmapping_tells image removed answer.Absent can = tt
 unmapping_tells image removed answer.Fenced can = tt
@@ -56,16 +59,19 @@ unmapping_tells image removed _ can = let no = can.word in cc
 
 -- ---- what a stage may be fed tells it how to go on
 
-pub take_tells : (s : of_take.Stage) (t : TakeSnap) (next : Plan) (a : Answer) → CanBeFed (taking_from s t next) (fed.Answer a) → TellsTaking s a
+pub take_tells : (s : of_take.Stage) (t : TakeSnap) (next : Plan) (a : Answer)
+    → CanBeFed (taking_from s t next) (fed.Answer a) → TellsTaking s a
 take_tells take_stage.Copying t next a can = states_tell t.image a can
 take_tells (take_stage.Putting bits) t next a can = putting_tells t.image t.snap bits a can
 take_tells take_stage.Taking t next a can = taking_tells t.image t.name a can
 
-pub remove_tells : (s : of_remove.Stage) (r : RemoveSnap) (next : Plan) (a : Answer) → CanBeFed (removing_from s r next) (fed.Answer a) → TellsRemoving s a
+pub remove_tells : (s : of_remove.Stage) (r : RemoveSnap) (next : Plan) (a : Answer)
+    → CanBeFed (removing_from s r next) (fed.Answer a) → TellsRemoving s a
 remove_tells remove_stage.Removing r next a can = removing_tells r.image r.snap a can
 remove_tells remove_stage.Unmapping r next a can = unmapping_tells r.image r.snap a can
 
-pub part_tells : (x : SnapPart) (next : Plan) (a : Answer) → CanBeFed (rest_of_part x next) (fed.Answer a) → TellsPart x a
+pub part_tells : (x : SnapPart) (next : Plan) (a : Answer) → CanBeFed (rest_of_part x next) (fed.Answer a)
+    → TellsPart x a
 part_tells (part.Take t) next a can = take_tells t.stage t next a can
 part_tells (part.Remove r) next a can = remove_tells r.stage r next a can
 

@@ -6,8 +6,8 @@ ghost use Rattle.rbd_admin.specs.Create.{is_create, on_drawn, rest_of_create, Is
 
 use rbd_header::new_header;
 use rbd_kinds::{
-    Answer, Command, DirectoryOp, Event, Fed, HeaderOp, ImageId, Layout, MapOp, Name, NoMemory,
-    Number, Op, OpKind, Refusal, Reply, Shape, Shared, SiteId, TryClone, Turn, Want,
+    Answer, Command, DirectoryOp, Fed, HeaderOp, ImageId, Layout, MapOp, Name, NoMemory, Number,
+    Op, OpKind, Refusal, Reply, Shape, Shared, SiteId, TryClone, Turn, Want,
 };
 use rbd_layout::{keeps_limits, layout_of, objects};
 use rbd_machine::{Machine, Reason, refusal_of, told_done};
@@ -163,10 +163,6 @@ impl Machine for CreateRequest {
 
     fn reason(&self) -> Reason {
         Reason::Own
-    }
-
-    fn event(&self, _alloc: Global) -> Result<Option<Event>, NoMemory> {
-        Ok(None)
     }
 
     fn ready(&mut self, _alloc: Global, _fed: &Fed) -> Result<(), NoMemory> {

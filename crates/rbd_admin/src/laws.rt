@@ -58,13 +58,16 @@ pub fn renames_ask_once()
 pub fn snapshots_change_once()
     ensures either { (home : SiteId) (command : Command) → IsBounded (snap_plan home command) 6 }
     ensures removal { (home : SiteId) (image snap : List ℕ) → IsBounded (snap_plan home (SnapRemove image snap)) 5 }
-    ensures take { (site : SiteId) (snap : List ℕ) (image id : ℕ) (next : Plan) (n : ℕ) → IsBounded next n → IsBounded (copying site snap image id next) (n + 3) }
-    ensures remove { (site : SiteId) (image snap : ℕ) (next : Plan) (n : ℕ) → IsBounded next n → IsBounded (removing site image snap next) (n + 2) }
+    ensures take { (site : SiteId) (snap : List ℕ) (image id : ℕ) (next : Plan) (n : ℕ)
+        → IsBounded next n → IsBounded (copying site snap image id next) (n + 3) }
+    ensures remove { (site : SiteId) (image snap : ℕ) (next : Plan) (n : ℕ)
+        → IsBounded next n → IsBounded (removing site image snap next) (n + 2) }
 {}
 
 /// None of them begins a part again, nor do the parts, unless what comes next does.
 pub fn plans_go_to_no_label()
-    ensures create { (home : SiteId) (command : Command) (plan : Plan) → IsCreatePlan home command plan → IsClosed Goto plan }
+    ensures create { (home : SiteId) (command : Command) (plan : Plan)
+        → IsCreatePlan home command plan → IsClosed Goto plan }
     ensures listing { (home : SiteId) (command : Command) → IsClosed Goto (listing_plan home command) }
     ensures snap { (home : SiteId) (command : Command) → IsClosed Goto (snap_plan home command) }
     ensures take { (labels : Label → Plan) (site : SiteId) (snap : List ℕ) (image id : ℕ) (next : Plan)
@@ -76,7 +79,8 @@ pub fn plans_go_to_no_label()
 /// A `create` is lawful from nothing known: the header that it makes is a new one, under an id that
 /// it drew itself, and behind a map of all of its objects.
 pub fn creates_are_lawful()
-    ensures { (home : SiteId) (command : Command) (plan : Plan) → IsCreatePlan home command plan → IsLawfulRequest (without_labels plan) }
+    ensures { (home : SiteId) (command : Command) (plan : Plan)
+        → IsCreatePlan home command plan → IsLawfulRequest (without_labels plan) }
 {}
 
 /// An `ls`, an `info`, a `snap ls`, a `du` and a `rename` are lawful from nothing known: all but
@@ -100,10 +104,12 @@ pub fn new_headers_are_in_form()
 /// A `create` is done only where its shape is within the limits, and then by three operations: an
 /// id was drawn for the name, and the map and the header of a new image were made under it.
 pub fn creates_make_one()
-    ensures made { (site : SiteId) (name : List ℕ) (size : ℕ) (shape : Shape) (plan : Plan) (feds : List Fed) (steps : List Answered)
+    ensures made { (site : SiteId) (name : List ℕ) (size : ℕ) (shape : Shape) (plan : Plan) (feds : List Fed)
+        (steps : List Answered)
         → IsCreate site name size shape plan → KeepsLimits (layout_of shape) size
         → IsWalk Goto plan feds steps (Return Done) → MakesOne site name (new_header (layout_of shape) size) steps }
-    ensures within { (site : SiteId) (name : List ℕ) (size : ℕ) (shape : Shape) (plan : Plan) (feds : List Fed) (steps : List Answered)
+    ensures within { (site : SiteId) (name : List ℕ) (size : ℕ) (shape : Shape) (plan : Plan) (feds : List Fed)
+        (steps : List Answered)
         → IsCreate site name size shape plan → (KeepsLimits (layout_of shape) size → ⊥)
         → IsWalk Goto plan feds steps (Return Done) → ⊥ }
 {}
@@ -116,17 +122,22 @@ pub fn listings_show_what_was_told()
     ensures names { (site : SiteId) (feds : List Fed) (steps : List Answered) (names : List (List ℕ))
         → IsWalk Goto (listing_plan site ListAll) feds steps (Return (Names names)) → steps ≡ listed site names ∷ [] }
     ensures info { (site : SiteId) (image : List ℕ) (feds : List Fed) (steps : List Answered) (header : HeaderView)
-        → IsWalk Goto (listing_plan site (Info image)) feds steps (Return (ShownHeader header)) → ShowsHeader site image ShownHeader (ShownHeader header) steps }
+        → IsWalk Goto (listing_plan site (Info image)) feds steps (Return (ShownHeader header))
+        → ShowsHeader site image ShownHeader (ShownHeader header) steps }
     ensures snaps { (site : SiteId) (image : List ℕ) (feds : List Fed) (steps : List Answered) (snaps : List SnapView)
-        → IsWalk Goto (listing_plan site (SnapList image)) feds steps (Return (Snaps snaps)) → ShowsHeader site image shown_snaps (Snaps snaps) steps }
-    ensures used { (site : SiteId) (image : List ℕ) (feds : List Fed) (steps : List Answered) (used of : ℕ) → AreGiven steps
-        → IsWalk Goto (listing_plan site (Used image)) feds steps (Return (ShownUsed used of)) → ShowsUsed site image used of steps }
+        → IsWalk Goto (listing_plan site (SnapList image)) feds steps (Return (Snaps snaps))
+        → ShowsHeader site image shown_snaps (Snaps snaps) steps }
+    ensures used { (site : SiteId) (image : List ℕ) (feds : List Fed) (steps : List Answered) (used of : ℕ)
+        → AreGiven steps
+        → IsWalk Goto (listing_plan site (Used image)) feds steps (Return (ShownUsed used of))
+        → ShowsUsed site image used of steps }
 {}
 
 /// A `rename` is done only where the site did it, and it has done nothing else.
 pub fn renames_change_the_name()
     ensures { (site : SiteId) (from to : List ℕ) (feds : List Fed) (steps : List Answered)
-        → IsWalk Goto (listing_plan site (Rename from to)) feds steps (Return Done) → steps ≡ renamed site from to ∷ [] }
+        → IsWalk Goto (listing_plan site (Rename from to)) feds steps (Return Done)
+        → steps ≡ renamed site from to ∷ [] }
 {}
 
 /// A `snap create` is done only by one snapshot that was taken behind two looks and behind its map,
@@ -134,9 +145,11 @@ pub fn renames_change_the_name()
 /// name, and of its map; neither look refused it.
 pub fn snapshots_change_behind_two_looks()
     ensures taken { (site : SiteId) (image snap : List ℕ) (feds : List Fed) (steps : List Answered)
-        → IsWalk Goto (snap_plan site (SnapCreate image snap)) feds steps (Return Done) → TakesOne site image snap steps }
+        → IsWalk Goto (snap_plan site (SnapCreate image snap)) feds steps (Return Done)
+        → TakesOne site image snap steps }
     ensures removed { (site : SiteId) (image snap : List ℕ) (feds : List Fed) (steps : List Answered)
-        → IsWalk Goto (snap_plan site (SnapRemove image snap)) feds steps (Return Done) → RemovesOne site image snap steps }
+        → IsWalk Goto (snap_plan site (SnapRemove image snap)) feds steps (Return Done)
+        → RemovesOne site image snap steps }
 {}
 
 /// A reply is meant by its command, behind the operations that were done (`IsMeantBy` of
@@ -144,10 +157,14 @@ pub fn snapshots_change_behind_two_looks()
 /// changes: it was done or told when a request isn't refused, and when it is, the last answer
 /// refused it, and none before. No other reply comes.
 pub fn replies_are_meant()
-    ensures create { (seat : Seat) (command : Command) (plan : Plan) (feds : List Fed) (steps : List Answered) (reply : Reply) → IsCreatePlan seat.home command plan → AreGiven steps
+    ensures create { (seat : Seat) (command : Command) (plan : Plan) (feds : List Fed) (steps : List Answered)
+        (reply : Reply)
+        → IsCreatePlan seat.home command plan → AreGiven steps
         → IsWalk Goto plan feds steps (Return reply) → IsMeantBy seat command steps reply }
-    ensures listing { (seat : Seat) (command : Command) (feds : List Fed) (steps : List Answered) (reply : Reply) → is_listing command ≡ true → AreGiven steps
+    ensures listing { (seat : Seat) (command : Command) (feds : List Fed) (steps : List Answered) (reply : Reply)
+        → is_listing command ≡ true → AreGiven steps
         → IsWalk Goto (listing_plan seat.home command) feds steps (Return reply) → IsMeantBy seat command steps reply }
-    ensures snap { (seat : Seat) (command : Command) (feds : List Fed) (steps : List Answered) (reply : Reply) → is_snap command ≡ true → AreGiven steps
+    ensures snap { (seat : Seat) (command : Command) (feds : List Fed) (steps : List Answered) (reply : Reply)
+        → is_snap command ≡ true → AreGiven steps
         → IsWalk Goto (snap_plan seat.home command) feds steps (Return reply) → IsMeantBy seat command steps reply }
 {}

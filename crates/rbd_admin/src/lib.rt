@@ -2,7 +2,7 @@
 //! and the two parts of which `snap create` and `snap rm` are made.
 //!
 //! ```text
-//! let mut request = SnapRequest::new(SiteId::A, snap_create);     // of the image `disk`, named `first`
+//! let mut request = SnapRequest::new(SiteId::A, snap_create);  // of the image `disk`: `first`
 //! request.wants()                   // an operation at site A, of the kind dir-find
 //! request.next(alloc)?              // dir-find disk
 //! request.ready(alloc, &id)?        // memory for the answer `id 1`
@@ -10,7 +10,6 @@
 //! request.wants()                   // to join the line of image 1, alone
 //! request.feed(&Fed::Passed)        // More; then header-get, the lock, header-get
 //! request.wants()                   // its event noted in the journal of image 1
-//! request.event(alloc)?             // SnapCreate first
 //! request.feed(&Fed::Passed)        // More; then map-get, and its bits in a map-put
 //! request.feed(&done)               // More; then header-snap-add
 //! request.feed(&snap)               // More; then that the event counts as applied
@@ -79,11 +78,10 @@
 //!
 //! # Cost
 //!
-//! A request holds the names of its command, without a copy. Each operation or event that names
-//! something copies that name once; the header of a new image is made when its operation is asked
-//! for. A reply of names, a header or snapshots is copied once, by `ready`, and handed out by
-//! `feed`. A `du` counts the bits of a map where they are, in one pass up to the last object of the
-//! size.
+//! A request holds the names of its command, without a copy. Each operation that names something
+//! copies that name once; the header of a new image is made when its operation is asked for. A
+//! reply of names, a header or snapshots is copied once, by `ready`, and handed out by `feed`. A
+//! `du` counts the bits of a map where they are, in one pass up to the last object of the size.
 //!
 //! | part | operations | memory |
 //! |---|---|---|

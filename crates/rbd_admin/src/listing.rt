@@ -13,8 +13,8 @@ ghost use Rattle.rbd_admin.specs.Listing.{is_listing, listing_plan, rest_of_list
 use crate::operations::map_get;
 use crate::used::used_among;
 use rbd_kinds::{
-    Answer, Command, DirectoryOp, Event, Fed, HeaderView, ImageId, Name, NoMemory, Op, OpKind,
-    Refusal, Reply, Shared, SiteId, TryClone, Turn, Want,
+    Answer, Command, DirectoryOp, Fed, HeaderView, ImageId, Name, NoMemory, Op, OpKind, Refusal,
+    Reply, Shared, SiteId, TryClone, Turn, Want,
 };
 use rbd_layout::objects;
 use rbd_machine::{Machine, Reason, dir_find, header_get, refusal_of, told_image};
@@ -102,7 +102,8 @@ impl ListRequest {
     fn answer(&mut self, answer: &Answer) -> Turn
         requires can { CanBeFed (rest_of_list self.old) (fed_with.Answer answer.now) }
         requires ready { HasReply self.old answer.now }
-        ensures { GoesOn Goto (plan_after (rest_of_list self.old) (fed_with.Answer answer.now)) result (without_labels (rest_of_list self.new)) }
+        ensures { GoesOn Goto (plan_after (rest_of_list self.old) (fed_with.Answer answer.now)) result
+            (without_labels (rest_of_list self.new)) }
     {
         match &self.stage {
             Stage::Listing => match answer {
@@ -136,7 +137,8 @@ impl ListRequest {
     fn show(&mut self, image: ImageId, shown: Shown, header: &HeaderView) -> Turn
         requires form { IsHeaderInForm header.now }
         requires ready { self.old.readied ≡ shows shown header.now }
-        ensures { GoesOn Goto (with_header shown self.old.site image header.now) result (without_labels (rest_of_list self.new)) }
+        ensures { GoesOn Goto (with_header shown self.old.site image header.now) result
+            (without_labels (rest_of_list self.new)) }
     {
         match shown {
             Shown::Header => self.reply(),
@@ -247,10 +249,6 @@ impl Machine for ListRequest {
 
     fn reason(&self) -> Reason {
         Reason::Own
-    }
-
-    fn event(&self, _alloc: Global) -> Result<Option<Event>, NoMemory> {
-        Ok(None)
     }
 
     fn ready(&mut self, _alloc: Global, fed: &Fed) -> Result<(), NoMemory> {

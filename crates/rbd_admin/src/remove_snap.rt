@@ -1,11 +1,10 @@
 //! A snapshot that is removed, behind its event.
 ghost use Rattle.std.specs.Prelude.{◌≡◌, Contains, Some, IfOk};
 ghost use Rattle.rbd_kinds.specs.declared.header_op.HeaderOp.TheVariants as header;
-ghost use Rattle.rbd_kinds.specs.declared.machine.Fed.TheVariants as fed_with;
 ghost use Rattle.rbd_kinds.specs.declared.map_op.MapOp.TheVariants as states;
 ghost use Rattle.rbd_kinds.specs.declared.operation.Op.TheVariants as on;
-ghost use Rattle.rbd_machine.specs.Plan.{Plan, Wants, Asks, plan_after};
-ghost use Rattle.rbd_machine.specs.Steps.{Progresses};
+ghost use Rattle.rbd_machine.specs.Plan.{Plan, Wants, Asks};
+ghost use Rattle.rbd_machine.specs.Steps.{ProgressesBy};
 ghost use Rattle.rbd_admin.specs.Snap.{removing};
 ghost use Rattle.rbd_admin.specs.SnapParts.{TellsRemoving, rest_of_removing};
 
@@ -83,7 +82,7 @@ impl RemoveSnap {
     /// Goes on with an answer. It needs no memory for one.
     pub fn feed(&mut self, answer: &Answer) -> Progress<()>
         requires { TellsRemoving self.old.stage answer.now }
-        ensures { (next : Plan) → Progresses next (plan_after (rest_of_removing self.old next) (fed_with.Answer answer.now)) result (rest_of_removing self.new next) }
+        ensures { ProgressesBy rest_of_removing answer.now result self.old self.new }
     {
         match &self.stage {
             Stage::Removing => match told_done(answer) {

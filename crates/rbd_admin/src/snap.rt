@@ -12,7 +12,7 @@ use crate::take_snap::TakeSnap;
 use rbd_change::{Change, ChangeRequest, Part};
 use rbd_header::is_full;
 use rbd_kinds::{
-    Answer, Command, Event, HeaderView, ImageId, Name, NoMemory, Op, Refusal, SiteId, SnapStatus,
+    Answer, Command, HeaderView, ImageId, Name, NoMemory, Op, Refusal, SiteId, SnapStatus,
     TryClone, Want,
 };
 use rbd_machine::{Progress, Refuses, non_primary};
@@ -87,14 +87,6 @@ impl Change for SnapChange {
         }
     }
 
-    fn event(&self) -> Result<Event, NoMemory> {
-        let name = self.snap.try_clone()?;
-        Ok(match self.kind {
-            ChangeKind::Create => Event::SnapCreate { name },
-            ChangeKind::Remove => Event::SnapRemove { name },
-        })
-    }
-
     fn part(
         &self,
         _alloc: Global,
@@ -136,7 +128,9 @@ impl Refuses for SnapChange {
 /// Why no snapshot of a name may be taken of an image that clients change: SnapExists where the
 /// name is listed, BadShape where no more snapshots can be.
 fn create_refusal(snap: &Name, header: &HeaderView) -> Option<Refusal>
-    ensures { result ≡ (if is_some (snap_named header.now.snaps snap.now) then Some Refusal.SnapExists else if lists_all header.now then Some Refusal.BadShape else None) }
+    ensures { result
+        ≡ (if is_some (snap_named header.now.snaps snap.now) then Some Refusal.SnapExists
+        else if lists_all header.now then Some Refusal.BadShape else None) }
 {
     if header.named(snap).is_some() {
         return Some(Refusal::SnapExists);

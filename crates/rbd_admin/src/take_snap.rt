@@ -1,12 +1,11 @@
 //! A snapshot that is taken, behind its event.
 ghost use Rattle.std.specs.Prelude.{◌≡◌, ◌+◌, false, Some, IfOk, OnOk};
 ghost use Rattle.rbd_kinds.specs.declared.header_op.HeaderOp.TheVariants as header;
-ghost use Rattle.rbd_kinds.specs.declared.machine.Fed.TheVariants as fed_with;
 ghost use Rattle.rbd_kinds.specs.declared.map_op.MapOp.TheVariants as states;
 ghost use Rattle.rbd_kinds.specs.declared.operation.Op.TheVariants as on;
 ghost use Rattle.rbd_header.specs.Header.{is_full as lists_all};
-ghost use Rattle.rbd_machine.specs.Plan.{Plan, Wants, Asks, plan_after};
-ghost use Rattle.rbd_machine.specs.Steps.{Progresses};
+ghost use Rattle.rbd_machine.specs.Plan.{Plan, Wants, Asks};
+ghost use Rattle.rbd_machine.specs.Steps.{ProgressesBy};
 ghost use Rattle.rbd_admin.specs.Snap.{copying};
 ghost use Rattle.rbd_admin.specs.SnapParts.{HasBits, HasBitsAt, TellsTaking, rest_of_taking};
 
@@ -107,7 +106,7 @@ impl TakeSnap {
     pub fn feed(&mut self, answer: &Answer) -> Progress<()>
         requires tells { TellsTaking self.old.stage answer.now }
         requires ready { HasBits self.old answer.now }
-        ensures { (next : Plan) → Progresses next (plan_after (rest_of_taking self.old next) (fed_with.Answer answer.now)) result (rest_of_taking self.new next) }
+        ensures { ProgressesBy rest_of_taking answer.now result self.old self.new }
     {
         match &self.stage {
             Stage::Copying => match self.readied.take() {

@@ -30,7 +30,8 @@ in_turn rest number (p ∷ pieces) next = Await (wait.Turn (number p)) (rest p (
 
 -- By what a change refuses, its event, the plan from its event on, what is left of a piece, and the
 -- number of its object.
-module _ {C P : Type 0} (refuses : C → HeaderView → Option Refusal) (noted : C → Event) (does : C → SiteId → (image : ℕ) → HeaderView → Plan) (rest : P → (next : Plan) → Plan) (number : P → ℕ) where
+module _ {C P : Type 0} (refuses : C → HeaderView → Option Refusal) (noted : C → Event)
+    (does : C → SiteId → (image : ℕ) → HeaderView → Plan) (rest : P → (next : Plan) → Plan) (number : P → ℕ) where
   -- the pieces that are left, and then the event counts as applied
   abbrev pub left : ExtentRequest C P → (image : ℕ) → Plan
   left r image = in_turn rest number r.pieces.items (applied r.site image)
@@ -52,7 +53,8 @@ module _ {C P : Type 0} (refuses : C → HeaderView → Option Refusal) (noted :
   -- ---- the memory that an answer needs: at the look under the lock, the pieces
 
   abbrev pub HasPieces : ExtentRequest C P → HeaderView → Type 0
-  HasPieces r h = (image : ℕ) → owning_in r.stage ≡ Some image → refuses r.change h ≡ None → noting r image ≡ does r.change r.site image h
+  HasPieces r h = (image : ℕ)
+      → owning_in r.stage ≡ Some image → refuses r.change h ≡ None → noting r image ≡ does r.change r.site image h
 
   abbrev pub IsReadyAt : (is_ready : P → Answer → Type 0) → Stage P → ExtentRequest C P → Answer → Type 0
   IsReadyAt is_ready (stage.Approaching way) r (answer.Header h) = HasPieces r h

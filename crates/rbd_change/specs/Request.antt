@@ -28,7 +28,8 @@ rest_of_some rest None next = next
 rest_of_some rest (Some part) next = rest part next
 
 -- By what a change refuses, its event, the plan from its event on, and what is left of its part.
-module _ {C P : Type 0} (refuses : C → HeaderView → Option Refusal) (noted : C → Event) (does : C → SiteId → (image : ℕ) → HeaderView → Plan) (rest : P → (next : Plan) → Plan) where
+module _ {C P : Type 0} (refuses : C → HeaderView → Option Refusal) (noted : C → Event)
+    (does : C → SiteId → (image : ℕ) → HeaderView → Plan) (rest : P → (next : Plan) → Plan) where
   -- its event is noted, then its part is done, and then the event counts as applied
   abbrev pub noting : ChangeRequest C P → (image : ℕ) → Plan
   noting r image = Note r.site image (noted r.change) (rest_of_some rest r.part (applied r.site image))
@@ -46,7 +47,8 @@ module _ {C P : Type 0} (refuses : C → HeaderView → Option Refusal) (noted :
   -- ---- the memory that an answer needs: at the look under the lock, the part
 
   abbrev pub HasPart : ChangeRequest C P → HeaderView → Type 0
-  HasPart r h = (image : ℕ) → owning_in r.stage ≡ Some image → refuses r.change h ≡ None → noting r image ≡ does r.change r.site image h
+  HasPart r h = (image : ℕ)
+      → owning_in r.stage ≡ Some image → refuses r.change h ≡ None → noting r image ≡ does r.change r.site image h
 
   abbrev pub IsReadyAt : (is_ready : P → Answer → Type 0) → Stage P → ChangeRequest C P → Answer → Type 0
   IsReadyAt is_ready (stage.Approaching way) r (answer.Header h) = HasPart r h

@@ -9,7 +9,7 @@ ghost use Rattle.rbd_machine.specs.Plan.{Plan, Note};
 ghost use Rattle.rbd_machine.specs.Steps.{applied, change};
 
 use crate::part::Part;
-use rbd_kinds::{Command, Event, HeaderView, ImageId, Name, NoMemory, Sharing, SiteId};
+use rbd_kinds::{Command, HeaderView, ImageId, Name, NoMemory, Sharing, SiteId};
 use rbd_machine::Refuses;
 use std::alloc::Global;
 
@@ -34,11 +34,8 @@ pub trait Change: Refuses + Drop {
     /// What a command asks for: the name of the image, and the change. It takes no memory.
     fn from_command(command: Command) -> (Name, Self)
         requires { serves command ≡ true }
-        ensures { (site : SiteId) → change site result.0 Sharing.Alone (Self.refuses result.1) (does result.1 site) ≡ plan site command };
-
-    /// Its event.
-    fn event(&self) -> Result<Event, NoMemory>
-        ensures { IfOk result (λ event. event ≡ noted self.now) };
+        ensures { (site : SiteId)
+            → change site result.0 Sharing.Alone (Self.refuses result.1) (does result.1 site) ≡ plan site command };
 
     /// What is done behind the event, by a header that it doesn't refuse.
     fn part(
@@ -50,5 +47,6 @@ pub trait Change: Refuses + Drop {
     ) -> Result<Self::Part, NoMemory>
         requires form { IsHeaderInForm header.now }
         requires may { Self.refuses self.now header.now ≡ None }
-        ensures { IfOk result (λ part. Note site image (noted self.now) (Self.Part.rest part (applied site image)) ≡ does self.now site image header.now) };
+        ensures { IfOk result (λ part. Note site image (noted self.now) (Self.Part.rest part (applied site image))
+            ≡ does self.now site image header.now) };
 }

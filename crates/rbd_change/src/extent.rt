@@ -9,7 +9,7 @@ ghost use Rattle.rbd_machine.specs.Steps.{applied};
 ghost use Rattle.rbd_change.specs.Extent.{in_turn};
 
 use crate::piece::Piece;
-use rbd_kinds::{Event, HeaderView, ImageId, NoMemory, SiteId};
+use rbd_kinds::{HeaderView, ImageId, NoMemory, SiteId};
 use rbd_machine::Refuses;
 use std::alloc::Global;
 use std::collections::VecDeque;
@@ -26,10 +26,6 @@ pub trait ExtentChange: Refuses + Drop {
     /// The plan from its event on, by the header of its look under the lock.
     ghost does: { Self → SiteId → (image : ℕ) → HeaderView → Plan };
 
-    /// Its event.
-    fn event(&self) -> Result<Event, NoMemory>
-        ensures { IfOk result (λ event. event ≡ noted self.now) };
-
     /// What is done behind the event, piece by piece, by a header that it doesn't refuse.
     fn pieces(
         &self,
@@ -40,5 +36,7 @@ pub trait ExtentChange: Refuses + Drop {
     ) -> Result<VecDeque<Self::Piece>, NoMemory>
         requires form { IsHeaderInForm header.now }
         requires may { Self.refuses self.now header.now ≡ None }
-        ensures { IfOk result (λ made. Note site image (noted self.now) (in_turn Self.Piece.rest Self.Piece.number made.items (applied site image)) ≡ does self.now site image header.now) };
+        ensures { IfOk result (λ made. Note site image (noted self.now)
+            (in_turn Self.Piece.rest Self.Piece.number made.items (applied site image))
+            ≡ does self.now site image header.now) };
 }

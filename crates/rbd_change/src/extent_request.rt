@@ -11,9 +11,7 @@ ghost use Rattle.rbd_change.specs.Extent.{in_turn, rest_of_extent, owning_in, Is
 use crate::extent::ExtentChange;
 use crate::part::Part;
 use crate::piece::Piece;
-use rbd_kinds::{
-    Answer, Event, Fed, ImageId, Name, NoMemory, Op, Reply, Sharing, SiteId, Turn, Want,
-};
+use rbd_kinds::{Answer, Fed, ImageId, Name, NoMemory, Op, Reply, Sharing, SiteId, Turn, Want};
 use rbd_machine::{Approach, Machine, Progress, Reason};
 use std::alloc::Global;
 use std::collections::VecDeque;
@@ -64,7 +62,8 @@ impl<C: ExtentChange> ExtentRequest<C, C::Piece> {
     /// A change of the image of a name at a site, beside others in the image's line. It takes no
     /// memory.
     pub fn new(alloc: Global, home: SiteId, image: Name, sharing: Sharing, change: C) -> Self
-        ensures { rest_of_extent C.refuses C.noted C.does C.Piece.rest C.Piece.number result ≡ steps.change home image sharing (C.refuses change) (C.does change home) }
+        ensures { rest_of_extent C.refuses C.noted C.does C.Piece.rest C.Piece.number result
+            ≡ steps.change home image sharing (C.refuses change) (C.does change home) }
     {
         ExtentRequest {
             site: home,
@@ -87,9 +86,12 @@ impl<C: ExtentChange> ExtentRequest<C, C::Piece> {
     /// Takes the memory for its look under the lock: there its pieces are made.
     fn ready_pieces(&mut self, alloc: Global, answer: &Answer) -> Result<(), NoMemory>
         requires at { IsApproaching self.old.stage }
-        requires can { CanBeFed (rest_of_extent C.refuses C.noted C.does C.Piece.rest C.Piece.number self.old) (fed_with.Answer answer.now) }
-        ensures rest { rest_of_extent C.refuses C.noted C.does C.Piece.rest C.Piece.number self.new ≡ rest_of_extent C.refuses C.noted C.does C.Piece.rest C.Piece.number self.old }
-        ensures ready { OnOk result (IsReady C.refuses C.noted C.does C.Piece.rest C.Piece.number C.Piece.is_ready self.new answer.now) }
+        requires can { CanBeFed (rest_of_extent C.refuses C.noted C.does C.Piece.rest C.Piece.number self.old)
+            (fed_with.Answer answer.now) }
+        ensures rest { rest_of_extent C.refuses C.noted C.does C.Piece.rest C.Piece.number self.new
+            ≡ rest_of_extent C.refuses C.noted C.does C.Piece.rest C.Piece.number self.old }
+        ensures ready { OnOk result
+            (IsReady C.refuses C.noted C.does C.Piece.rest C.Piece.number C.Piece.is_ready self.new answer.now) }
     {
         let Some(image) = self.owning() else {
             return Ok(());
@@ -107,14 +109,16 @@ impl<C: ExtentChange> ExtentRequest<C, C::Piece> {
 
     /// Puts pieces beside the stage. What stood there is let go by a call, and not in place.
     fn keep(&mut self, pieces: VecDeque<C::Piece>)
-        ensures { self.new ≡ record { site = self.old.site; change = self.old.change; stage = self.old.stage; pieces = pieces } }
+        ensures { self.new
+            ≡ record { site = self.old.site; change = self.old.change; stage = self.old.stage; pieces = pieces } }
     {
         drop(replace(&mut self.pieces, pieces));
     }
 
     /// Goes on to a stage, and lets the old one go.
     fn go_to(&mut self, stage: Stage<C::Piece>)
-        ensures { self.new ≡ record { site = self.old.site; change = self.old.change; stage = stage; pieces = self.old.pieces } }
+        ensures { self.new
+            ≡ record { site = self.old.site; change = self.old.change; stage = stage; pieces = self.old.pieces } }
     {
         drop(replace(&mut self.stage, stage));
     }
@@ -123,8 +127,11 @@ impl<C: ExtentChange> ExtentRequest<C, C::Piece> {
     fn approach(&mut self, fed: &Fed) -> Turn
         requires at { IsApproaching self.old.stage }
         requires can { CanBeFed (rest_of_extent C.refuses C.noted C.does C.Piece.rest C.Piece.number self.old) fed.now }
-        requires ready { IsReadyFor (IsReady C.refuses C.noted C.does C.Piece.rest C.Piece.number C.Piece.is_ready self.old) fed.now }
-        ensures { GoesOn Goto (plan_after (rest_of_extent C.refuses C.noted C.does C.Piece.rest C.Piece.number self.old) fed.now) result
+        requires ready { IsReadyFor
+            (IsReady C.refuses C.noted C.does C.Piece.rest C.Piece.number C.Piece.is_ready self.old) fed.now }
+        ensures { GoesOn Goto
+            (plan_after (rest_of_extent C.refuses C.noted C.does C.Piece.rest C.Piece.number self.old) fed.now)
+            result
             (without_labels (rest_of_extent C.refuses C.noted C.does C.Piece.rest C.Piece.number self.new)) }
     {
         let Stage::Approaching(way) = &mut self.stage else {
@@ -142,7 +149,9 @@ impl<C: ExtentChange> ExtentRequest<C, C::Piece> {
 
     /// Goes on with the next piece, whose turn comes first, or behind the last.
     fn next_piece(&mut self, image: ImageId) -> Turn
-        ensures { GoesOn Goto (in_turn C.Piece.rest C.Piece.number self.old.pieces.items (applied self.old.site image)) result
+        ensures { GoesOn Goto
+            (in_turn C.Piece.rest C.Piece.number self.old.pieces.items (applied self.old.site image))
+            result
             (without_labels (rest_of_extent C.refuses C.noted C.does C.Piece.rest C.Piece.number self.new)) }
     {
         match self.pieces.pop_front() {
@@ -203,13 +212,6 @@ impl<C: ExtentChange> Machine for ExtentRequest<C, C::Piece> {
 
     fn reason(&self) -> Reason {
         Reason::Own
-    }
-
-    fn event(&self, _alloc: Global) -> Result<Option<Event>, NoMemory> {
-        match &self.stage {
-            Stage::Noting(_) => Ok(Some(self.change.event()?)),
-            _ => Ok(None),
-        }
     }
 
     fn ready(&mut self, alloc: Global, fed: &Fed) -> Result<(), NoMemory> {

@@ -14,7 +14,6 @@
 //! request.ready(alloc, &header)?    // its look under the lock: `SizeChange` makes the `NewSize`
 //! request.feed(&header)             // More
 //! request.wants()                   // its event noted in the journal of image 7
-//! request.event(alloc)?             // Resize, of `SizeChange`
 //! request.feed(&Fed::Passed)        // More
 //! request.wants()                   // the operation of its `NewSize`, of the kind map-resize
 //! request.feed(&done)               // More, up to the last answer of the `NewSize`
@@ -39,7 +38,7 @@
 //! Approaching      `refusal`: why it is refused, at both looks
 //!    │ under lock  `part`: what is done behind the     `pieces`: what is done to each object;
 //!    │             event; made by this header          made by this header
-//! Noting           `event`
+//! Noting
 //!    │
 //! Acting           the part: `wants`, `next`,          of each piece its turn at its `object`, and
 //!    │             `ready` and `feed`                  then the piece, as a part

@@ -3,8 +3,8 @@ ghost use Rattle.std.specs.Prelude.{◌≡◌, IfOk, OnOk};
 ghost use Rattle.rbd_kinds.specs.declared.answer.Answer.{Answer};
 ghost use Rattle.rbd_kinds.specs.declared.machine.Fed.TheVariants as fed_with;
 ghost use Rattle.rbd_machine.specs.Answers.{CanBeFed};
-ghost use Rattle.rbd_machine.specs.Plan.{Plan, Wants, Asks, plan_after};
-ghost use Rattle.rbd_machine.specs.Steps.{Progresses};
+ghost use Rattle.rbd_machine.specs.Plan.{Plan, Wants, Asks};
+ghost use Rattle.rbd_machine.specs.Steps.{ProgressesBy};
 ghost use Rattle.rbd_change.specs.Part.{AsksByItself};
 
 use rbd_kinds::{Answer, NoMemory, Op, Want};
@@ -40,11 +40,12 @@ pub trait Part: Drop {
     fn feed(&mut self, answer: &Answer) -> Progress<()>
         requires tells { tells self.old answer.now }
         requires ready { is_ready self.old answer.now }
-        ensures { (next : Plan) → Progresses next (plan_after (rest self.old next) (fed_with.Answer answer.now)) result (rest self.new next) };
+        ensures { ProgressesBy rest answer.now result self.old self.new };
 
     /// As long as it hasn't ended it wants an operation, which is a step of the request's own.
     ghost asks: { (part : Self) (next : Plan) → AsksByItself (rest part next) };
 
     /// It can go on by each answer that its operation can be given.
-    ghost told: { (part : Self) (next : Plan) (answer : Answer) → CanBeFed (rest part next) (fed_with.Answer answer) → tells part answer };
+    ghost told: { (part : Self) (next : Plan) (answer : Answer)
+        → CanBeFed (rest part next) (fed_with.Answer answer) → tells part answer };
 }

@@ -9,9 +9,7 @@ ghost use Rattle.rbd_change.specs.Request.{rest_of_change, rest_of_some, owning_
 
 use crate::change::Change;
 use crate::part::Part;
-use rbd_kinds::{
-    Answer, Command, Event, Fed, ImageId, NoMemory, Op, Reply, Sharing, SiteId, Turn, Want,
-};
+use rbd_kinds::{Answer, Command, Fed, ImageId, NoMemory, Op, Reply, Sharing, SiteId, Turn, Want};
 use rbd_machine::{Approach, Machine, Progress, Reason};
 use std::alloc::Global;
 use std::mem::replace;
@@ -78,8 +76,10 @@ impl<C: Change> ChangeRequest<C, C::Part> {
     /// Takes the memory for its look under the lock: there its part is made.
     fn ready_part(&mut self, alloc: Global, answer: &Answer) -> Result<(), NoMemory>
         requires at { IsApproaching self.old.stage }
-        requires can { CanBeFed (rest_of_change C.refuses C.noted C.does C.Part.rest self.old) (fed_with.Answer answer.now) }
-        ensures rest { rest_of_change C.refuses C.noted C.does C.Part.rest self.new ≡ rest_of_change C.refuses C.noted C.does C.Part.rest self.old }
+        requires can { CanBeFed (rest_of_change C.refuses C.noted C.does C.Part.rest self.old)
+            (fed_with.Answer answer.now) }
+        ensures rest { rest_of_change C.refuses C.noted C.does C.Part.rest self.new
+            ≡ rest_of_change C.refuses C.noted C.does C.Part.rest self.old }
         ensures ready { OnOk result (IsReady C.refuses C.noted C.does C.Part.rest C.Part.is_ready self.new answer.now) }
     {
         let Some(image) = self.owning() else {
@@ -98,14 +98,16 @@ impl<C: Change> ChangeRequest<C, C::Part> {
 
     /// Puts a part beside the stage. What stood there is let go by a call, and not in place.
     fn keep(&mut self, part: C::Part)
-        ensures { self.new ≡ record { site = self.old.site; change = self.old.change; stage = self.old.stage; part = Some part } }
+        ensures { self.new
+            ≡ record { site = self.old.site; change = self.old.change; stage = self.old.stage; part = Some part } }
     {
         drop(replace(&mut self.part, Some(part)));
     }
 
     /// Goes on to a stage, and lets the old one go.
     fn go_to(&mut self, stage: Stage<C::Part>)
-        ensures { self.new ≡ record { site = self.old.site; change = self.old.change; stage = stage; part = self.old.part } }
+        ensures { self.new
+            ≡ record { site = self.old.site; change = self.old.change; stage = stage; part = self.old.part } }
     {
         drop(replace(&mut self.stage, stage));
     }
@@ -176,13 +178,6 @@ impl<C: Change> Machine for ChangeRequest<C, C::Part> {
 
     fn reason(&self) -> Reason {
         Reason::Own
-    }
-
-    fn event(&self, _alloc: Global) -> Result<Option<Event>, NoMemory> {
-        match &self.stage {
-            Stage::Noting(_) => Ok(Some(self.change.event()?)),
-            _ => Ok(None),
-        }
     }
 
     fn ready(&mut self, alloc: Global, fed: &Fed) -> Result<(), NoMemory> {

@@ -66,4 +66,5 @@ pub record IsDropBehind (site : SiteId) (name : List ℕ) (first second : Answer
 -- the last was a drop that found the lock to be another's, or the notice of one that was done
 abbrev pub IsBehindLettingGo : SiteId → (image : ℕ) → (before : List Answered) → Type 0
 IsBehindLettingGo site image before =
-    EndsWith (answered site (lock_drop image) answer.Changed) before ⊎ EndsWith (answered site (released_lock image) answer.Done) before
+    EndsWith (answered site (lock_drop image) answer.Changed) before
+    ⊎ EndsWith (answered site (released_lock image) answer.Done) before

@@ -40,7 +40,8 @@ pub fn plans_are_short()
 /// of their look-up, and wait there; a `resume` and a `tell` wait for nothing. None takes turns at
 /// objects.
 pub fn requests_are_orderly()
-    ensures { (home : SiteId) (command : Command) → IsOrderlyFrom None true beginning (without_labels (close_plan home command)) }
+    ensures { (home : SiteId) (command : Command)
+        → IsOrderlyFrom None true beginning (without_labels (close_plan home command)) }
 {}
 
 /// They are lawful from nothing known. So a close drops a lock only where it waited for it, alone,
@@ -60,12 +61,14 @@ pub fn closes_let_go()
 /// Wherever a close stands or ends, from its drop on the session counts the lock as let go,
 /// whatever the drop was answered. Up to there it counts as before.
 pub fn closes_count_as_released()
-    ensures dropped { (site : SiteId) (name : List ℕ) (owned : Bool) (feds : List Fed) (before after : List Answered) (image : ℕ) (a : Answer) (last : Plan)
+    ensures dropped { (site : SiteId) (name : List ℕ) (owned : Bool) (feds : List Fed) (before after : List Answered)
+        (image : ℕ) (a : Answer) (last : Plan)
         → IsWalk Goto (close site name) feds (before ++ answered site (lock_drop image) a ∷ after) last
         → owned_by owned (before ++ answered site (lock_drop image) a ∷ after) ≡ false }
     ensures found { (site : SiteId) (name : List ℕ) (owned : Bool) (feds : List Fed) (first : Answered) (last : Plan)
         → IsWalk Goto (close site name) feds (first ∷ []) last → owned_by owned (first ∷ []) ≡ owned }
-    ensures second { (site : SiteId) (name : List ℕ) (feds : List Fed) (first second : Answered) (more : List Answered) (last : Plan)
+    ensures second { (site : SiteId) (name : List ℕ) (feds : List Fed) (first second : Answered)
+        (more : List Answered) (last : Plan)
         → IsWalk Goto (close site name) feds (first ∷ second ∷ more) last → IsDropBehind site name first second }
 {}
 
@@ -73,10 +76,12 @@ pub fn closes_count_as_released()
 /// behind a drop that was done; and it has let the watch go only directly behind that notice, once
 /// it was done, or behind a drop that was `changed`.
 pub fn closes_are_in_order()
-    ensures told { (site : SiteId) (name : List ℕ) (feds : List Fed) (before after : List Answered) (image : ℕ) (kind : NoticeKind) (a : Answer) (last : Plan)
+    ensures told { (site : SiteId) (name : List ℕ) (feds : List Fed) (before after : List Answered) (image : ℕ)
+        (kind : NoticeKind) (a : Answer) (last : Plan)
         → IsWalk Goto (close site name) feds (before ++ answered site (notify image kind) a ∷ after) last
         → (kind ≡ ReleasedLock) × EndsWith (answered site (lock_drop image) DoneSo) before }
-    ensures unwatched { (site : SiteId) (name : List ℕ) (feds : List Fed) (before after : List Answered) (image : ℕ) (a : Answer) (last : Plan)
+    ensures unwatched { (site : SiteId) (name : List ℕ) (feds : List Fed) (before after : List Answered) (image : ℕ)
+        (a : Answer) (last : Plan)
         → IsWalk Goto (close site name) feds (before ++ answered site (unwatch image) a ∷ after) last
         → IsBehindLettingGo site image before }
 {}
@@ -84,11 +89,14 @@ pub fn closes_are_in_order()
 /// A `quiesce`, a `resume` and a `tell` neither take a lock nor drop one by an operation of their
 /// own: wherever one stands or ends, the lock counts as before.
 pub fn others_leave_the_lock()
-    ensures quiesce { (site : SiteId) (name : List ℕ) (owned : Bool) (feds : List Fed) (steps : List Answered) (last : Plan)
+    ensures quiesce { (site : SiteId) (name : List ℕ) (owned : Bool) (feds : List Fed)
+        (steps : List Answered) (last : Plan)
         → IsWalk Goto (quiesce site name) feds steps last → owned_by owned steps ≡ owned }
-    ensures resume { (site : SiteId) (name : List ℕ) (owned : Bool) (feds : List Fed) (steps : List Answered) (last : Plan)
+    ensures resume { (site : SiteId) (name : List ℕ) (owned : Bool) (feds : List Fed)
+        (steps : List Answered) (last : Plan)
         → IsWalk Goto (resume site name) feds steps last → owned_by owned steps ≡ owned }
-    ensures tell { (site : SiteId) (name bytes : List ℕ) (owned : Bool) (feds : List Fed) (steps : List Answered) (last : Plan)
+    ensures tell { (site : SiteId) (name bytes : List ℕ) (owned : Bool) (feds : List Fed)
+        (steps : List Answered) (last : Plan)
         → IsWalk Goto (tell site name bytes) feds steps last → owned_by owned steps ≡ owned }
 {}
 
@@ -97,6 +105,7 @@ pub fn others_leave_the_lock()
 /// refused, and when it is, the last answer refused it, and none before. A `close` may be refused
 /// behind its drop, the others only where they changed nothing. No other reply comes.
 pub fn replies_are_meant()
-    ensures { (seat : Seat) (command : Command) (feds : List Fed) (steps : List Answered) (reply : Reply) → is_close command ≡ true → AreGiven steps
+    ensures { (seat : Seat) (command : Command) (feds : List Fed) (steps : List Answered) (reply : Reply)
+        → is_close command ≡ true → AreGiven steps
         → IsWalk Goto (close_plan seat.home command) feds steps (Return reply) → IsMeantBy seat command steps reply }
 {}

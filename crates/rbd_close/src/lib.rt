@@ -34,12 +34,12 @@
 //!   answered `changed`, the lock is another's or nobody's, and then there is nothing to tell, but
 //!   the watch still ends. Whatever the `lock-drop` is answered, the session counts the lock as let
 //!   go from then on (`rbd_owner`), an asking as answered, and a quiesce as ended (own).
-//! - **`quiesce`** (Ceph: a client of librbd quiesces its writes for a snapshot; that a session does
-//!   so by a command, for its own requests alone, is own) goes the way of a change to its look under
-//!   the lock ([`Approach`](rbd_machine::Approach)), and refuses nothing by the header: a secondary
-//!   may be quiesced. The session counts the image as quiesced from that look on.
-//! - **`resume`** joins no line, since the requests in it wait for it. It ends the
-//!   quiesce of its own session alone, and is done without one, too (own).
+//! - **`quiesce`** (Ceph: a client of librbd quiesces its writes for a snapshot; that a session
+//!   does so by a command, for its own requests alone, is own) goes the way of a change to its look
+//!   under the lock ([`Approach`](rbd_machine::Approach)), and refuses nothing by the header: a
+//!   secondary may be quiesced. The session counts the image as quiesced from that look on.
+//! - **`resume`** joins no line, since the requests in it wait for it. It ends the quiesce of its
+//!   own session alone, and is done without one, too (own).
 //! - **`tell`** needs neither lock nor line (Ceph: a notification on the header object, as librbd
 //!   sends them; what it says is the client's own). The notice goes to each watcher but the sender,
 //!   and may come late, never, or several times.

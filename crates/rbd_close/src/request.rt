@@ -8,8 +8,8 @@ ghost use Rattle.rbd_close.specs.Close.{is_close, close_plan, on_found, rest_of_
 
 use crate::operations::{lock_drop, notify, notify_bytes, unwatch};
 use rbd_kinds::{
-    Answer, Command, Event, Fed, HeaderView, ImageId, Name, NoMemory, NoticeKind, Op, OpKind,
-    Payload, Refusal, Reply, Sharing, SiteId, Turn, Want,
+    Answer, Command, Fed, HeaderView, ImageId, Name, NoMemory, NoticeKind, Op, OpKind, Payload,
+    Refusal, Reply, Sharing, SiteId, Turn, Want,
 };
 use rbd_machine::{
     Approach, Machine, Progress, Reason, Refuses, dir_find, refusal_of, told_done, told_image,
@@ -128,7 +128,8 @@ impl CloseRequest {
     fn answer(&mut self, answer: &Answer) -> Turn
         requires at { IsStraight self.old.stage }
         requires can { CanBeFed (rest_of_request self.old) (fed_with.Answer answer.now) }
-        ensures { GoesOn Goto (plan_after (rest_of_request self.old) (fed_with.Answer answer.now)) result (without_labels (rest_of_request self.new)) }
+        ensures { GoesOn Goto (plan_after (rest_of_request self.old) (fed_with.Answer answer.now)) result
+            (without_labels (rest_of_request self.new)) }
     {
         match &self.stage {
             Stage::Finding(_, _) => match told_image(answer) {
@@ -156,7 +157,8 @@ impl CloseRequest {
     /// Goes on with the image of its name.
     fn found(&mut self, image: ImageId) -> Turn
         requires { IsFinding self.old.stage }
-        ensures { GoesOn Goto (on_found self.old.stage self.old.site image) result (without_labels (rest_of_request self.new)) }
+        ensures { GoesOn Goto (on_found self.old.stage self.old.site image) result
+            (without_labels (rest_of_request self.new)) }
     {
         // (a close is at its next stage at once, and the others leave it)
         let Stage::Finding(_, purpose) = replace(&mut self.stage, Stage::Joining(image)) else {
@@ -217,10 +219,6 @@ impl Machine for CloseRequest {
 
     fn reason(&self) -> Reason {
         Reason::Own
-    }
-
-    fn event(&self, _alloc: Global) -> Result<Option<Event>, NoMemory> {
-        Ok(None)
     }
 
     fn ready(&mut self, _alloc: Global, _fed: &Fed) -> Result<(), NoMemory> {

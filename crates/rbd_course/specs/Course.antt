@@ -83,11 +83,13 @@ due_of None objects = []
 due_of (Some p) objects = if p.alone then [] else objects
 
 abbrev pub looked : Option Extent → HeaderView → Course → Course
-looked e h c = record { place = past c.place; turn = c.turn; due = due_of c.place (objects_asked h e); objects = c.objects }
+looked e h c =
+    record { place = past c.place; turn = c.turn; due = due_of c.place (objects_asked h e); objects = c.objects }
 
 -- after an operation and its answer, of a request that changes an extent or none
 abbrev pub answered : Option Extent → Course → SiteId → Op → Answer → Course
-answered e c site (op.Header image header.Get) (answer.Header h) = if is_own_at site image c.place then looked e h c else c
+answered e c site (op.Header image header.Get) (answer.Header h) =
+    if is_own_at site image c.place then looked e h c else c
 answered e c site o a = c
 
 -- ---- what it waits for
@@ -108,7 +110,8 @@ behind turn objects = objects
 
 -- A piece ends where the next turn is awaited, or that the event counts as applied.
 abbrev pub waited : Course → Wait → Course
-waited c (wait.Join site image sharing) = record c { place = Some (record { site = site; image = image; alone = is_alone sharing; stage = stage.Joined }) }
+waited c (wait.Join site image sharing) =
+    record c { place = Some (record { site = site; image = image; alone = is_alone sharing; stage = stage.Joined }) }
 waited c (wait.Hold site image) = record c { place = held c.place }
 waited c (wait.Turn object) = record c { turn = Some object; objects = behind c.turn c.objects }
 waited c (wait.Applied site image) = record c { turn = None; objects = behind c.turn c.objects }

@@ -35,7 +35,8 @@ MayWait fresh c (wait.Leave site image) = IsInLine site image c.place
 -- whose end it takes its tickets, stands directly behind its look under the lock. A label is gone
 -- to on the course that belongs there.
 abbrev pub IsOrderly : Option Extent → (at : Label → Course) → (fresh : Bool) → Course → Plan → Type 0
-IsOrderly e at fresh c (Ask site why op next) = (c.due ≡ []) × ((answer : Answer) → CanGive op answer → IsOrderly e at true (answered e c site op answer) (next answer))
+IsOrderly e at fresh c (Ask site why op next) = (c.due ≡ [])
+    × ((answer : Answer) → CanGive op answer → IsOrderly e at true (answered e c site op answer) (next answer))
 IsOrderly e at fresh c (Await wait next) = MayWait fresh c wait × IsOrderly e at false (waited c wait) next
 IsOrderly e at fresh c (Note site image event next) = IsInLine site image c.place × IsOrderly e at fresh (noted c) next
 IsOrderly e at fresh c (Return reply) = Unit {0}
@@ -47,4 +48,5 @@ pub record IsOrderlyFrom (e : Option Extent) (fresh : Bool) (c : Course) (s : St
   pub at : Label → Course
   pub orderly : IsOrderly e at fresh c s.plan
   pub closed : IsClosed s.labels s.plan
-  pub labels : (label : Label) → IsAsking (s.labels label) → IsOrderly e at true (at label) (s.labels label) × IsClosed s.labels (s.labels label)
+  pub labels : (label : Label) → IsAsking (s.labels label)
+      → IsOrderly e at true (at label) (s.labels label) × IsClosed s.labels (s.labels label)

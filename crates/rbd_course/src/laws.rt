@@ -16,13 +16,18 @@ ghost use Rattle.rbd_machine.specs.declared.reason.Reason.{Reason};
 /// An orderly request stays so, whatever it is fed: it goes on where it was to go on, on the course
 /// that it has there.
 pub fn orderly_requests_stay_orderly()
-    ensures answered { (e : Option Extent) (fresh : Bool) (c : Course) (labels : Label → Plan) (site : SiteId) (why : Reason) (op : Op) (next : Answer → Plan) (answer : Answer)
+    ensures answered { (e : Option Extent) (fresh : Bool) (c : Course) (labels : Label → Plan) (site : SiteId)
+        (why : Reason) (op : Op) (next : Answer → Plan) (answer : Answer)
         → CanGive op answer → IsOrderlyFrom e fresh c (record { labels = labels; plan = Ask site why op next })
-        → IsOrderlyFrom e true (answered e c site op answer) (record { labels = labels; plan = settled labels (next answer) }) }
+        → IsOrderlyFrom e true (answered e c site op answer)
+        (record { labels = labels; plan = settled labels (next answer) }) }
     ensures waited { (e : Option Extent) (fresh : Bool) (c : Course) (labels : Label → Plan) (wait : Wait) (next : Plan)
         → IsOrderlyFrom e fresh c (record { labels = labels; plan = Await wait next })
-        → MayWait fresh c wait × IsOrderlyFrom e false (waited c wait) (record { labels = labels; plan = settled labels next }) }
-    ensures noted { (e : Option Extent) (fresh : Bool) (c : Course) (labels : Label → Plan) (site : SiteId) (image : ℕ) (event : Event) (next : Plan)
+        → MayWait fresh c wait
+        × IsOrderlyFrom e false (waited c wait) (record { labels = labels; plan = settled labels next }) }
+    ensures noted { (e : Option Extent) (fresh : Bool) (c : Course) (labels : Label → Plan) (site : SiteId) (image : ℕ)
+        (event : Event) (next : Plan)
         → IsOrderlyFrom e fresh c (record { labels = labels; plan = Note site image event next })
-        → IsInLine site image c.place × IsOrderlyFrom e fresh (noted c) (record { labels = labels; plan = settled labels next }) }
+        → IsInLine site image c.place
+        × IsOrderlyFrom e fresh (noted c) (record { labels = labels; plan = settled labels next }) }
 {}

@@ -55,14 +55,18 @@ pub trait Request: Machine + Drop {
         ensures { result ≡ extent_for work.now };
 
     /// It keeps to its line, and takes its turns at the objects of its extent.
-    ghost orderly: { (seat : Seat) (work : Self.Work) (s : Standing) → serves work → stands_for seat work s → IsAsking s.plan
+    ghost orderly: { (seat : Seat) (work : Self.Work) (s : Standing)
+        → serves work → stands_for seat work s → IsAsking s.plan
         → IsOrderlyFrom (extent_for work) true beginning s };
 
     /// It does only what it may by what it knows.
-    ghost lawful: { (seat : Seat) (work : Self.Work) (s : Standing) → serves work → stands_for seat work s → IsLawfulRequest s };
+    ghost lawful: { (seat : Seat) (work : Self.Work) (s : Standing)
+        → serves work → stands_for seat work s → IsLawfulRequest s };
 
     /// Each reply to which a walk of it leads is meant, as long as no header that it is told has a
     /// parent or a journal.
-    ghost meant: { (seat : Seat) (work : Self.Work) (s : Standing) (feds : List Fed) (steps : List Answered) (reply : Reply)
-        → serves work → stands_for seat work s → AreGiven steps → TellAllStandalone steps → IsWalk s.labels s.plan feds steps (Return reply) → means seat work steps reply };
+    ghost meant: { (seat : Seat) (work : Self.Work) (s : Standing) (feds : List Fed) (steps : List Answered)
+        (reply : Reply)
+        → serves work → stands_for seat work s → AreGiven steps → TellAllStandalone steps
+        → IsWalk s.labels s.plan feds steps (Return reply) → means seat work steps reply };
 }

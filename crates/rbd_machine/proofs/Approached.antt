@@ -1,5 +1,5 @@
 -- What a change on its way to its look under the lock knows.
-use Rattle.std.proofs.Common.{◌≡◌, ℕ, Option, Some, None, refl, subst}
+use Rattle.std.proofs.Common.{◌≡◌, ℕ, Option, Some, refl, subst}
 use Rattle.rbd_kinds.specs.declared.answer.Answer.TheVariants as answer
 use Rattle.rbd_kinds.specs.declared.header.HeaderView.{HeaderView}
 use Rattle.rbd_kinds.specs.declared.machine.Fed.{Fed}
@@ -8,7 +8,7 @@ use Rattle.rbd_commands.specs.declared.refusal.Refusal.{Refusal}
 use Rattle.rbd_kinds.specs.Form.{IsHeaderInForm}
 use Rattle.rbd_machine.specs.Answers.{CanBeFed}
 use Rattle.rbd_machine.specs.Approach.{rest_from, rest_of, owning_at, IsAskingAt, CanBeFedAt}
-use Rattle.rbd_machine.specs.Plan.{Plan, Notes, AsksBy, IsAsking}
+use Rattle.rbd_machine.specs.Plan.{Plan, AsksBy, IsAsking}
 use Rattle.rbd_machine.specs.declared.approach.Approach.{Approach}
 use Rattle.rbd_machine.specs.declared.approach.Stage.{Stage}
 use Rattle.rbd_machine.specs.declared.approach.Stage.TheVariants as stage
@@ -28,14 +28,6 @@ owning_form a refuses act image h at can =
     (subst (λ p. CanBeFed (rest_from p a refuses act) (fed.Answer (answer.Header h))) (is_owning a.stage image at) can).form
 
 module _ (a : Approach) (refuses : HeaderView → Option Refusal) (act : ℕ → HeaderView → Plan) where
-  -- it notes no event on its way
-  pub approach_notes_nothing : (s : Stage) → Notes (rest_from s a refuses act) None
-  approach_notes_nothing stage.Finding = refl
-  approach_notes_nothing (stage.Joining i) = refl
-  approach_notes_nothing (stage.Looking i) = refl
-  approach_notes_nothing (stage.Holding i) = refl
-  approach_notes_nothing (stage.Owning i) = refl
-
   -- what it asks for is its own
   pub approach_asks_by_itself : (s : Stage) → AsksBy (rest_from s a refuses act) reason.Own
   approach_asks_by_itself stage.Finding = refl

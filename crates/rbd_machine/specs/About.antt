@@ -26,7 +26,8 @@ image_of _ = None
 
 abbrev pub AreOfImage : SiteId → (image : ℕ) → List Answered → Type 0
 AreOfImage site image [] = Unit {0}
-AreOfImage site image (step ∷ steps) = (step.site ≡ site) × (image_of step.op ≡ Some image) × AreOfImage site image steps
+AreOfImage site image (step ∷ steps) =
+    (step.site ≡ site) × (image_of step.op ≡ Some image) × AreOfImage site image steps
 
 -- the first told the image, and the others are of it
 pub record GoByImage (site : SiteId) (ask : Op) (first : Answered) (others : List Answered) : Type 0 where

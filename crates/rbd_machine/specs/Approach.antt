@@ -44,17 +44,20 @@ CanBeFedAt (stage.Owning image) name (fed.Answer a) = CanGive (op.Header image h
 CanBeFedAt _ name f = ⊥
 
 -- It is at its look under the lock, and was told a header that refuses nothing.
-pub record IsOwned (refuses : HeaderView → Option Refusal) (act : ℕ → HeaderView → Plan) (image : ℕ) (h : HeaderView) (to : Plan) (old : Approach) : Type 0 where
+pub record IsOwned (refuses : HeaderView → Option Refusal) (act : ℕ → HeaderView → Plan) (image : ℕ) (h : HeaderView)
+    (to : Plan) (old : Approach) : Type 0 where
   pub stage : old.stage ≡ stage.Owning image
   pub may : refuses h ≡ None
   pub acts : to ≡ act image h
 
-abbrev pub OwnedBy : (HeaderView → Option Refusal) → (act : ℕ → HeaderView → Plan) → (image : ℕ) → Fed → (to : Plan) → (old : Approach) → Type 0
+abbrev pub OwnedBy : (HeaderView → Option Refusal) → (act : ℕ → HeaderView → Plan) → (image : ℕ) → Fed → (to : Plan)
+    → (old : Approach) → Type 0
 OwnedBy refuses act image (fed.Answer (answer.Header h)) to old = IsOwned refuses act image h to old
 OwnedBy refuses act image _ to old = ⊥
 
 -- It went on, or has ended, or the change may do what it does.
-abbrev pub Approaches : (HeaderView → Option Refusal) → (act : ℕ → HeaderView → Plan) → Fed → (to : Plan) → Progress ℕ → (old new : Approach) → Type 0
+abbrev pub Approaches : (HeaderView → Option Refusal) → (act : ℕ → HeaderView → Plan) → Fed → (to : Plan) → Progress ℕ
+    → (old new : Approach) → Type 0
 Approaches refuses act f to progress.More old new = IsGoing to (rest_of new refuses act)
 Approaches refuses act f to (progress.Refused r) old new = to ≡ refused r
 Approaches refuses act f to (progress.Ended image) old new = OwnedBy refuses act image f to old

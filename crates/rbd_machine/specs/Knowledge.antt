@@ -98,7 +98,8 @@ pub record Knowledge : Type 0 where
   pub gone : List Place
 
 abbrev pub nothing_known : Knowledge
-nothing_known = record { alone = false; owns = []; turn = None; drawn = []; fenced = []; maps = []; objects = []; gone = [] }
+nothing_known =
+    record { alone = false; owns = []; turn = None; drawn = []; fenced = []; maps = []; objects = []; gone = [] }
 
 -- ---- where
 
@@ -188,7 +189,8 @@ abbrev pub without_drawn : SiteId → (image : ℕ) → Knowledge → Knowledge
 without_drawn site image k = record k { drawn = filter (λ d. not (is_at site image d.site d.image)) k.drawn }
 
 abbrev pub with_drawn : SiteId → (image : ℕ) → Knowledge → Knowledge
-with_drawn site image k = record k { drawn = record { site = site; image = image } ∷ k.drawn; maps = maps_told site image unmapped k.maps }
+with_drawn site image k =
+    record k { drawn = record { site = site; image = image } ∷ k.drawn; maps = maps_told site image unmapped k.maps }
 
 abbrev pub with_fence : SiteId → Instance → Knowledge → Knowledge
 with_fence site i k = record k { fenced = record { site = site; instance = i } ∷ k.fenced }
@@ -221,7 +223,8 @@ is_raised view object (m ∷ raised) = if is_mark view object m then true else i
 -- A state other than 0 is kept in mind, and one that is set to 0 forgotten.
 abbrev pub marked : Option ℕ → (object state : ℕ) → List Mark → List Mark
 marked view object state raised =
-    if state == 0 then filter (λ m. not (is_mark view object m)) raised else record { view = view; object = object } ∷ raised
+    if state == 0 then filter (λ m. not (is_mark view object m)) raised
+    else record { view = view; object = object } ∷ raised
 
 abbrev pub states_set : Option ℕ → (object state : ℕ) → Option (List ℕ) → Option (List ℕ)
 states_set None object state known = option_map (λ states. slice_set states object state) known
@@ -230,11 +233,19 @@ states_set (Some snap) object state known = known
 -- The states of the head are told in bits, four objects a byte. A map that was lengthened has other
 -- zeros behind its states, and one whose states changed isn't a snapshot's any more.
 abbrev pub learned_of_map : Knowledge → SiteId → (image : ℕ) → MapOp → Answer → Knowledge
-learned_of_map k site image (states.Resize count) answer.Done = with_maps site image (λ m. record { raised = m.raised; states = None; count = Some count; put = None }) k
-learned_of_map k site image (states.Get None) (answer.Bits bits) = with_maps site image (λ m. record m { states = Some (states_of bits (4 * length bits)) }) k
-learned_of_map k site image (states.Put (Some snap) bits) answer.Done = with_maps site image (λ m. record m { put = Some snap }) k
+learned_of_map k site image (states.Resize count) answer.Done =
+    with_maps site image (λ m. record { raised = m.raised; states = None; count = Some count; put = None }) k
+learned_of_map k site image (states.Get None) (answer.Bits bits) =
+    with_maps site image (λ m. record m { states = Some (states_of bits (4 * length bits)) }) k
+learned_of_map k site image (states.Put (Some snap) bits) answer.Done =
+    with_maps site image (λ m. record m { put = Some snap }) k
 learned_of_map k site image (states.Set view object state) answer.Done =
-    with_maps site image (λ m. record { raised = marked view object state m.raised; states = states_set view object state m.states; count = m.count; put = None }) k
+    with_maps site image (λ m. record {
+      raised = marked view object state m.raised;
+      states = states_set view object state m.states;
+      count = m.count;
+      put = None;
+    }) k
 learned_of_map k site image (states.Remove view) answer.Done = with_maps site image (λ m. unmapped) k
 learned_of_map k site image _ _ = k
 
@@ -242,11 +253,15 @@ learned_of_map k site image _ _ = k
 
 abbrev pub with_objects : SiteId → (image : ℕ) → (ObjectsKnown → ObjectsKnown) → Knowledge → Knowledge
 with_objects site image change k =
-    record k { objects = record { site = site; image = image; known = change (objects_of k.objects site image) } ∷ k.objects }
+    record k {
+      objects = record { site = site; image = image; known = change (objects_of k.objects site image) }
+          ∷ k.objects;
+    }
 
 -- it may be there, and have any bytes
 abbrev pub forgotten : (object : ℕ) → ObjectsKnown → ObjectsKnown
-forgotten object o = record { absent = filter (λ x. not (x == object)) o.absent; blank = filter (λ b. not (b.object == object)) o.blank }
+forgotten object o =
+    record { absent = filter (λ x. not (x == object)) o.absent; blank = filter (λ b. not (b.object == object)) o.blank }
 
 -- some of its places became zeros
 abbrev pub blanked : (object : ℕ) → Option (List Part) → ObjectsKnown → ObjectsKnown
@@ -258,11 +273,15 @@ removed object o = blanked object None (record o { absent = object ∷ o.absent 
 
 -- A change of an object tells what it is then.
 abbrev pub learned_of_object : Knowledge → SiteId → (image number : ℕ) → DataOp → Answer → Knowledge
-learned_of_object k site image number (object.Write context must parts bytes) answer.Done = with_objects site image (forgotten number) k
-learned_of_object k site image number (object.WriteFull context bytes) answer.Done = with_objects site image (forgotten number) k
+learned_of_object k site image number (object.Write context must parts bytes) answer.Done =
+    with_objects site image (forgotten number) k
+learned_of_object k site image number (object.WriteFull context bytes) answer.Done =
+    with_objects site image (forgotten number) k
 learned_of_object k site image number (object.CopyUp bytes) answer.Done = with_objects site image (forgotten number) k
-learned_of_object k site image number (object.Zero context must parts) answer.Done = with_objects site image (blanked number (Some parts)) k
-learned_of_object k site image number (object.Empty context) answer.Done = with_objects site image (λ o. blanked number None (forgotten number o)) k
+learned_of_object k site image number (object.Zero context must parts) answer.Done =
+    with_objects site image (blanked number (Some parts)) k
+learned_of_object k site image number (object.Empty context) answer.Done =
+    with_objects site image (λ o. blanked number None (forgotten number o)) k
 learned_of_object k site image number (object.Remove context) answer.Done = with_objects site image (removed number) k
 learned_of_object k site image number _ _ = k
 
@@ -291,12 +310,15 @@ removed_header site image k = record k {
 }
 
 abbrev pub learned_of_header : Knowledge → SiteId → (image : ℕ) → HeaderOp → Answer → Knowledge
-learned_of_header k site image header.Get (answer.Header h) = header_told site image (first_told h) (looked_behind site image k)
+learned_of_header k site image header.Get (answer.Header h) =
+    header_told site image (first_told h) (looked_behind site image k)
 learned_of_header k site image (header.Create view) answer.Done = without_drawn site image k
 learned_of_header k site image (header.SetSize to) answer.Done = header_told site image (option_map (with_size to)) k
 learned_of_header k site image header.Remove answer.Done = removed_header site image k
-learned_of_header k site image (header.SnapAdd name) (answer.Snap snap) = header_told site image (option_map (with_snap name)) k
-learned_of_header k site image (header.SnapRemove snap) answer.Done = header_told site image (option_map (without_snap snap)) k
+learned_of_header k site image (header.SnapAdd name) (answer.Snap snap) =
+    header_told site image (option_map (with_snap name)) k
+learned_of_header k site image (header.SnapRemove snap) answer.Done =
+    header_told site image (option_map (without_snap snap)) k
 learned_of_header k site image (header.LockBreak owner) answer.Done = without_fence site owner k
 learned_of_header k site image (header.LockBreak owner) answer.Changed = without_fence site owner k
 learned_of_header k site image _ _ = k

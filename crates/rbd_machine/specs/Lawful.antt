@@ -21,7 +21,8 @@ pub record CanTell (o : Op) (a : Answer) : Type 0 where
 -- Each operation is permitted by what is known there, whatever those before it were answered of
 -- what they can tell. A label is gone to with what is known at it.
 abbrev pub IsLawful : (at : Label → Knowledge) → Knowledge → Plan → Type 0
-IsLawful at k (Ask site why op next) = Permits k site op × ((answer : Answer) → CanTell op answer → IsLawful at (learned k site op answer) (next answer))
+IsLawful at k (Ask site why op next) =
+    Permits k site op × ((answer : Answer) → CanTell op answer → IsLawful at (learned k site op answer) (next answer))
 IsLawful at k (Await wait next) = IsLawful at (passed k wait) next
 IsLawful at k (Note site image event next) = IsLawful at k next
 IsLawful at k (Return reply) = Unit {0}

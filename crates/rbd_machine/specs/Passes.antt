@@ -17,7 +17,8 @@ pub record GoesTo (plan : Plan) (pass : List Answered) : Type 0 where
 -- plan is left.
 abbrev pub ArePasses : (Label → Plan) → Plan → List (List Answered) → (left : Plan) → Type 0
 ArePasses labels plan [] left = left ≡ plan
-ArePasses labels plan (pass ∷ passes) left = (goes : GoesTo plan pass) × ArePasses labels (labels goes.label) passes left
+ArePasses labels plan (pass ∷ passes) left =
+    (goes : GoesTo plan pass) × ArePasses labels (labels goes.label) passes left
 
 abbrev pub joined : List (List Answered) → List Answered
 joined = flat_map (λ pass. pass)
@@ -40,7 +41,8 @@ jumps_at plan = 0
 
 abbrev pub jumps : (Label → Plan) → Plan → List Fed → ℕ
 jumps labels plan [] = 0
-jumps labels (Ask site why op next) (fed.Answer answer ∷ more) = jumps_at (next answer) + jumps labels (settled labels (next answer)) more
+jumps labels (Ask site why op next) (fed.Answer answer ∷ more) =
+    jumps_at (next answer) + jumps labels (settled labels (next answer)) more
 jumps labels (Await wait next) (fed.Passed ∷ more) = jumps_at next + jumps labels (settled labels next) more
 jumps labels (Note site image event next) (fed.Passed ∷ more) = jumps_at next + jumps labels (settled labels next) more
 jumps labels plan (f ∷ more) = 0

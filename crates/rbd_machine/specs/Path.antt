@@ -62,7 +62,8 @@ IsWalk labels plan [] steps last = (steps ≡ []) × (last ≡ plan)
 IsWalk labels (Ask site why op next) (fed.Answer answer ∷ more) steps last =
     (first : IsFirstStep site op answer steps) × IsWalk labels (settled labels (next answer)) more first.rest last
 IsWalk labels (Await wait next) (fed.Passed ∷ more) steps last = IsWalk labels (settled labels next) more steps last
-IsWalk labels (Note site image event next) (fed.Passed ∷ more) steps last = IsWalk labels (settled labels next) more steps last
+IsWalk labels (Note site image event next) (fed.Passed ∷ more) steps last =
+    IsWalk labels (settled labels next) more steps last
 IsWalk labels plan (f ∷ more) steps last = ⊥
 
 -- The plan has at most n operations, whatever they are answered, up to its end or to a label.

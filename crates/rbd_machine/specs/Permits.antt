@@ -32,7 +32,8 @@ use Rattle.rbd_machine.specs.Knowledge.{Knowledge, MapsKnown, ObjectsKnown, own_
 
 -- It has the image's lock, and by its look under the lock, with its own changes since, the header
 -- meets a condition.
-pub record OwnsBy (k : Knowledge) (site : SiteId) (image : ℕ) (condition : (alone : Bool) → HeaderView → Type 0) : Type 0 where
+pub record OwnsBy (k : Knowledge) (site : SiteId) (image : ℕ) (condition : (alone : Bool) → HeaderView → Type 0)
+    : Type 0 where
   pub alone : Bool
   pub header : HeaderView
   pub is : own_of k.owns site image ≡ Some (record { site = site; image = image; alone = alone; header = Some header })
@@ -139,7 +140,8 @@ pub record LiesBelow (h : HeaderView) (number : ℕ) (p : Part) : Type 0 where
 
 -- Bytes are written under the snapshot context of the own header, within its size, at the turn, and
 -- behind the object's state in the head's map.
-pub record MayWrite (m : MapsKnown) (turn : Option ℕ) (number : ℕ) (context : SnapContext) (parts : List Part) (bytes : List ℕ) (alone : Bool) (h : HeaderView) : Type 0 where
+pub record MayWrite (m : MapsKnown) (turn : Option ℕ) (number : ℕ) (context : SnapContext) (parts : List Part)
+    (bytes : List ℕ) (alone : Bool) (h : HeaderView) : Type 0 where
   pub under : context ≡ context_of h
   pub within : All (LiesBelow h number) parts
   pub long : length bytes ≡ parts_len parts
@@ -159,13 +161,15 @@ pub record MaySet (o : ObjectsKnown) (turn : Option ℕ) (number state : ℕ) (a
   pub lowers : state ≡ 0 → is_absent number o.absent ≡ true
 
 -- Parts become zeros, which makes no object that isn't there.
-pub record MayZero (turn : Option ℕ) (number : ℕ) (context : SnapContext) (parts : List Part) (alone : Bool) (h : HeaderView) : Type 0 where
+pub record MayZero (turn : Option ℕ) (number : ℕ) (context : SnapContext) (parts : List Part) (alone : Bool)
+    (h : HeaderView) : Type 0 where
   pub under : context ≡ context_of h
   pub within : All (LiesBelow h number) parts
   pub at_turn : HasTurn alone turn number
 
 -- All bytes of an object become zeros, and it stays, behind its state in the head's map.
-pub record MayEmpty (m : MapsKnown) (turn : Option ℕ) (number : ℕ) (context : SnapContext) (alone : Bool) (h : HeaderView) : Type 0 where
+pub record MayEmpty (m : MapsKnown) (turn : Option ℕ) (number : ℕ) (context : SnapContext) (alone : Bool)
+    (h : HeaderView) : Type 0 where
   pub under : context ≡ context_of h
   pub within : IsObjectOf h number
   pub at_turn : HasTurn alone turn number
@@ -176,14 +180,16 @@ abbrev pub IsOutside : HeaderView → (number : ℕ) → Type 0
 IsOutside h number = (link : ParentLink) → h.parent ≡ Some link → link.overlap ≤ byte_at h.layout number 0
 
 -- An object goes, unless its parent's bytes would show then.
-pub record MayRemoveObject (turn : Option ℕ) (number : ℕ) (context : SnapContext) (alone : Bool) (h : HeaderView) : Type 0 where
+pub record MayRemoveObject (turn : Option ℕ) (number : ℕ) (context : SnapContext) (alone : Bool)
+    (h : HeaderView) : Type 0 where
   pub under : context ≡ context_of h
   pub within : IsObjectOf h number
   pub at_turn : HasTurn alone turn number
   pub outside : IsOutside h number
 
 -- An object becomes these bytes, of which those past the size are zeros, behind its state.
-pub record MayReplace (m : MapsKnown) (turn : Option ℕ) (number : ℕ) (context : SnapContext) (bytes : List ℕ) (alone : Bool) (h : HeaderView) : Type 0 where
+pub record MayReplace (m : MapsKnown) (turn : Option ℕ) (number : ℕ) (context : SnapContext) (bytes : List ℕ)
+    (alone : Bool) (h : HeaderView) : Type 0 where
   pub under : context ≡ context_of h
   pub within : IsObjectOf h number
   pub at_turn : HasTurn alone turn number
@@ -211,7 +217,8 @@ PermitsOnDirectory k site directory.List = Unit {0}
 abbrev pub PermitsOnHeader : Knowledge → SiteId → (image : ℕ) → HeaderOp → Type 0
 PermitsOnHeader k site image header.Get = Unit {0}
 PermitsOnHeader k site image (header.Create view) = MayMake k site image view
-PermitsOnHeader k site image (header.SetSize to) = OwnsAlone k site image (MaySize (maps_of k.maps site image) (objects_of k.objects site image) to)
+PermitsOnHeader k site image (header.SetSize to) =
+    OwnsAlone k site image (MaySize (maps_of k.maps site image) (objects_of k.objects site image) to)
 PermitsOnHeader k site image header.Remove = OwnsAlone k site image (λ h. h.snaps ≡ [])
 PermitsOnHeader k site image (header.SnapAdd name) = OwnsAlone k site image (MayTake (maps_of k.maps site image) name)
 PermitsOnHeader k site image (header.SnapRemove snap) = OwnsAlone k site image (MayRemove snap)
@@ -226,11 +233,16 @@ PermitsOnHeader k site image _ = ⊥
 
 abbrev pub PermitsOnObject : Knowledge → SiteId → (image number : ℕ) → DataOp → Type 0
 PermitsOnObject k site image number (object.Read snap parts) = Unit {0}
-PermitsOnObject k site image number (object.Write context must parts bytes) = OwnsBy k site image (MayWrite (maps_of k.maps site image) k.turn number context parts bytes)
-PermitsOnObject k site image number (object.Zero context must parts) = OwnsBy k site image (MayZero k.turn number context parts)
-PermitsOnObject k site image number (object.Empty context) = OwnsBy k site image (MayEmpty (maps_of k.maps site image) k.turn number context)
-PermitsOnObject k site image number (object.Remove context) = IsLeftOver k site image ⊎ OwnsBy k site image (MayRemoveObject k.turn number context)
-PermitsOnObject k site image number (object.WriteFull context bytes) = OwnsBy k site image (MayReplace (maps_of k.maps site image) k.turn number context bytes)
+PermitsOnObject k site image number (object.Write context must parts bytes) =
+    OwnsBy k site image (MayWrite (maps_of k.maps site image) k.turn number context parts bytes)
+PermitsOnObject k site image number (object.Zero context must parts) =
+    OwnsBy k site image (MayZero k.turn number context parts)
+PermitsOnObject k site image number (object.Empty context) =
+    OwnsBy k site image (MayEmpty (maps_of k.maps site image) k.turn number context)
+PermitsOnObject k site image number (object.Remove context) =
+    IsLeftOver k site image ⊎ OwnsBy k site image (MayRemoveObject k.turn number context)
+PermitsOnObject k site image number (object.WriteFull context bytes) =
+    OwnsBy k site image (MayReplace (maps_of k.maps site image) k.turn number context bytes)
 PermitsOnObject k site image number (object.CopyUp bytes) = ⊥
 
 -- The map of a snapshot is removed once the header doesn't list the snapshot, and all maps of an
@@ -238,10 +250,13 @@ PermitsOnObject k site image number (object.CopyUp bytes) = ⊥
 abbrev pub PermitsOnMap : Knowledge → SiteId → (image : ℕ) → MapOp → Type 0
 PermitsOnMap k site image (states.Resize count) = MayLengthen k site image count
 PermitsOnMap k site image (states.Get view) = Unit {0}
-PermitsOnMap k site image (states.Put (Some snap) bits) = OwnsAlone k site image (MayPut (maps_of k.maps site image) snap bits)
-PermitsOnMap k site image (states.Set None object state) = OwnsBy k site image (MaySet (objects_of k.objects site image) k.turn object state)
+PermitsOnMap k site image (states.Put (Some snap) bits) =
+    OwnsAlone k site image (MayPut (maps_of k.maps site image) snap bits)
+PermitsOnMap k site image (states.Set None object state) =
+    OwnsBy k site image (MaySet (objects_of k.objects site image) k.turn object state)
 PermitsOnMap k site image (states.Remove None) = IsLeftOver k site image × IsSome (maps_of k.maps site image).count
-PermitsOnMap k site image (states.Remove (Some snap)) = IsLeftOver k site image ⊎ OwnsAlone k site image (λ h. snap_in h.snaps snap ≡ None)
+PermitsOnMap k site image (states.Remove (Some snap)) =
+    IsLeftOver k site image ⊎ OwnsAlone k site image (λ h. snap_in h.snaps snap ≡ None)
 PermitsOnMap k site image _ = ⊥
 
 abbrev pub Permits : Knowledge → SiteId → Op → Type 0

@@ -1,5 +1,5 @@
 -- What a request does: a plan of steps, and what it means to go on by it.
-use Rattle.std.specs.Prelude.{◌≡◌, ℕ, Option, Some, None}
+use Rattle.std.specs.Prelude.{◌≡◌, ℕ}
 use Rattle.rbd_kinds.specs.declared.answer.Answer.{Answer}
 use Rattle.rbd_kinds.specs.declared.id.SiteId.{SiteId}
 use Rattle.rbd_kinds.specs.declared.journal.Event.{Event}
@@ -71,11 +71,6 @@ AsksBy _ r = Unit {0}
 abbrev pub IsNoting : Plan → Type 0
 IsNoting (Note site image event next) = Unit {0}
 IsNoting _ = ⊥
-
--- the event that it wants noted, and none where it wants none noted
-abbrev pub Notes : Plan → Option Event → Type 0
-Notes (Note site image noted next) event = event ≡ Some noted
-Notes _ event = event ≡ None
 
 -- ---- how it goes on
 

@@ -91,7 +91,8 @@ by_fence x = x ≡ refusal.Fenced
 
 -- The answer to the last operation refuses it so, as the first refusal that holds there, and no
 -- answer before refused it; and unless it may come late, nothing was changed before.
-pub record IsRefusedBy (refuses : HeaderView → Option Refusal) (late : Refusal → Type 0) (steps : List Answered) (x : Refusal) : Type 0 where
+pub record IsRefusedBy (refuses : HeaderView → Option Refusal) (late : Refusal → Type 0) (steps : List Answered)
+    (x : Refusal) : Type 0 where
   pub before : List Answered
   pub last : Answered
   pub are : steps ≡ before ++ last ∷ []
@@ -100,6 +101,7 @@ pub record IsRefusedBy (refuses : HeaderView → Option Refusal) (late : Refusal
   pub unchanged : (late x → ⊥) → AreLooks before
 
 -- A request was refused so, by an answer to an operation of its own.
-pub record IsRefused (site : SiteId) (ask : Op) (refuses : HeaderView → Option Refusal) (late : Refusal → Type 0) (steps : List Answered) (x : Refusal) : Type 0 where
+pub record IsRefused (site : SiteId) (ask : Op) (refuses : HeaderView → Option Refusal) (late : Refusal → Type 0)
+    (steps : List Answered) (x : Refusal) : Type 0 where
   pub own : AreOwn site ask steps
   pub by : IsRefusedBy refuses late steps x

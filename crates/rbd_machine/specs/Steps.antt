@@ -9,12 +9,13 @@ use Rattle.rbd_kinds.specs.declared.header.Role.{Role}
 use Rattle.rbd_kinds.specs.declared.header.Role.TheVariants as role
 use Rattle.rbd_kinds.specs.declared.header_op.HeaderOp.TheVariants as header
 use Rattle.rbd_kinds.specs.declared.id.SiteId.{SiteId}
+use Rattle.rbd_kinds.specs.declared.machine.Fed.TheVariants as fed
 use Rattle.rbd_kinds.specs.declared.operation.Op.{Op}
 use Rattle.rbd_kinds.specs.declared.operation.Op.TheVariants as op
 use Rattle.rbd_commands.specs.declared.refusal.Refusal.{Refusal}
 use Rattle.rbd_commands.specs.declared.refusal.Refusal.TheVariants as refusal
 use Rattle.rbd_kinds.specs.declared.reply.Reply.TheVariants as reply
-use Rattle.rbd_machine.specs.Plan.{Plan, Ask, Await, Return, IsLive}
+use Rattle.rbd_machine.specs.Plan.{Plan, Ask, Await, Return, IsLive, plan_after}
 use Rattle.rbd_machine.specs.Wait as wait
 use Rattle.rbd_machine.specs.declared.progress.Progress.{Progress}
 use Rattle.rbd_machine.specs.declared.progress.Progress.TheVariants as progress
@@ -108,16 +109,19 @@ owning site refuses act image = look site image (owned refuses act image)
 abbrev pub holding : SiteId → (HeaderView → Option Refusal) → (act : ℕ → HeaderView → Plan) → (image : ℕ) → Plan
 holding site refuses act image = Await (wait.Hold site image) (owning site refuses act image)
 
-abbrev pub looked : SiteId → (HeaderView → Option Refusal) → (act : ℕ → HeaderView → Plan) → (image : ℕ) → HeaderView → Plan
+abbrev pub looked : SiteId → (HeaderView → Option Refusal) → (act : ℕ → HeaderView → Plan) → (image : ℕ)
+    → HeaderView → Plan
 looked site refuses act image h = unless (refuses h) (holding site refuses act image)
 
 abbrev pub looking : SiteId → (HeaderView → Option Refusal) → (act : ℕ → HeaderView → Plan) → (image : ℕ) → Plan
 looking site refuses act image = look site image (looked site refuses act image)
 
-abbrev pub joining : SiteId → Sharing → (HeaderView → Option Refusal) → (act : ℕ → HeaderView → Plan) → (image : ℕ) → Plan
+abbrev pub joining : SiteId → Sharing → (HeaderView → Option Refusal) → (act : ℕ → HeaderView → Plan)
+    → (image : ℕ) → Plan
 joining site sharing refuses act image = Await (wait.Join site image sharing) (looking site refuses act image)
 
-abbrev pub change : SiteId → (name : List ℕ) → Sharing → (HeaderView → Option Refusal) → (act : ℕ → HeaderView → Plan) → Plan
+abbrev pub change : SiteId → (name : List ℕ) → Sharing → (HeaderView → Option Refusal)
+    → (act : ℕ → HeaderView → Plan) → Plan
 change site name sharing refuses act = find site name (joining site sharing refuses act)
 
 -- ---- refusals
@@ -151,3 +155,9 @@ abbrev pub Progresses : (next to : Plan) → Progress (Unit {0}) → (left : Pla
 Progresses next to progress.More left = IsGoing to left
 Progresses next to (progress.Ended nothing) left = to ≡ next
 Progresses next to (progress.Refused r) left = to ≡ refused r
+
+-- So it does after an answer, whatever comes next.
+abbrev pub ProgressesBy : {P : Type 0} → (rest : P → (next : Plan) → Plan) → Answer → Progress (Unit {0})
+    → (old new : P) → Type 0
+ProgressesBy rest a progress old new = (next : Plan)
+    → Progresses next (plan_after (rest old next) (fed.Answer a)) progress (rest new next)

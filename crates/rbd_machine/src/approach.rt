@@ -63,7 +63,8 @@ impl Approach {
     /// The way of a change of the image of a name at a site, which goes beside others in the
     /// image's line, or is alone there. It takes no memory.
     pub fn new(site: SiteId, name: Name, sharing: Sharing) -> Self
-        ensures { (refuses : HeaderView → Option Refusal) (act : ℕ → HeaderView → Plan) → rest_of result refuses act ≡ change site name sharing refuses act }
+        ensures { (refuses : HeaderView → Option Refusal) (act : ℕ → HeaderView → Plan)
+            → rest_of result refuses act ≡ change site name sharing refuses act }
     {
         Approach {
             site,
@@ -75,7 +76,8 @@ impl Approach {
 
     /// What it wants.
     pub fn wants(&self) -> Want
-        ensures { (refuses : HeaderView → Option Refusal) (act : ℕ → HeaderView → Plan) → Wants (rest_of self.now refuses act) result }
+        ensures { (refuses : HeaderView → Option Refusal) (act : ℕ → HeaderView → Plan)
+            → Wants (rest_of self.now refuses act) result }
     {
         let site = self.site;
         match &self.stage {
@@ -106,7 +108,8 @@ impl Approach {
     /// The operation that it wants.
     pub fn next(&self) -> Result<Op, NoMemory>
         requires { IsAskingAt self.now.stage }
-        ensures { (refuses : HeaderView → Option Refusal) (act : ℕ → HeaderView → Plan) → IfOk result (Asks (rest_of self.now refuses act)) }
+        ensures { (refuses : HeaderView → Option Refusal) (act : ℕ → HeaderView → Plan)
+            → IfOk result (Asks (rest_of self.now refuses act)) }
     {
         match &self.stage {
             Stage::Finding => dir_find(&self.name),
@@ -131,7 +134,9 @@ impl Approach {
     /// its look under the lock told a header that refuses nothing. It takes no memory.
     pub fn feed<R: Refuses>(&mut self, rule: &R, fed: &Fed) -> Progress<ImageId>
         requires { CanBeFedAt self.old.stage self.old.name fed.now }
-        ensures { (act : ℕ → HeaderView → Plan) → Approaches (R.refuses rule.now) act fed.now (plan_after (rest_of self.old (R.refuses rule.now) act) fed.now) result self.old self.new }
+        ensures { (act : ℕ → HeaderView → Plan)
+            → Approaches (R.refuses rule.now) act fed.now
+            (plan_after (rest_of self.old (R.refuses rule.now) act) fed.now) result self.old self.new }
     {
         match fed {
             Fed::Passed => self.pass(),
@@ -143,7 +148,8 @@ impl Approach {
     fn pass(&mut self) -> Progress<ImageId>
         requires { CanBeFedAt self.old.stage self.old.name fed_with.Passed }
         ensures { (refuses : HeaderView → Option Refusal) (act : ℕ → HeaderView → Plan)
-            → Approaches refuses act fed_with.Passed (plan_after (rest_of self.old refuses act) fed_with.Passed) result self.old self.new }
+            → Approaches refuses act fed_with.Passed
+            (plan_after (rest_of self.old refuses act) fed_with.Passed) result self.old self.new }
     {
         match &self.stage {
             Stage::Finding => unreachable!(),
@@ -165,7 +171,9 @@ impl Approach {
     fn answer<R: Refuses>(&mut self, rule: &R, answer: &Answer) -> Progress<ImageId>
         requires { CanBeFedAt self.old.stage self.old.name (fed_with.Answer answer.now) }
         ensures { (act : ℕ → HeaderView → Plan)
-            → Approaches (R.refuses rule.now) act (fed_with.Answer answer.now) (plan_after (rest_of self.old (R.refuses rule.now) act) (fed_with.Answer answer.now)) result self.old self.new }
+            → Approaches (R.refuses rule.now) act (fed_with.Answer answer.now)
+            (plan_after (rest_of self.old (R.refuses rule.now) act) (fed_with.Answer answer.now))
+            result self.old self.new }
     {
         match &self.stage {
             Stage::Finding => match told_image(answer) {

@@ -3,7 +3,7 @@ ghost use Rattle.std.specs.Prelude.{◌≡◌, IfOk};
 
 use crate::machine::Machine;
 use crate::reason::Reason;
-use rbd_kinds::{Event, Fed, NoMemory, Op, Turn, Want};
+use rbd_kinds::{Fed, NoMemory, Op, Turn, Want};
 use std::alloc::Global;
 use std::marker::Model;
 
@@ -53,10 +53,6 @@ impl<M: Machine + Drop> Machine for Boxed<M> {
 
     fn reason(&self) -> Reason {
         self.held.reason()
-    }
-
-    fn event(&self, alloc: Global) -> Result<Option<Event>, NoMemory> {
-        self.held.event(alloc)
     }
 
     fn ready(&mut self, alloc: Global, fed: &Fed) -> Result<(), NoMemory> {

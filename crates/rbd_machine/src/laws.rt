@@ -33,18 +33,21 @@ ghost use Rattle.rbd_machine.specs.Passes.{EndsInPass, jumps};
 ghost use Rattle.rbd_machine.specs.Standalone.{IsFedStandalone};
 ghost use Rattle.rbd_machine.specs.Steps.{change};
 
-/// A request that wants an operation has one to ask for, and one that wants an event noted has that
-/// event.
+/// A request that wants an operation has one to ask for, and where one wants an event noted, its
+/// plan says which.
 pub fn what_is_wanted_is_there()
-    ensures operation { (plan : Plan) (site : SiteId) (kind : OpKind) → IsLive plan → Wants plan (WantsOp site kind) → IsAsking plan }
-    ensures event { (plan : Plan) (site : SiteId) (image : ℕ) → IsLive plan → Wants plan (Note site image) → IsNoting plan }
+    ensures operation { (plan : Plan) (site : SiteId) (kind : OpKind)
+        → IsLive plan → Wants plan (WantsOp site kind) → IsAsking plan }
+    ensures event { (plan : Plan) (site : SiteId) (image : ℕ)
+        → IsLive plan → Wants plan (Note site image) → IsNoting plan }
 {}
 
 /// The operations that a request asks for, with the answers that it is fed, are a path of its plan,
 /// whatever it is fed between. Each label of the plan stands at an operation.
 pub fn walks_are_paths()
     ensures { (labels : Label → Plan) → ((label : Label) → IsAsking (labels label))
-        → (feds : List Fed) (plan : Plan) (steps : List Answered) (last : Plan) → IsWalk labels plan feds steps last → IsPath labels plan steps }
+        → (feds : List Fed) (plan : Plan) (steps : List Answered) (last : Plan)
+        → IsWalk labels plan feds steps last → IsPath labels plan steps }
 {}
 
 /// A path has at most as many operations as its plan, up to its end or to a label.
@@ -70,24 +73,29 @@ pub fn walks_keep_bounds()
 
 /// A change has three operations up to its look under the lock, and then those of what it does.
 pub fn changes_look_twice()
-    ensures { (site : SiteId) (name : List ℕ) (sharing : Sharing) (refuses : HeaderView → Option Refusal) (act : ℕ → HeaderView → Plan) (n : ℕ)
-        → ((image : ℕ) (h : HeaderView) → IsBounded (act image h) n) → IsBounded (change site name sharing refuses act) (n + 3) }
+    ensures { (site : SiteId) (name : List ℕ) (sharing : Sharing) (refuses : HeaderView → Option Refusal)
+        (act : ℕ → HeaderView → Plan) (n : ℕ)
+        → ((image : ℕ) (h : HeaderView) → IsBounded (act image h) n)
+        → IsBounded (change site name sharing refuses act) (n + 3) }
 {}
 
 /// A request changes an image only after it read the header under the lock: before, no bytes are
 /// written, cleared or replaced, no size is set, no snapshot is taken or removed, no name is freed
 /// and no header removed. An object is removed with its image, or by who owns that.
 pub fn what_is_not_owned_is_left()
-    ensures bytes { (k : Knowledge) (site : SiteId) (image number : ℕ) (context : SnapContext) (must : Bool) (parts : List Part) (bytes : List ℕ)
+    ensures bytes { (k : Knowledge) (site : SiteId) (image number : ℕ) (context : SnapContext) (must : Bool)
+        (parts : List Part) (bytes : List ℕ)
         → own_of k.owns site image ≡ None → Permits k site (Data image number (Write context must parts bytes)) → ⊥ }
-    ensures zeros { (k : Knowledge) (site : SiteId) (image number : ℕ) (context : SnapContext) (must : Bool) (parts : List Part)
+    ensures zeros { (k : Knowledge) (site : SiteId) (image number : ℕ) (context : SnapContext) (must : Bool)
+        (parts : List Part)
         → own_of k.owns site image ≡ None → Permits k site (Data image number (Zero context must parts)) → ⊥ }
     ensures emptying { (k : Knowledge) (site : SiteId) (image number : ℕ) (context : SnapContext)
         → own_of k.owns site image ≡ None → Permits k site (Data image number (Empty context)) → ⊥ }
     ensures replacing { (k : Knowledge) (site : SiteId) (image number : ℕ) (context : SnapContext) (bytes : List ℕ)
         → own_of k.owns site image ≡ None → Permits k site (Data image number (WriteFull context bytes)) → ⊥ }
     ensures object { (k : Knowledge) (site : SiteId) (image number : ℕ) (context : SnapContext)
-        → own_of k.owns site image ≡ None → is_gone k.gone site image ≡ false → Permits k site (Data image number (Remove context)) → ⊥ }
+        → own_of k.owns site image ≡ None → is_gone k.gone site image ≡ false
+        → Permits k site (Data image number (Remove context)) → ⊥ }
     ensures size { (k : Knowledge) (site : SiteId) (image to : ℕ)
         → own_of k.owns site image ≡ None → Permits k site (Header image (SetSize to)) → ⊥ }
     ensures taking { (k : Knowledge) (site : SiteId) (image : ℕ) (name : List ℕ)
@@ -103,10 +111,12 @@ pub fn what_is_not_owned_is_left()
 /// By its look under the lock a request may not write under another snapshot context than that
 /// look's, nor remove a snapshot that it lists as protected.
 pub fn the_own_look_decides()
-    ensures context { (k : Knowledge) (site : SiteId) (image number : ℕ) (alone : Bool) (h : HeaderView) (context : SnapContext) (must : Bool) (parts : List Part) (bytes : List ℕ)
+    ensures context { (k : Knowledge) (site : SiteId) (image number : ℕ) (alone : Bool) (h : HeaderView)
+        (context : SnapContext) (must : Bool) (parts : List Part) (bytes : List ℕ)
         → own_of k.owns site image ≡ Some (record { site = site; image = image; alone = alone; header = Some h })
         → Permits k site (Data image number (Write context must parts bytes)) → context ≡ context_of h }
-    ensures protected { (k : Knowledge) (site : SiteId) (image snap : ℕ) (alone : Bool) (h : HeaderView) (listed : SnapView)
+    ensures protected { (k : Knowledge) (site : SiteId) (image snap : ℕ) (alone : Bool) (h : HeaderView)
+        (listed : SnapView)
         → own_of k.owns site image ≡ Some (record { site = site; image = image; alone = alone; header = Some h })
         → snap_in h.snaps snap ≡ Some listed → (listed.status ≡ Unprotected → ⊥)
         → Permits k site (Header image (SnapRemove snap)) → ⊥ }
@@ -115,30 +125,40 @@ pub fn the_own_look_decides()
 /// The object map is updated before the data, the snapshot, the image or the larger size that it
 /// covers. A state goes down only after its object is gone.
 pub fn maps_come_first()
-    ensures bytes { (k : Knowledge) (site : SiteId) (image number : ℕ) (context : SnapContext) (must : Bool) (parts : List Part) (bytes : List ℕ)
-        → is_raised None number (maps_of k.maps site image).raised ≡ false → Permits k site (Data image number (Write context must parts bytes)) → ⊥ }
+    ensures bytes { (k : Knowledge) (site : SiteId) (image number : ℕ) (context : SnapContext) (must : Bool)
+        (parts : List Part) (bytes : List ℕ)
+        → is_raised None number (maps_of k.maps site image).raised ≡ false
+        → Permits k site (Data image number (Write context must parts bytes)) → ⊥ }
     ensures emptying { (k : Knowledge) (site : SiteId) (image number : ℕ) (context : SnapContext)
-        → is_raised None number (maps_of k.maps site image).raised ≡ false → Permits k site (Data image number (Empty context)) → ⊥ }
+        → is_raised None number (maps_of k.maps site image).raised ≡ false
+        → Permits k site (Data image number (Empty context)) → ⊥ }
     ensures replacing { (k : Knowledge) (site : SiteId) (image number : ℕ) (context : SnapContext) (bytes : List ℕ)
-        → is_raised None number (maps_of k.maps site image).raised ≡ false → Permits k site (Data image number (WriteFull context bytes)) → ⊥ }
+        → is_raised None number (maps_of k.maps site image).raised ≡ false
+        → Permits k site (Data image number (WriteFull context bytes)) → ⊥ }
     ensures lowering { (k : Knowledge) (site : SiteId) (image number : ℕ)
-        → is_absent number (objects_of k.objects site image).absent ≡ false → Permits k site (Map image (Set None number 0)) → ⊥ }
+        → is_absent number (objects_of k.objects site image).absent ≡ false
+        → Permits k site (Map image (Set None number 0)) → ⊥ }
     ensures taking { (k : Knowledge) (site : SiteId) (image : ℕ) (name : List ℕ)
         → (maps_of k.maps site image).put ≡ None → Permits k site (Header image (SnapAdd name)) → ⊥ }
     ensures making { (k : Knowledge) (site : SiteId) (image : ℕ) (view : HeaderView)
         → (maps_of k.maps site image).count ≡ None → Permits k site (Header image (Create view)) → ⊥ }
     ensures growing { (k : Knowledge) (site : SiteId) (image to : ℕ) (alone : Bool) (h : HeaderView)
-        → own_of k.owns site image ≡ Some (record { site = site; image = image; alone = alone; header = Some h }) → h.size < to
+        → own_of k.owns site image ≡ Some (record { site = site; image = image; alone = alone; header = Some h })
+        → h.size < to
         → (maps_of k.maps site image).count ≡ None → Permits k site (Header image (SetSize to)) → ⊥ }
 {}
 
 /// Who removed a header knows that it is gone, owns the image no more, and knows that the head's
 /// map is there until it removes that too.
 pub fn a_removed_header_leaves_its_map()
-    ensures gone { (k : Knowledge) (site : SiteId) (image : ℕ) → is_gone (learned k site (Header image RemoveHeader) Done).gone site image ≡ true }
-    ensures unowned { (k : Knowledge) (site : SiteId) (image : ℕ) → own_of (learned k site (Header image RemoveHeader) Done).owns site image ≡ None }
-    ensures map { (k : Knowledge) (site : SiteId) (image : ℕ) → maps_of (learned k site (Header image RemoveHeader) Done).maps site image ≡ only_there }
-    ensures once { (k : Knowledge) (site : SiteId) (image : ℕ) → Permits (learned k site (Map image (RemoveMap None)) Done) site (Map image (RemoveMap None)) → ⊥ }
+    ensures gone { (k : Knowledge) (site : SiteId) (image : ℕ)
+        → is_gone (learned k site (Header image RemoveHeader) Done).gone site image ≡ true }
+    ensures unowned { (k : Knowledge) (site : SiteId) (image : ℕ)
+        → own_of (learned k site (Header image RemoveHeader) Done).owns site image ≡ None }
+    ensures map { (k : Knowledge) (site : SiteId) (image : ℕ)
+        → maps_of (learned k site (Header image RemoveHeader) Done).maps site image ≡ only_there }
+    ensures once { (k : Knowledge) (site : SiteId) (image : ℕ)
+        → Permits (learned k site (Map image (RemoveMap None)) Done) site (Map image (RemoveMap None)) → ⊥ }
 {}
 
 /// A lock is broken only by one that has put its owner into the site's blocklist. It is given up
@@ -160,20 +180,27 @@ pub fn locks_end_by_what_is_known()
 /// lock was broken, or wasn't the owner's any more, it is forgotten, and what is known is what was
 /// known before the fence.
 pub fn fences_serve_once()
-    ensures known { (k : Knowledge) (site : SiteId) (i : Instance) → is_fenced_by (learned k site (BlockAdd i) Done).fenced site i ≡ true }
+    ensures known { (k : Knowledge) (site : SiteId) (i : Instance)
+        → is_fenced_by (learned k site (BlockAdd i) Done).fenced site i ≡ true }
     ensures others { (k : Knowledge) (site there : SiteId) (i other : Instance) → other ≢ i
         → is_fenced_by (learned k site (BlockAdd i) Done).fenced there other ≡ is_fenced_by k.fenced there other }
     ensures elsewhere { (k : Knowledge) (site there : SiteId) (i other : Instance) → IsFalse (same_site site there)
         → is_fenced_by (learned k site (BlockAdd i) Done).fenced there other ≡ is_fenced_by k.fenced there other }
-    ensures broken { (k : Knowledge) (site : SiteId) (image : ℕ) (i : Instance) → learned (learned k site (BlockAdd i) Done) site (Header image (LockBreak i)) Done ≡ k }
-    ensures changed { (k : Knowledge) (site : SiteId) (image : ℕ) (i : Instance) → learned (learned k site (BlockAdd i) Done) site (Header image (LockBreak i)) Changed ≡ k }
+    ensures broken { (k : Knowledge) (site : SiteId) (image : ℕ) (i : Instance)
+        → learned (learned k site (BlockAdd i) Done) site (Header image (LockBreak i)) Done ≡ k }
+    ensures changed { (k : Knowledge) (site : SiteId) (image : ℕ) (i : Instance)
+        → learned (learned k site (BlockAdd i) Done) site (Header image (LockBreak i)) Changed ≡ k }
 {}
 
 /// A lawful request asks only for what it may by what it knows, and stays lawful by what it then
 /// knows, whatever it is fed, as long as no header that it is told has a parent or a journal.
 pub fn lawful_requests_stay_lawful()
-    ensures asks { (at : Label → Knowledge) (k : Knowledge) (site : SiteId) (why : Reason) (op : Op) (next : Answer → Plan)
+    ensures asks { (at : Label → Knowledge) (k : Knowledge) (site : SiteId) (why : Reason) (op : Op)
+        (next : Answer → Plan)
         → IsLawful at k (Ask site why op next) → Permits k site op }
-    ensures stays { (labels : Label → Plan) (at : Label → Knowledge) → ((label : Label) → IsLawful at (at label) (labels label))
-        → (k : Knowledge) (plan : Plan) (f : Fed) → CanBeFed plan f → IsFedStandalone f → IsLawful at k plan → IsLawful at (known_after k plan f) (settled labels (plan_after plan f)) }
+    ensures stays { (labels : Label → Plan) (at : Label → Knowledge)
+        → ((label : Label) → IsLawful at (at label) (labels label))
+        → (k : Knowledge) (plan : Plan) (f : Fed)
+        → CanBeFed plan f → IsFedStandalone f → IsLawful at k plan
+        → IsLawful at (known_after k plan f) (settled labels (plan_after plan f)) }
 {}

@@ -21,7 +21,7 @@
 //! | it wants | whoever holds it | it is fed |
 //! |---|---|---|
 //! | `Op` | takes the operation (`next`, and `reason` why), does it at the site, and gives it the memory for the answer (`ready`) | the answer |
-//! | `Note` | takes the event (`event`), and notes it in the image's journal | `Passed` |
+//! | `Note` | notes its event in the image's journal | `Passed` |
 //! | `Join`, `Hold`, `Turn`, `Applied`, `Leave` | lets it wait until it may go on | `Passed` |
 //!
 //! - What it wants stays the same until it is fed. `feed` takes no memory, so the answer to an
@@ -42,7 +42,7 @@
 //! | file | what it says |
 //! |---|---|
 //! | `specs/Wait.antt`, `specs/Label.antt` | what a request waits for beside operations and its event; where it begins a part again |
-//! | `specs/Plan.antt` | `Plan`: the steps that are left, a finite tree that branches on the answers. `Wants`, `Asks`, `AsksBy`, `Notes`: what `wants`, `next`, `reason` and `event` tell of it. `plan_after`: the plan after what it was fed. `GoesOn`: after `feed` it stands there and wants something, or is done with the plan's reply. `IsClosed`: its labels stand at operations |
+//! | `specs/Plan.antt` | `Plan`: the steps that are left, a finite tree that branches on the answers. `Wants`, `Asks`, `AsksBy`: what `wants`, `next` and `reason` tell of it. `plan_after`: the plan after what it was fed. `GoesOn`: after `feed` it stands there and wants something, or is done with the plan's reply. `IsClosed`: its labels stand at operations |
 //! | `specs/Answers.antt` | `CanGive`: the answers that an operation can give. `CanBeFed`: what a machine may be fed. [`gives`] computes the words, [`can_give`] judges an answer where its form needs no look at bytes |
 //! | `specs/Ready.antt` | only an answer needs memory |
 //! | `specs/Steps.antt` | steps that many requests share, as plans |
@@ -57,9 +57,9 @@
 //! | `specs/About.antt` | which operations are a request's own: of the image that the first was told |
 //! | `specs/Refused.antt` | what an answer refuses (`refusal_by`), what a refusal rests on (`IsRefusedBy`), and that it is of the request's own (`IsRefused`) |
 //!
-//! [`laws`] says that a request which wants an operation or an event noted has it, that what a
-//! request asks for, with the answers that it is fed, is a path of its plan, that a path has at
-//! most as many operations as its plan, that a request which begins again ends in a pass that
+//! [`laws`] says that a request which wants an operation or an event noted has it in its plan, that
+//! what a request asks for, with the answers that it is fed, is a path of its plan, that a path has
+//! at most as many operations as its plan, that a request which begins again ends in a pass that
 //! doesn't, and has a pass's operations once more each time, and that a change has three operations
 //! up to its look under the lock. A request that is lawful stays so, whatever it is fed. What it
 //! doesn't own by a look behind the lock it may not change, and that look decides what it may. It
@@ -90,10 +90,10 @@
 //!
 //! # Cost
 //!
-//! A call is a few words, whatever came before it. `wants` and `feed` take no memory. `next` and
-//! `event` copy what they name: [`dir_find`] copies the name once, [`header_get`] nothing. An
-//! [`Approach`] holds the name that it was given, without a copy, and takes memory in `next` alone.
-//! [`told_header`] lends the header of the answer.
+//! A call is a few words, whatever came before it. `wants` and `feed` take no memory. `next` copies
+//! what it names: [`dir_find`] copies the name once, [`header_get`] nothing. An [`Approach`] holds
+//! the name that it was given, without a copy, and takes memory in `next` alone. [`told_header`]
+//! lends the header of the answer.
 //!
 //! # How it works
 //!

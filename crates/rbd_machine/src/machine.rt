@@ -1,12 +1,12 @@
 //! What every request is.
 ghost use Rattle.std.specs.Prelude.{◌≡◌, IfOk, OnOk};
 ghost use Rattle.rbd_kinds.specs.declared.answer.Answer.{Answer};
-ghost use Rattle.rbd_machine.specs.Plan.{Standing, IsLive, Wants, IsAsking, Asks, AsksBy, Notes, plan_after, GoesOn};
+ghost use Rattle.rbd_machine.specs.Plan.{Standing, IsLive, Wants, IsAsking, Asks, AsksBy, plan_after, GoesOn};
 ghost use Rattle.rbd_machine.specs.Answers.{CanBeFed};
 ghost use Rattle.rbd_machine.specs.Ready.{IsReadyFor};
 
 use crate::reason::Reason;
-use rbd_kinds::{Event, Fed, NoMemory, Op, Turn, Want};
+use rbd_kinds::{Fed, NoMemory, Op, Turn, Want};
 use std::alloc::Global;
 
 /// A request as a machine that wants one thing at a time. It does nothing itself: whoever holds it
@@ -18,7 +18,7 @@ use std::alloc::Global;
 ///        ▼                                                              │
 ///      wants ──Op──────▶ next ──▶ the operation is done ──answer──▶ ready, feed ──More──┐
 ///        │                                                              ▲              │
-///        ├──Note───────▶ event ──▶ it is noted ─────────────────────────┤              │
+///        ├──Note───────▶ it is noted ───────────────────────────────────┤              │
 ///        └──Join, Hold, Turn, Applied, Leave ──▶ it may go on ──Passed──┘     ┌─Done───┴──▶ its reply
 /// ```
 ///
@@ -48,10 +48,6 @@ pub trait Machine {
         requires { IsAsking (stands self.now).plan }
         ensures { AsksBy (stands self.now).plan result };
 
-    /// The event that it wants noted, and `None` where it wants none noted.
-    fn event(&self, alloc: Global) -> Result<Option<Event>, NoMemory>
-        ensures { IfOk result (Notes (stands self.now).plan) };
-
     /// Takes the memory for a feeding, and changes nothing else, also where it is refused.
     fn ready(&mut self, alloc: Global, fed: &Fed) -> Result<(), NoMemory>
         requires { CanBeFed (stands self.old).plan fed.now }
@@ -63,5 +59,6 @@ pub trait Machine {
     fn feed(&mut self, fed: &Fed) -> Turn
         requires can { CanBeFed (stands self.old).plan fed.now }
         requires ready { IsReadyFor (is_ready self.old) fed.now }
-        ensures { GoesOn (stands self.old).labels (plan_after (stands self.old).plan fed.now) result (stands self.new) };
+        ensures { GoesOn (stands self.old).labels (plan_after (stands self.old).plan fed.now)
+            result (stands self.new) };
 }

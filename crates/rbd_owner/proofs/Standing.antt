@@ -1,5 +1,5 @@
 -- Where a way to a lock stands, and behind a step.
-use Rattle.std.proofs.Common.{◌≡◌, ℕ, None, ap, refl, ◌∙◌}
+use Rattle.std.proofs.Common.{◌≡◌, ℕ, ap, refl, ◌∙◌}
 use Rattle.rbd_kinds.specs.declared.answer.Answer.{Answer}
 use Rattle.rbd_kinds.specs.declared.id.SiteId.{SiteId}
 use Rattle.rbd_kinds.specs.declared.machine.Fed.TheVariants as fed
@@ -8,7 +8,7 @@ use Rattle.rbd_kinds.specs.declared.machine.Want.TheVariants as want
 use Rattle.rbd_kinds.specs.declared.reply.Reply.TheVariants.{Done}
 use Rattle.rbd_kinds.specs.OperationKind.{kind_of}
 use Rattle.rbd_machine.specs.Answers.{CanBeFed, CanGive}
-use Rattle.rbd_machine.specs.Plan.{Plan, Return, Standing, AsksBy, IsAsking, IsLeft, Notes, Wants, settled}
+use Rattle.rbd_machine.specs.Plan.{Plan, Return, Standing, AsksBy, IsAsking, IsLeft, Wants, settled}
 use Rattle.rbd_machine.specs.Steps.{IsGoing}
 use Rattle.rbd_machine.specs.declared.reason.Reason.TheVariants as reason
 use Rattle.rbd_owner.specs.Acquire.{lock_labels, lock_of, op_at, rest_at, rest_of_acquire, standing_of}
@@ -30,7 +30,7 @@ stands_there old new to same goes = record {
 -- ---- in a request, whatever comes next
 
 module _ (site : SiteId) (image : ℕ) (next : Plan) where
-  -- it always wants an operation, as a step on the way to the lock, and notes no event
+  -- it always wants an operation, as a step on the way to the lock
   pub way_asks : (s : Stage) → IsAsking (rest_at s site image next)
   way_asks stage.Watching = tt
   way_asks stage.Taking = tt
@@ -46,14 +46,6 @@ module _ (site : SiteId) (image : ℕ) (next : Plan) where
   way_asks_by_acquiring stage.Asking = refl
   way_asks_by_acquiring (stage.Fencing owner) = refl
   way_asks_by_acquiring (stage.Breaking owner) = refl
-
-  pub way_notes_nothing : (s : Stage) → Notes (rest_at s site image next) None
-  way_notes_nothing stage.Watching = refl
-  way_notes_nothing stage.Taking = refl
-  way_notes_nothing (stage.Looking owner) = refl
-  way_notes_nothing stage.Asking = refl
-  way_notes_nothing (stage.Fencing owner) = refl
-  way_notes_nothing (stage.Breaking owner) = refl
 
   -- what may be fed to the request is an answer that its operation can give
   pub way_can_be_fed : (s : Stage) (a : Answer) → CanBeFed (rest_at s site image next) (fed.Answer a) → CanGive (op_at s image) a

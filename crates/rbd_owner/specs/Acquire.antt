@@ -51,7 +51,8 @@ asking site image = step site (request_lock image) (on_done again)
 -- ---- which of both it is
 
 abbrev pub on_watchers : SiteId → (image : ℕ) → (owner : Instance) → Answer → Plan
-on_watchers site image owner (answer.Instances watchers) = if is_among watchers owner then asking site image else fencing site image owner
+on_watchers site image owner (answer.Instances watchers) =
+    if is_among watchers owner then asking site image else fencing site image owner
 on_watchers site image owner a = not_there a
 
 abbrev pub looking : SiteId → (image : ℕ) → (owner : Instance) → Plan
@@ -106,7 +107,8 @@ standing_of a = record { labels = lock_labels a.site a.image; plan = rest_of_acq
 
 -- a walk of one alone, to its end or to where it stands
 abbrev pub IsWay : SiteId → (image : ℕ) → (watched : Bool) → List Fed → (steps : List Answered) → (last : Plan) → Type 0
-IsWay site image watched feds steps last = IsWalk (lock_labels site image) (acquire site image watched (Return reply.Done)) feds steps last
+IsWay site image watched feds steps last =
+    IsWalk (lock_labels site image) (acquire site image watched (Return reply.Done)) feds steps last
 
 -- ---- what answers tell it
 

@@ -30,7 +30,8 @@ pub record IsBehindHeld (site : SiteId) (image : ℕ) (before : List Answered) :
 
 -- The lock was found to be the owner's, and then the watchers were told. The owner is among them,
 -- or isn't.
-pub record IsBehindLook (site : SiteId) (image : ℕ) (owner : Instance) (watches : Bool) (before : List Answered) : Type 0 where
+pub record IsBehindLook (site : SiteId) (image : ℕ) (owner : Instance) (watches : Bool)
+    (before : List Answered) : Type 0 where
   pub watchers : List Instance
   pub earlier : List Answered
   pub is : before ≡ watched_by site image watchers ∷ held site image owner ∷ earlier
@@ -74,7 +75,8 @@ MayDo site image _ before = ⊥
 -- each step may stand where it does, at the site
 abbrev pub AreInOrder : SiteId → (image : ℕ) → (before steps : List Answered) → Type 0
 AreInOrder site image before [] = Unit {0}
-AreInOrder site image before (s ∷ steps) = (s.site ≡ site) × MayDo site image s.op before × AreInOrder site image (s ∷ before) steps
+AreInOrder site image before (s ∷ steps) =
+    (s.site ≡ site) × MayDo site image s.op before × AreInOrder site image (s ∷ before) steps
 
 -- ---- what stands right before a step
 
@@ -85,7 +87,8 @@ pub record EndsWith (last : Answered) (steps : List Answered) : Type 0 where
 
 -- The last two steps: the lock was found to be the owner's, and the watchers were told. The owner
 -- is among them, or isn't.
-pub record EndsWithLook (site : SiteId) (image : ℕ) (owner : Instance) (watches : Bool) (steps : List Answered) : Type 0 where
+pub record EndsWithLook (site : SiteId) (image : ℕ) (owner : Instance) (watches : Bool)
+    (steps : List Answered) : Type 0 where
   pub before : List Answered
   pub watchers : List Instance
   pub are : steps ≡ before ++ held site image owner ∷ watched_by site image watchers ∷ []

@@ -12,7 +12,8 @@ use Rattle.rbd_owner.specs.Acquire.{lock_labels}
 
 -- The way took the lock, as it does where nothing comes next, and what comes next went on from
 -- there.
-pub record GoesPast (labels : Label → Plan) (site : SiteId) (image : ℕ) (way : Plan → Plan) (next : Plan) (steps : List Answered) (last : Plan) : Type 0 where
+pub record GoesPast (labels : Label → Plan) (site : SiteId) (image : ℕ) (way : Plan → Plan) (next : Plan)
+    (steps : List Answered) (last : Plan) : Type 0 where
   pub taking : List Answered
   pub rest : List Answered
   pub feds : List Fed
@@ -22,12 +23,15 @@ pub record GoesPast (labels : Label → Plan) (site : SiteId) (image : ℕ) (way
   pub goes_on : IsWalk labels (settled labels next) more rest last
 
 -- It is still on its way, or was refused there.
-pub record IsUnderWay (site : SiteId) (image : ℕ) (way : Plan → Plan) (steps : List Answered) (last : Plan) : Type 0 where
+pub record IsUnderWay (site : SiteId) (image : ℕ) (way : Plan → Plan) (steps : List Answered)
+    (last : Plan) : Type 0 where
   pub feds : List Fed
   pub left : Plan
   pub walk : IsWalk (lock_labels site image) (way (Return reply.Done)) feds steps left
   pub untaken : left ≡ Return reply.Done → ⊥
   pub refused : (r : Refusal) → last ≡ refused r → left ≡ refused r
 
-abbrev pub IsToldApart : (labels : Label → Plan) → SiteId → (image : ℕ) → (way : Plan → Plan) → (next : Plan) → List Answered → (last : Plan) → Type 0
-IsToldApart labels site image way next steps last = GoesPast labels site image way next steps last ⊎ IsUnderWay site image way steps last
+abbrev pub IsToldApart : (labels : Label → Plan) → SiteId → (image : ℕ) → (way : Plan → Plan) → (next : Plan)
+    → List Answered → (last : Plan) → Type 0
+IsToldApart labels site image way next steps last =
+    GoesPast labels site image way next steps last ⊎ IsUnderWay site image way steps last

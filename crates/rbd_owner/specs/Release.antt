@@ -47,7 +47,8 @@ release_op r = release_op_at r.stage r.image
 
 -- what is left of it behind an answer, and nothing where it has ended
 abbrev pub release_behind : Stage → SiteId → (image : ℕ) → Answer → Option Release
-release_behind stage.Dropping site image answer.Done = Some (record { site = site; image = image; stage = stage.Telling })
+release_behind stage.Dropping site image answer.Done =
+    Some (record { site = site; image = image; stage = stage.Telling })
 release_behind at site image a = None
 
 abbrev pub release_after : Release → Answer → Option Release
@@ -57,7 +58,8 @@ release_after r a = release_behind r.stage r.site r.image a
 
 -- the watchers were told of a drop that was done, and of no other
 abbrev pub TellsOfDrop : SiteId → (image : ℕ) → (dropped : Answer) → (behind : List Answered) → Type 0
-TellsOfDrop site image answer.Done behind = (a : Answer) × (behind ≡ record { site = site; op = released_lock image; answer = a } ∷ [])
+TellsOfDrop site image answer.Done behind =
+    (a : Answer) × (behind ≡ record { site = site; op = released_lock image; answer = a } ∷ [])
 TellsOfDrop site image dropped behind = behind ≡ []
 
 -- The lock was dropped, and its watchers were told where that was done.

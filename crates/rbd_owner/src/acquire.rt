@@ -10,8 +10,8 @@ ghost use Rattle.rbd_owner.specs.declared.acquire.Stage.TheVariants as at_stage;
 
 use crate::told::told_broken;
 use rbd_kinds::{
-    Answer, Event, Fed, HeaderOp, ImageId, Instance, Instances, NoMemory, NoticeKind, Op, OpKind,
-    Reply, SiteId, Turn, Want,
+    Answer, Fed, HeaderOp, ImageId, Instance, Instances, NoMemory, NoticeKind, Op, OpKind, Reply,
+    SiteId, Turn, Want,
 };
 use rbd_machine::{Machine, Progress, Reason, refusal_of, told_done};
 use std::alloc::Global;
@@ -130,7 +130,8 @@ impl Acquire {
     pub fn feed(&mut self, answer: &Answer) -> Progress<()>
         requires { CanGive (op_of self.old) answer.now }
         ensures goes { (labels : Label → Plan) (next : Plan) → labels Lock ≡ lock_of self.old next
-            → Acquires labels next (plan_after (rest_of_acquire self.old next) (fed_with.Answer answer.now)) result (rest_of_acquire self.new next) }
+            → Acquires labels next (plan_after (rest_of_acquire self.old next) (fed_with.Answer answer.now)) result
+            (rest_of_acquire self.new next) }
         ensures label { (next : Plan) → lock_of self.new next ≡ lock_of self.old next }
         ensures place { (self.new.site ≡ self.old.site) × (self.new.image ≡ self.old.image) }
         ensures taken { TakesLock self.old.stage answer.now result }
@@ -170,7 +171,8 @@ impl Acquire {
         requires at { self.old.stage ≡ at_stage.Taking }
         requires tells { TellsTaken answer.now }
         ensures goes { (labels : Label → Plan) (next : Plan)
-            → Acquires labels next (plan_after (rest_of_acquire self.old next) (fed_with.Answer answer.now)) result (rest_of_acquire self.new next) }
+            → Acquires labels next (plan_after (rest_of_acquire self.old next) (fed_with.Answer answer.now)) result
+            (rest_of_acquire self.new next) }
         ensures label { (next : Plan) → lock_of self.new next ≡ lock_of self.old next }
         ensures place { (self.new.site ≡ self.old.site) × (self.new.image ≡ self.old.image) }
         ensures taken { TakesLock self.old.stage answer.now result }
@@ -190,7 +192,8 @@ impl Acquire {
         requires at { self.old.stage ≡ at_stage.Looking owner.now }
         requires tells { TellsWatchers answer.now }
         ensures goes { (labels : Label → Plan) (next : Plan)
-            → Acquires labels next (plan_after (rest_of_acquire self.old next) (fed_with.Answer answer.now)) result (rest_of_acquire self.new next) }
+            → Acquires labels next (plan_after (rest_of_acquire self.old next) (fed_with.Answer answer.now)) result
+            (rest_of_acquire self.new next) }
         ensures label { (next : Plan) → lock_of self.new next ≡ lock_of self.old next }
         ensures place { (self.new.site ≡ self.old.site) × (self.new.image ≡ self.old.image) }
         ensures taken { TakesLock self.old.stage answer.now result }
@@ -231,10 +234,6 @@ impl Machine for Acquire {
 
     fn reason(&self) -> Reason {
         Reason::Acquiring
-    }
-
-    fn event(&self, _alloc: Global) -> Result<Option<Event>, NoMemory> {
-        Ok(None)
     }
 
     fn ready(&mut self, _alloc: Global, _fed: &Fed) -> Result<(), NoMemory> {

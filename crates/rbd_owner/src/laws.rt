@@ -29,7 +29,8 @@ ghost use Rattle.rbd_owner.specs.Waiting.{owned_by};
 /// site, answered `done`, and the session counts the lock as its own. Any other end is a refusal by
 /// the last answer, NoImage by `none` and Fenced by `fenced`.
 pub fn ways_end_with_the_lock()
-    ensures ends { (site : SiteId) (image : ℕ) (watched : Bool) (feds : List Fed) (steps : List Answered) (reply : Reply)
+    ensures ends { (site : SiteId) (image : ℕ) (watched : Bool) (feds : List Fed) (steps : List Answered)
+        (reply : Reply)
         → IsWay site image watched feds steps (Return reply) → EndsBy site image reply steps }
     ensures owned { (site : SiteId) (image : ℕ) (watched owned : Bool) (feds : List Fed) (steps : List Answered)
         → IsWay site image watched feds steps (Return Done) → owned_by owned steps ≡ true }
@@ -46,18 +47,26 @@ pub fn ways_are_in_order()
 /// just told to have the lock and wasn't among the watchers then. One that was among them is asked
 /// next, and only such a one is asked.
 pub fn owners_are_fenced_before_they_lose_the_lock()
-    ensures broken { (site : SiteId) (image : ℕ) (watched : Bool) (feds : List Fed) (last : Plan) (before after : List Answered) (owner : Instance) (a : Answer)
-        → IsWay site image watched feds (before ++ record { site = site; op = lock_break image owner; answer = a } ∷ after) last
+    ensures broken { (site : SiteId) (image : ℕ) (watched : Bool) (feds : List Fed) (last : Plan)
+        (before after : List Answered) (owner : Instance) (a : Answer)
+        → IsWay site image watched feds
+        (before ++ record { site = site; op = lock_break image owner; answer = a } ∷ after) last
         → EndsWith (fenced site owner) before }
-    ensures fenced { (site : SiteId) (image : ℕ) (watched : Bool) (feds : List Fed) (last : Plan) (before after : List Answered) (owner : Instance) (a : Answer)
-        → IsWay site image watched feds (before ++ record { site = site; op = block_add owner; answer = a } ∷ after) last
+    ensures fenced { (site : SiteId) (image : ℕ) (watched : Bool) (feds : List Fed) (last : Plan)
+        (before after : List Answered) (owner : Instance) (a : Answer)
+        → IsWay site image watched feds
+        (before ++ record { site = site; op = block_add owner; answer = a } ∷ after) last
         → EndsWithLook site image owner false before }
-    ensures asked { (site : SiteId) (image : ℕ) (watched : Bool) (feds : List Fed) (last : Plan) (before after : List Answered) (a : Answer)
-        → IsWay site image watched feds (before ++ record { site = site; op = request_lock image; answer = a } ∷ after) last
+    ensures asked { (site : SiteId) (image : ℕ) (watched : Bool) (feds : List Fed) (last : Plan)
+        (before after : List Answered) (a : Answer)
+        → IsWay site image watched feds
+        (before ++ record { site = site; op = request_lock image; answer = a } ∷ after) last
         → EndsWithWatching site image before }
-    ensures watching { (site : SiteId) (image : ℕ) (watched : Bool) (feds : List Fed) (last : Plan) (before after : List Answered) (owner : Instance) (watchers : List Instance) (s : Answered)
+    ensures watching { (site : SiteId) (image : ℕ) (watched : Bool) (feds : List Fed) (last : Plan)
+        (before after : List Answered) (owner : Instance) (watchers : List Instance) (s : Answered)
         → is_among watchers owner ≡ true
-        → IsWay site image watched feds (before ++ held site image owner ∷ watched_by site image watchers ∷ s ∷ after) last
+        → IsWay site image watched feds
+        (before ++ held site image owner ∷ watched_by site image watchers ∷ s ∷ after) last
         → s.op ≡ request_lock image }
 {}
 
@@ -72,7 +81,8 @@ pub fn ways_keep_bounds()
     ensures watch { (site : SiteId) (image : ℕ) (watched : Bool) (feds : List Fed) (steps : List Answered) (last : Plan)
         → IsWay site image watched feds steps last
         → count_by is_watch steps ≤ first_watch watched }
-    ensures broken { (site : SiteId) (image : ℕ) (watched : Bool) (feds : List Fed) (steps : List Answered) (last : Plan)
+    ensures broken { (site : SiteId) (image : ℕ) (watched : Bool) (feds : List Fed) (steps : List Answered)
+        (last : Plan)
         → IsWay site image watched feds steps last
         → count_by is_break steps ≤ count_by is_fence steps }
     ensures taken { (site : SiteId) (image : ℕ) (watched : Bool) (feds : List Fed) (steps : List Answered) (last : Plan)
@@ -86,8 +96,10 @@ pub fn ways_keep_bounds()
 /// A round, from one `lock-take` up to the next, has four operations at most, and the way up to its
 /// first end five, beside those of what comes next.
 pub fn rounds_are_short()
-    ensures round { (site : SiteId) (image : ℕ) (next : Plan) (n : ℕ) → IsBounded next n → IsBounded (taking site image next) (n + 4) }
-    ensures way { (site : SiteId) (image : ℕ) (watched : Bool) (next : Plan) (n : ℕ) → IsBounded next n → IsBounded (acquire site image watched next) (n + 5) }
+    ensures round { (site : SiteId) (image : ℕ) (next : Plan) (n : ℕ)
+        → IsBounded next n → IsBounded (taking site image next) (n + 4) }
+    ensures way { (site : SiteId) (image : ℕ) (watched : Bool) (next : Plan) (n : ℕ)
+        → IsBounded next n → IsBounded (acquire site image watched next) (n + 5) }
 {}
 
 /// The only label that it goes to is the lock's, unless what comes next does.
@@ -101,7 +113,8 @@ pub fn ways_go_to_the_lock_alone()
 /// hasn't come so far, all its steps are a way, and a refusal is the way's. So what holds of ways
 /// holds of the steps of such a request.
 pub fn ways_are_told_apart()
-    ensures { (labels : Label → Plan) (site : SiteId) (image : ℕ) (watched : Bool) (next : Plan) (feds : List Fed) (steps : List Answered) (last : Plan)
+    ensures { (labels : Label → Plan) (site : SiteId) (image : ℕ) (watched : Bool) (next : Plan) (feds : List Fed)
+        (steps : List Answered) (last : Plan)
         → labels Lock ≡ taking site image next → IsWalk labels (acquire site image watched next) feds steps last
         → IsToldApart labels site image (acquire site image watched) next steps last }
 {}
@@ -110,16 +123,22 @@ pub fn ways_are_told_apart()
 /// by what is known once the lock is taken. At the label `Lock` the same is known in each round,
 /// since a fence is forgotten with the break that it was for.
 pub fn ways_are_lawful()
-    ensures way { (known_at : Label → Knowledge) (k : Knowledge) (site : SiteId) (image : ℕ) (watched : Bool) (next : Plan)
-        → k ≡ known_at Lock → IsLawful known_at (learned k site (lock_take image) DoneSo) next → IsLawful known_at k (acquire site image watched next) }
+    ensures way { (known_at : Label → Knowledge) (k : Knowledge) (site : SiteId) (image : ℕ)
+        (watched : Bool) (next : Plan)
+        → k ≡ known_at Lock → IsLawful known_at (learned k site (lock_take image) DoneSo) next
+        → IsLawful known_at k (acquire site image watched next) }
     ensures alone { (site : SiteId) (image : ℕ) (watched : Bool)
-        → IsLawfulRequest (record { labels = lock_labels site image; plan = acquire site image watched (Return Done) }) }
+        → IsLawfulRequest (record {
+          labels = lock_labels site image;
+          plan = acquire site image watched (Return Done);
+        }) }
 {}
 
 /// A release does only what it may, where the lock was waited for, alone, and nobody looked at the
 /// header behind it.
 pub fn releases_are_lawful()
-    ensures { (known_at : Label → Knowledge) (k : Knowledge) (site : SiteId) (image : ℕ) → HoldsUnlooked k site image → IsLawful known_at k (release site image) }
+    ensures { (known_at : Label → Knowledge) (k : Knowledge) (site : SiteId) (image : ℕ)
+        → HoldsUnlooked k site image → IsLawful known_at k (release site image) }
 {}
 
 /// A release drops the lock, and whatever that is answered, the session counts the lock as let go
@@ -127,7 +146,8 @@ pub fn releases_are_lawful()
 pub fn releases_let_go()
     ensures ends { (site : SiteId) (image : ℕ) (feds : List Fed) (steps : List Answered) (reply : Reply)
         → IsWalk Goto (release site image) feds steps (Return reply) → (reply ≡ Done) × LetsGo site image steps }
-    ensures owned { (site : SiteId) (image : ℕ) (owned : Bool) (feds : List Fed) (first : Answered) (more : List Answered) (last : Plan)
+    ensures owned { (site : SiteId) (image : ℕ) (owned : Bool) (feds : List Fed) (first : Answered)
+        (more : List Answered) (last : Plan)
         → IsWalk Goto (release site image) feds (first ∷ more) last → owned_by owned (first ∷ more) ≡ false }
     ensures bounded { (site : SiteId) (image : ℕ) → IsBounded (release site image) 2 }
     ensures closed { (site : SiteId) (image : ℕ) → IsClosed Goto (release site image) }

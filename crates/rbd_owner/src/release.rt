@@ -4,8 +4,7 @@ ghost use Rattle.rbd_machine.specs.Plan.{without_labels};
 ghost use Rattle.rbd_owner.specs.Release.{begun_release, release, release_after, release_op, rest_of_release};
 
 use rbd_kinds::{
-    Answer, Event, Fed, HeaderOp, ImageId, NoMemory, NoticeKind, Op, OpKind, Reply, SiteId, Turn,
-    Want,
+    Answer, Fed, HeaderOp, ImageId, NoMemory, NoticeKind, Op, OpKind, Reply, SiteId, Turn, Want,
 };
 use rbd_machine::{Machine, Reason};
 use std::alloc::Global;
@@ -112,10 +111,6 @@ impl Machine for Release {
 
     fn reason(&self) -> Reason {
         Reason::Own
-    }
-
-    fn event(&self, _alloc: Global) -> Result<Option<Event>, NoMemory> {
-        Ok(None)
     }
 
     fn ready(&mut self, _alloc: Global, _fed: &Fed) -> Result<(), NoMemory> {

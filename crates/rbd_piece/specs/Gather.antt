@@ -26,7 +26,8 @@ TellsBytes a = EndsIt a
 
 -- The bytes of the pieces, one piece after another and in it one part after another, behind those
 -- that were read before.
-abbrev pub gather : SiteId → (image : ℕ) → (snap : Option ℕ) → List Piece → (read : List ℕ) → (next : List ℕ → Plan) → Plan
+abbrev pub gather : SiteId → (image : ℕ) → (snap : Option ℕ) → List Piece → (read : List ℕ)
+    → (next : List ℕ → Plan) → Plan
 gather site image snap [] read next = next read
 gather site image snap (p ∷ pieces) read next =
     own site (data_read image snap p) (on_bytes p.parts (λ bytes. gather site image snap pieces (read ++ bytes) next))

@@ -18,7 +18,8 @@ writing site image context piece bytes next = own site (data_write image context
 
 -- the object's state is raised before, in the head's map
 abbrev pub raising : SiteId → (image : ℕ) → SnapContext → Piece → (bytes : List ℕ) → (next : Plan) → Plan
-raising site image context piece bytes next = own site (map_exists image piece.object) (on_done (writing site image context piece bytes next))
+raising site image context piece bytes next =
+    own site (map_exists image piece.object) (on_done (writing site image context piece bytes next))
 
 -- under the header's snapshot context
 abbrev pub write_piece : SiteId → (image : ℕ) → HeaderView → Piece → (bytes : List ℕ) → (next : Plan) → Plan

@@ -118,7 +118,8 @@ impl Gather {
     pub fn feed(&mut self, answer: &Answer) -> Progress<()>
         requires tells { TellsBytes answer.now }
         requires room { HasRoom self.old answer.now }
-        ensures { (next : List ℕ → Plan) → Gathers next (plan_after (rest_of_gather self.old next) (fed_with.Answer answer.now)) result self.new }
+        ensures { (next : List ℕ → Plan)
+            → Gathers next (plan_after (rest_of_gather self.old next) (fed_with.Answer answer.now)) result self.new }
     {
         match read_into(&mut self.bytes, self.piece.parts.as_slice(), answer) {
             Ok(()) => self.go_on(),
@@ -128,7 +129,10 @@ impl Gather {
 
     /// Goes on to the next piece.
     fn go_on(&mut self) -> Progress<()>
-        ensures { (next : List ℕ → Plan) → Gathers next (gather self.old.site self.old.image self.old.snap self.old.pieces.items self.old.bytes.items next) result self.new }
+        ensures { (next : List ℕ → Plan)
+            → Gathers next
+            (gather self.old.site self.old.image self.old.snap self.old.pieces.items self.old.bytes.items next)
+            result self.new }
     {
         match self.pieces.pop_front() {
             None => Progress::Ended(()),
@@ -159,7 +163,9 @@ fn total(parts: &[Part]) -> Option<usize>
 fn read_into(bytes: &mut Vec<u8>, parts: &[Part], answer: &Answer) -> Result<(), Refusal>
     requires tells { TellsBytes answer.now }
     requires room { IsRoomFor (vec_len bytes.old) (vec_capacity bytes.old) parts.now answer.now }
-    ensures { (next : List ℕ → Plan) → on_bytes parts.now (λ more. next (bytes.old.items ++ more)) answer.now ≡ going (λ done. next bytes.new.items) result }
+    ensures { (next : List ℕ → Plan)
+        → on_bytes parts.now (λ more. next (bytes.old.items ++ more)) answer.now
+        ≡ going (λ done. next bytes.new.items) result }
 {
     match answer {
         Answer::Bytes(more) => {

@@ -24,27 +24,36 @@ pub fn pieces_raise_and_write()
 
 /// A gather has one operation for each piece.
 pub fn gathers_read_once()
-    ensures { (site : SiteId) (image : ℕ) (snap : Option ℕ) (pieces : List Piece) (read : List ℕ) (next : List ℕ → Plan) (n : ℕ)
-        → ((bytes : List ℕ) → IsBounded (next bytes) n) → IsBounded (gather site image snap pieces read next) (n + length pieces) }
+    ensures { (site : SiteId) (image : ℕ) (snap : Option ℕ) (pieces : List Piece) (read : List ℕ)
+        (next : List ℕ → Plan) (n : ℕ)
+        → ((bytes : List ℕ) → IsBounded (next bytes) n)
+        → IsBounded (gather site image snap pieces read next) (n + length pieces) }
 {}
 
 /// Neither begins a part again, unless what comes next does.
 pub fn pieces_go_to_no_label()
-    ensures write { (labels : Label → Plan) (site : SiteId) (image : ℕ) (h : HeaderView) (piece : Piece) (bytes : List ℕ) (next : Plan)
+    ensures write { (labels : Label → Plan) (site : SiteId) (image : ℕ) (h : HeaderView) (piece : Piece)
+        (bytes : List ℕ) (next : Plan)
         → IsClosed labels next → IsClosed labels (write_piece site image h piece bytes next) }
-    ensures gather { (labels : Label → Plan) (site : SiteId) (image : ℕ) (snap : Option ℕ) (pieces : List Piece) (read : List ℕ) (next : List ℕ → Plan)
-        → ((bytes : List ℕ) → IsClosed labels (next bytes)) → IsClosed labels (gather site image snap pieces read next) }
+    ensures gather { (labels : Label → Plan) (site : SiteId) (image : ℕ) (snap : Option ℕ) (pieces : List Piece)
+        (read : List ℕ) (next : List ℕ → Plan)
+        → ((bytes : List ℕ) → IsClosed labels (next bytes))
+        → IsClosed labels (gather site image snap pieces read next) }
 {}
 
 /// A piece of a write is lawful where it may raise its object's state, and write its bytes once
 /// that is done, given that what comes next is lawful by what is known then: that the state was
 /// raised, and that the object has any bytes. A gather is lawful anywhere, and teaches nothing.
 pub fn pieces_are_lawful()
-    ensures write { (at : Label → Knowledge) (k : Knowledge) (site : SiteId) (image : ℕ) (h : HeaderView) (piece : Piece) (bytes : List ℕ) (next : Plan)
+    ensures write { (at : Label → Knowledge) (k : Knowledge) (site : SiteId) (image : ℕ) (h : HeaderView)
+        (piece : Piece) (bytes : List ℕ) (next : Plan)
         → Permits k site (map_exists image piece.object)
-        → Permits (learned k site (map_exists image piece.object) Done) site (data_write image (context_of h) piece bytes)
-        → IsLawful at (learned (learned k site (map_exists image piece.object) Done) site (data_write image (context_of h) piece bytes) Done) next
+        → Permits (learned k site (map_exists image piece.object) Done) site
+        (data_write image (context_of h) piece bytes)
+        → IsLawful at (learned (learned k site (map_exists image piece.object) Done) site
+        (data_write image (context_of h) piece bytes) Done) next
         → IsLawful at k (write_piece site image h piece bytes next) }
-    ensures gather { (at : Label → Knowledge) (k : Knowledge) (site : SiteId) (image : ℕ) (snap : Option ℕ) (pieces : List Piece) (read : List ℕ) (next : List ℕ → Plan)
+    ensures gather { (at : Label → Knowledge) (k : Knowledge) (site : SiteId) (image : ℕ) (snap : Option ℕ)
+        (pieces : List Piece) (read : List ℕ) (next : List ℕ → Plan)
         → ((bytes : List ℕ) → IsLawful at k (next bytes)) → IsLawful at k (gather site image snap pieces read next) }
 {}

@@ -2,14 +2,14 @@
 //!
 //! ```text
 //! let context = context_of(alloc, &header)?;
-//! let mut write = WritePiece::new(SiteId::A, image, context, piece, bytes);      // of object 3
+//! let mut write = WritePiece::new(SiteId::A, image, context, piece, bytes);   // of object 3
 //! write.next()?              // map-set: object 3 exists, in the head's map
 //! write.feed(&done)          // More
 //! write.wants()              // an operation at site A, of the kind data-write
 //! write.next()?              // data-write of object 3, under the snapshot context
 //! write.feed(&done)          // Ended: the request goes on
 //!
-//! let mut gather = Gather::new(alloc, SiteId::A, image, Some(snap), pieces);      // of objects 1 and 4
+//! let mut gather = Gather::new(alloc, SiteId::A, image, Some(snap), pieces);  // of objects 1 and 4
 //! gather.next()?             // data-read of object 1 at the snapshot
 //! gather.ready(&bytes)?      // room for the answer, the bytes abc
 //! gather.feed(&bytes)        // More

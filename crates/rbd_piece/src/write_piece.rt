@@ -1,9 +1,8 @@
 //! One piece of a write.
 ghost use Rattle.std.specs.Prelude.{◌≡◌, IfOk};
-ghost use Rattle.rbd_kinds.specs.declared.machine.Fed.TheVariants as fed_with;
 ghost use Rattle.rbd_machine.specs.Objects.{data_write, map_exists};
-ghost use Rattle.rbd_machine.specs.Plan.{Plan, Wants, Asks, plan_after};
-ghost use Rattle.rbd_machine.specs.Steps.{Progresses, TellsDone};
+ghost use Rattle.rbd_machine.specs.Plan.{Plan, Wants, Asks};
+ghost use Rattle.rbd_machine.specs.Steps.{ProgressesBy, TellsDone};
 ghost use Rattle.rbd_kinds.specs.declared.header.HeaderView.{HeaderView};
 ghost use Rattle.rbd_header.specs.Header.{context_of};
 ghost use Rattle.rbd_piece.specs.Write.{write_piece, rest_of_write};
@@ -131,7 +130,7 @@ impl WritePiece {
     /// Goes on with an answer. It takes no memory.
     pub fn feed(&mut self, answer: &Answer) -> Progress<()>
         requires { TellsDone answer.now }
-        ensures { (next : Plan) → Progresses next (plan_after (rest_of_write self.old next) (fed_with.Answer answer.now)) result (rest_of_write self.new next) }
+        ensures { ProgressesBy rest_of_write answer.now result self.old self.new }
     {
         match told_done(answer) {
             Ok(()) => match self.stage {

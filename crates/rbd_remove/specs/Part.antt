@@ -27,7 +27,8 @@ pub record IsOutlineOf (h : HeaderView) (o : Outline) : Type 0 where
 -- by the states of the head's map
 abbrev pub looking : SiteId → (image : ℕ) → Outline → (next : Plan) → Plan
 looking site image o next =
-    own site (op.Map image (states.Get None)) (on_bits (λ bits. remove_each site (ops_of image (remnants o.link o.snaps o.journal bits)) next))
+    own site (op.Map image (states.Get None))
+    (on_bits (λ bits. remove_each site (ops_of image (remnants o.link o.snaps o.journal bits)) next))
 
 abbrev pub rest_from : Stage → Remove → (next : Plan) → Plan
 rest_from (stage.Looking outline) r next = looking r.site r.image outline next
@@ -44,7 +45,8 @@ Tells (stage.Removing first) = TellsDone
 
 -- the memory that an answer needs: where the states are told, that of all that is removed
 abbrev pub IsReadyAt : Stage → Remove → Answer → Type 0
-IsReadyAt (stage.Looking outline) r (answer.Bits bits) = r.later.items ≡ remnants outline.link outline.snaps outline.journal bits
+IsReadyAt (stage.Looking outline) r (answer.Bits bits) =
+    r.later.items ≡ remnants outline.link outline.snaps outline.journal bits
 IsReadyAt _ r _ = Unit {0}
 
 abbrev pub IsReady : Remove → Answer → Type 0

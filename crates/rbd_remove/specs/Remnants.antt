@@ -48,7 +48,8 @@ journal_remnants true = remnant.Journal ∷ []
 
 -- what is found by its id, by the states of its head's map: its objects, its maps, and its journal
 abbrev pub contents : List SnapView → (journal : Bool) → (bits : List ℕ) → List Remnant
-contents snaps journal bits = map object_remnant (used_objects bits) ++ (remnant.Map None ∷ (map map_remnant snaps ++ journal_remnants journal))
+contents snaps journal bits =
+    map object_remnant (used_objects bits) ++ (remnant.Map None ∷ (map map_remnant snaps ++ journal_remnants journal))
 
 -- all that an image with this link, these snapshots and maybe a journal is
 abbrev pub remnants : Option ParentLink → List SnapView → (journal : Bool) → (bits : List ℕ) → List Remnant

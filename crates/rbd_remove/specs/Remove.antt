@@ -38,7 +38,8 @@ remove_each site (o ∷ ops) next = own site o (on_gone o (remove_each site ops 
 
 -- all that the image is, by a header and the states of the head's map
 abbrev pub remove : SiteId → (image : ℕ) → HeaderView → (next : Plan) → Plan
-remove site image h next = own site (op.Map image (states.Get None)) (on_bits (λ bits. remove_each site (removal image h bits) next))
+remove site image h next =
+    own site (op.Map image (states.Get None)) (on_bits (λ bits. remove_each site (removal image h bits) next))
 
 -- ---- the command: nobody else may watch the image, before it waits for the lock and behind it
 
@@ -62,7 +63,8 @@ holding_it site session image = holding site image_removal_refuses (remove_owned
 
 -- behind its first look
 abbrev pub looked_at_it : SiteId → (session : ℕ) → (image : ℕ) → HeaderView → Plan
-looked_at_it site session image h = unless (image_removal_refuses h) (unless_watched site session image (holding_it site session image))
+looked_at_it site session image h =
+    unless (image_removal_refuses h) (unless_watched site session image (holding_it site session image))
 
 abbrev pub looking_at_it : SiteId → (session : ℕ) → (image : ℕ) → Plan
 looking_at_it site session image = look site image (looked_at_it site session image)

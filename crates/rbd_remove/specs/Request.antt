@@ -49,7 +49,8 @@ IsReadyIn (Some removal) a = IsReady removal a
 -- at its look under the lock the removal by a header that refuses nothing, and behind it what that
 -- needs
 abbrev pub IsReadyAt : Stage → SiteId → Option Remove → Answer → Type 0
-IsReadyAt (stage.Owning image) site removal (answer.Header h) = image_removal_refuses h ≡ None → IsRemovalBy site image h removal
+IsReadyAt (stage.Owning image) site removal (answer.Header h) =
+    image_removal_refuses h ≡ None → IsRemovalBy site image h removal
 IsReadyAt stage.Removing site removal a = IsReadyIn removal a
 IsReadyAt _ site removal a = Unit {0}
 

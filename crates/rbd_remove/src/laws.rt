@@ -26,11 +26,15 @@ ghost use Rattle.rbd_remove.specs.Told.{AreJournalless, FindJournals, objects_to
 /// snapshots' maps, and the objects in use by the bits of its head's map. So an `rm` has eleven
 /// operations at most, and one for each object in use by the bits that it is told.
 pub fn removals_are_bounded()
-    ensures each { (site : SiteId) (ops : List Op) (next : Plan) (n : ℕ) → IsBounded next n → IsBounded (remove_each site ops next) (n + length ops) }
-    ensures few { (image : ℕ) (h : HeaderView) (bits : List ℕ) → length (removal image h bits) ≤ 5 + length h.snaps + length (used_objects bits) }
+    ensures each { (site : SiteId) (ops : List Op) (next : Plan) (n : ℕ)
+        → IsBounded next n → IsBounded (remove_each site ops next) (n + length ops) }
+    ensures few { (image : ℕ) (h : HeaderView) (bits : List ℕ)
+        → length (removal image h bits) ≤ 5 + length h.snaps + length (used_objects bits) }
     ensures part { (site : SiteId) (image : ℕ) (h : HeaderView) (feds : List Fed) (steps : List Answered) (last : Plan)
-        → IsWalk Goto (remove site image h (Return Done)) feds steps last → length steps ≤ 6 + length h.snaps + objects_told steps }
-    ensures request { (site : SiteId) (session : ℕ) (name : List ℕ) (feds : List Fed) (steps : List Answered) (last : Plan)
+        → IsWalk Goto (remove site image h (Return Done)) feds steps last
+        → length steps ≤ 6 + length h.snaps + objects_told steps }
+    ensures request { (site : SiteId) (session : ℕ) (name : List ℕ) (feds : List Fed)
+        (steps : List Answered) (last : Plan)
         → IsWalk Goto (remove_image site session name) feds steps last → length steps ≤ 11 + objects_told steps }
 {}
 
@@ -43,13 +47,16 @@ pub fn removals_are_lawful()
         → own_of k.owns site image ≡ Some (record { site = site; image = image; alone = true; header = Some h })
         → h.snaps ≡ [] → link_of h ≡ None → h.journal ≡ false
         → ((k : Knowledge) → IsLawful at k next) → IsLawful at k (remove site image h next) }
-    ensures request { (at : Label → Knowledge) (site : SiteId) (session : ℕ) (command : Command) → IsLawful at nothing_known (remove_plan site session command) }
+    ensures request { (at : Label → Knowledge) (site : SiteId) (session : ℕ) (command : Command)
+        → IsLawful at nothing_known (remove_plan site session command) }
 {}
 
 /// A removal begins no part again, unless what comes next does.
 pub fn plans_go_to_no_label()
-    ensures part { (labels : Label → Plan) (site : SiteId) (image : ℕ) (h : HeaderView) (next : Plan) → IsClosed labels next → IsClosed labels (remove site image h next) }
-    ensures request { (site : SiteId) (session : ℕ) (command : Command) → IsClosed Goto (remove_plan site session command) }
+    ensures part { (labels : Label → Plan) (site : SiteId) (image : ℕ) (h : HeaderView) (next : Plan)
+        → IsClosed labels next → IsClosed labels (remove site image h next) }
+    ensures request { (site : SiteId) (session : ℕ) (command : Command)
+        → IsClosed Goto (remove_plan site session command) }
 {}
 
 /// Where a removal is done, all went that the image was, by its header and the states of its head's
@@ -69,7 +76,8 @@ pub fn used_objects_are_those_in_use()
 
 /// What a removal has in its list are the operations of a whole one, in order.
 pub fn remnants_are_all()
-    ensures { (image : ℕ) (h : HeaderView) (bits : List ℕ) → ops_of image (remnants (link_of h) h.snaps h.journal bits) ≡ removal image h bits }
+    ensures { (image : ℕ) (h : HeaderView) (bits : List ℕ)
+        → ops_of image (remnants (link_of h) h.snaps h.journal bits) ≡ removal image h bits }
 {}
 
 /// What each reply of an `rm` means: done where all went that the image was, and refused by the
@@ -77,8 +85,12 @@ pub fn remnants_are_all()
 /// removal. It is answered as who owns the image is, and finds the journal that it removes: so it
 /// is where no header tells one. (That the journal of an image is there isn't said of answers yet.)
 pub fn replies_are_meant()
-    ensures found { (site : SiteId) (session : ℕ) (name : List ℕ) (feds : List Fed) (steps : List Answered) (reply : Reply)
-        → AreGiven steps → FindJournals steps → IsWalk Goto (remove_image site session name) feds steps (Return reply) → RemoveMeans site session name steps reply }
-    ensures without { (site : SiteId) (session : ℕ) (name : List ℕ) (feds : List Fed) (steps : List Answered) (reply : Reply)
-        → AreGiven steps → AreJournalless steps → IsWalk Goto (remove_image site session name) feds steps (Return reply) → RemoveMeans site session name steps reply }
+    ensures found { (site : SiteId) (session : ℕ) (name : List ℕ) (feds : List Fed) (steps : List Answered)
+        (reply : Reply)
+        → AreGiven steps → FindJournals steps → IsWalk Goto (remove_image site session name) feds steps (Return reply)
+        → RemoveMeans site session name steps reply }
+    ensures without { (site : SiteId) (session : ℕ) (name : List ℕ) (feds : List Fed) (steps : List Answered)
+        (reply : Reply)
+        → AreGiven steps → AreJournalless steps → IsWalk Goto (remove_image site session name) feds steps (Return reply)
+        → RemoveMeans site session name steps reply }
 {}

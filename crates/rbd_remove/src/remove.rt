@@ -1,8 +1,7 @@
 //! The removal of an image.
 ghost use Rattle.std.specs.Prelude.{◌≡◌, ℕ, IfOk, OnOk};
-ghost use Rattle.rbd_kinds.specs.declared.machine.Fed.TheVariants as fed_with;
-ghost use Rattle.rbd_machine.specs.Plan.{Plan, Wants, Asks, plan_after};
-ghost use Rattle.rbd_machine.specs.Steps.{going, Progresses, TellsDone};
+ghost use Rattle.rbd_machine.specs.Plan.{Plan, Wants, Asks};
+ghost use Rattle.rbd_machine.specs.Steps.{going, Progresses, ProgressesBy, TellsDone};
 ghost use Rattle.rbd_remove.specs.Part as of_part;
 ghost use Rattle.rbd_remove.specs.Part.{rest_of_removal};
 ghost use Rattle.rbd_remove.specs.Remnants.{op_of, ops_of};
@@ -58,7 +57,8 @@ impl Remove {
         image: ImageId,
         header: &HeaderView,
     ) -> Result<Self, NoMemory>
-        ensures { IfOk result (λ r. (next : Plan) → rest_of_removal r next ≡ of_removal.remove site image header.now next) }
+        ensures { IfOk result (λ r. (next : Plan)
+            → rest_of_removal r next ≡ of_removal.remove site image header.now next) }
     {
         Ok(Remove {
             site,
@@ -115,7 +115,7 @@ impl Remove {
     pub fn feed(&mut self, answer: &Answer) -> Progress<()>
         requires tells { of_part.Tells self.old.stage answer.now }
         requires ready { of_part.IsReady self.old answer.now }
-        ensures { (next : Plan) → Progresses next (plan_after (rest_of_removal self.old next) (fed_with.Answer answer.now)) result (rest_of_removal self.new next) }
+        ensures { ProgressesBy rest_of_removal answer.now result self.old self.new }
     {
         match &self.stage {
             Stage::Looking(_) => match answer {
@@ -131,7 +131,10 @@ impl Remove {
 
     /// Goes on to what is removed next, or has ended where nothing is left.
     fn go_on(&mut self) -> Progress<()>
-        ensures { (next : Plan) → Progresses next (of_removal.remove_each self.old.site (ops_of self.old.image self.old.later.items) next) result (rest_of_removal self.new next) }
+        ensures { (next : Plan)
+            → Progresses next
+            (of_removal.remove_each self.old.site (ops_of self.old.image self.old.later.items) next)
+            result (rest_of_removal self.new next) }
     {
         match self.later.pop_front() {
             Some(remnant) => {
@@ -147,7 +150,8 @@ impl Remove {
 /// isn't.
 fn told_gone(remnant: &Remnant, answer: &Answer) -> Result<(), Refusal>
     requires { TellsDone answer.now }
-    ensures { (image : ℕ) (next : Plan) → of_removal.on_gone (op_of image remnant.now) next answer.now ≡ going (λ gone. next) result }
+    ensures { (image : ℕ) (next : Plan)
+        → of_removal.on_gone (op_of image remnant.now) next answer.now ≡ going (λ gone. next) result }
 {
     if let Answer::Absent = answer {
         if remnant.may_be_gone() {

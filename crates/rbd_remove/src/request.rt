@@ -16,7 +16,7 @@ ghost use Rattle.rbd_kinds.specs.declared.header.HeaderView.{HeaderView};
 use crate::remove::Remove;
 use crate::watchers::{told_watchers, watchers_get};
 use rbd_kinds::{
-    Answer, Command, Event, Fed, HeaderView, ImageId, Name, NoMemory, Op, OpKind, Refusal, Reply,
+    Answer, Command, Fed, HeaderView, ImageId, Name, NoMemory, Op, OpKind, Refusal, Reply,
     SessionNo, Sharing, SiteId, Snaps, Turn, Want,
 };
 use rbd_machine::{
@@ -107,7 +107,8 @@ impl RemoveRequest {
     ) -> Result<(), NoMemory>
         ensures stage { self.new.stage ≡ self.old.stage }
         ensures place { (self.new.site ≡ self.old.site) × (self.new.session ≡ self.old.session) }
-        ensures ready { OnOk result (image_removal_refuses header.now ≡ None → of_request.IsRemovalBy self.old.site image header.now self.new.removal) }
+        ensures ready { OnOk result (image_removal_refuses header.now ≡ None
+            → of_request.IsRemovalBy self.old.site image header.now self.new.removal) }
     {
         if refusal_by(header).is_some() {
             return Ok(());
@@ -133,7 +134,8 @@ impl RemoveRequest {
         requires tells { of_request.TellsAt self.old.stage answer.now }
         requires can { CanBeFed (rest_of_request self.old) (fed_with.Answer answer.now) }
         requires ready { of_request.IsReadyToGo self.old answer.now }
-        ensures { GoesOn Goto (plan_after (rest_of_request self.old) (fed_with.Answer answer.now)) result (without_labels (rest_of_request self.new)) }
+        ensures { GoesOn Goto (plan_after (rest_of_request self.old) (fed_with.Answer answer.now)) result
+            (without_labels (rest_of_request self.new)) }
     {
         match self.stage.behind(self.session, answer) {
             Ok(behind) => {
@@ -149,7 +151,8 @@ impl RemoveRequest {
         requires at { self.old.stage ≡ at.Removing }
         requires can { CanBeFed (rest_of_request self.old) (fed_with.Answer answer.now) }
         requires ready { of_request.IsReadyToGo self.old answer.now }
-        ensures { GoesOn Goto (plan_after (rest_of_request self.old) (fed_with.Answer answer.now)) result (without_labels (rest_of_request self.new)) }
+        ensures { GoesOn Goto (plan_after (rest_of_request self.old) (fed_with.Answer answer.now)) result
+            (without_labels (rest_of_request self.new)) }
     {
         match &mut self.removal {
             Some(removal) => match removal.feed(answer) {
@@ -167,9 +170,12 @@ impl Stage {
     /// ends.
     fn behind(&self, session: SessionNo, answer: &Answer) -> Result<Stage, Refusal>
         requires { of_request.TellsAt self.now answer.now }
-        ensures { (site : SiteId) (removal : Option Remove) → CanBeFed (of_request.rest_at self.now site session removal) (fed_with.Answer answer.now)
+        ensures { (site : SiteId) (removal : Option Remove)
+            → CanBeFed (of_request.rest_at self.now site session removal) (fed_with.Answer answer.now)
             → of_request.IsReadyAt self.now site removal answer.now
-            → of_request.LeadsTo (plan_after (of_request.rest_at self.now site session removal) (fed_with.Answer answer.now)) result site session removal }
+            → of_request.LeadsTo
+            (plan_after (of_request.rest_at self.now site session removal) (fed_with.Answer answer.now))
+            result site session removal }
     {
         match self {
             Stage::Finding(_) => Ok(Stage::Joining(told_image(answer)?)),
@@ -201,7 +207,8 @@ impl Stage {
 fn told_removable(answer: &Answer) -> Result<(), Refusal>
     requires { TellsHeader answer.now }
     ensures ok { IfOk result (λ may. of_request.TellsRemovable answer.now) }
-    ensures err { IfErr result (λ x. (next : HeaderView → Plan) → on_header (λ h. unless (image_removal_refuses h) (next h)) answer.now ≡ refused x) }
+    ensures err { IfErr result (λ x. (next : HeaderView → Plan)
+        → on_header (λ h. unless (image_removal_refuses h) (next h)) answer.now ≡ refused x) }
 {
     match refusal_by(told_header(answer)?) {
         None => Ok(()),
@@ -283,10 +290,6 @@ impl Machine for RemoveRequest {
 
     fn reason(&self) -> Reason {
         Reason::Own
-    }
-
-    fn event(&self, _alloc: Global) -> Result<Option<Event>, NoMemory> {
-        Ok(None)
     }
 
     fn ready(&mut self, alloc: Global, fed: &Fed) -> Result<(), NoMemory> {

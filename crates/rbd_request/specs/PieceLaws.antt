@@ -22,5 +22,6 @@ pub piece_asks : (t : WriteTurn) (next : Plan) → AsksByItself (rest_of_piece t
 piece_asks t next = asks_at t.piece.stage t.piece next
 
 -- what it may be fed tells it how to go on
-pub piece_tells : (t : WriteTurn) (next : Plan) (a : Answer) → CanBeFed (rest_of_piece t next) (fed.Answer a) → TellsPiece t a
+pub piece_tells : (t : WriteTurn) (next : Plan) (a : Answer) → CanBeFed (rest_of_piece t next) (fed.Answer a)
+    → TellsPiece t a
 piece_tells t next a can = write_tells t.piece.stage t.piece next a can

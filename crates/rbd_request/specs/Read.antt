@@ -37,7 +37,8 @@ is_read _ = false
 -- The closing look. Where the header is still what it was, the bytes are the reply. Where it
 -- changed, or is gone, the read begins again.
 abbrev pub on_closing : Seen → (read : List ℕ) → Answer → Plan
-on_closing seen read (answer.Header h) = if h.generation == seen.generation then Return (reply.Bytes (shown seen read)) else Goto label.Begin
+on_closing seen read (answer.Header h) =
+    if h.generation == seen.generation then Return (reply.Bytes (shown seen read)) else Goto label.Begin
 on_closing seen read answer.Absent = Goto label.Begin
 on_closing seen read a = not_there a
 
@@ -69,7 +70,8 @@ read_standing site name snap e plan = record { labels = read_labels site name sn
 
 abbrev pub IsReadOf : SiteId → Command → Standing → Type 0
 IsReadOf site (command.Read image snap at len) standing =
-    standing ≡ read_standing site image snap (record { at = at; len = len }) (pass site image snap (record { at = at; len = len }))
+    standing ≡ read_standing site image snap (record { at = at; len = len })
+    (pass site image snap (record { at = at; len = len }))
 IsReadOf site _ standing = ⊥
 
 -- ---- where it stands

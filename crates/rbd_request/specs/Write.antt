@@ -32,10 +32,12 @@ is_write (command.Fill image at len byte) = true
 is_write _ = false
 
 -- each piece at its turn, by ascending object
-abbrev pub write_pieces : SiteId → (image : ℕ) → HeaderView → (at : ℕ) → (bytes : List ℕ) → List Piece → (next : Plan) → Plan
+abbrev pub write_pieces : SiteId → (image : ℕ) → HeaderView → (at : ℕ) → (bytes : List ℕ) → List Piece
+    → (next : Plan) → Plan
 write_pieces site image h at bytes [] next = next
 write_pieces site image h at bytes (p ∷ pieces) next =
-    Await (wait.Turn p.object) (write_piece site image h p (bytes_for p.parts at bytes) (write_pieces site image h at bytes pieces next))
+    Await (wait.Turn p.object)
+    (write_piece site image h p (bytes_for p.parts at bytes) (write_pieces site image h at bytes pieces next))
 
 -- its event is noted, then the pieces are written, and then the event counts as applied
 abbrev pub put : SiteId → (at : ℕ) → (bytes : List ℕ) → (image : ℕ) → HeaderView → Plan

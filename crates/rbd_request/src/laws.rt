@@ -41,7 +41,8 @@ pub fn reads_are_bounded()
     ensures pass { (site : SiteId) (name : List ℕ) (snap : Option (List ℕ)) (e : Extent) (most : ℕ)
         → ((h : HeaderView) → length (pieces_of h.layout e) ≤ most)
         → IsBounded (pass site name snap e) (most + 3) }
-    ensures all { (site : SiteId) (name : List ℕ) (snap : Option (List ℕ)) (e : Extent) (most : ℕ) (feds : List Fed) (steps : List Answered) (last : Plan)
+    ensures all { (site : SiteId) (name : List ℕ) (snap : Option (List ℕ)) (e : Extent) (most : ℕ) (feds : List Fed)
+        (steps : List Answered) (last : Plan)
         → ((h : HeaderView) → length (pieces_of h.layout e) ≤ most)
         → IsWalk (read_labels site name snap e) (pass site name snap e) feds steps last
         → length steps ≤ (1 + jumps (read_labels site name snap e) (pass site name snap e) feds) * (most + 3) }
@@ -58,7 +59,8 @@ pub fn turns_are_those_of_the_pieces()
 /// A write begins no part again, and a read begins again at an operation.
 pub fn labels_stand_at_operations()
     ensures write { (home : SiteId) (command : Command) → IsClosed Goto (write_plan home command) }
-    ensures read { (site : SiteId) (name : List ℕ) (snap : Option (List ℕ)) (e : Extent) → IsClosed (read_labels site name snap e) (pass site name snap e) }
+    ensures read { (site : SiteId) (name : List ℕ) (snap : Option (List ℕ)) (e : Extent)
+        → IsClosed (read_labels site name snap e) (pass site name snap e) }
 {}
 
 /// A read, however often it begins again, shows bytes only at the end of a pass between two looks
@@ -66,8 +68,10 @@ pub fn labels_stand_at_operations()
 /// look, in the order of the image. Each pass before saw another header at its second look, or
 /// none.
 pub fn bytes_are_shown_between_looks()
-    ensures { (site : SiteId) (name : List ℕ) (snap : Option (List ℕ)) (e : Extent) (feds : List Fed) (steps : List Answered) (bytes : List ℕ)
-        → IsWalk (read_labels site name snap e) (pass site name snap e) feds steps (Return (Bytes bytes)) → ShowsAtLast site name snap e steps bytes }
+    ensures { (site : SiteId) (name : List ℕ) (snap : Option (List ℕ)) (e : Extent) (feds : List Fed)
+        (steps : List Answered) (bytes : List ℕ)
+        → IsWalk (read_labels site name snap e) (pass site name snap e) feds steps (Return (Bytes bytes))
+        → ShowsAtLast site name snap e steps bytes }
 {}
 
 /// A write is done only when each of its pieces was written by its look under the lock, under the
@@ -87,7 +91,8 @@ pub fn writes_are_lawful()
 
 /// A read is lawful from nothing known, and begins again with nothing known.
 pub fn reads_are_lawful()
-    ensures { (home : SiteId) (command : Command) (standing : Standing) → IsReadOf home command standing → IsLawfulRequest standing }
+    ensures { (home : SiteId) (command : Command) (standing : Standing)
+        → IsReadOf home command standing → IsLawfulRequest standing }
 {}
 
 /// A reply is meant by its command, behind the operations that were done (`IsMeantBy` of
@@ -95,8 +100,11 @@ pub fn reads_are_lawful()
 /// changes: it was written or is shown when a request isn't refused, and when it is, the last
 /// answer refused it, and none before. No other reply comes.
 pub fn replies_are_meant()
-    ensures write { (seat : Seat) (command : Command) (feds : List Fed) (steps : List Answered) (reply : Reply) → is_write command ≡ true → AreGiven steps
+    ensures write { (seat : Seat) (command : Command) (feds : List Fed) (steps : List Answered) (reply : Reply)
+        → is_write command ≡ true → AreGiven steps
         → IsWalk Goto (write_plan seat.home command) feds steps (Return reply) → IsMeantBy seat command steps reply }
-    ensures read { (seat : Seat) (command : Command) (standing : Standing) (feds : List Fed) (steps : List Answered) (reply : Reply) → IsReadOf seat.home command standing → AreGiven steps
+    ensures read { (seat : Seat) (command : Command) (standing : Standing) (feds : List Fed) (steps : List Answered)
+        (reply : Reply)
+        → IsReadOf seat.home command standing → AreGiven steps
         → IsWalk standing.labels standing.plan feds steps (Return reply) → IsMeantBy seat command steps reply }
 {}

@@ -4,10 +4,11 @@
 //! ```text
 //! let mut request = write_request(alloc, SiteId::A, command)?;        // write disk 4094 hello
 //! loop {
-//!     request.wants()              // dir-find, to join the line, header-get, the lock, header-get, its event noted,
+//!     request.wants()              // dir-find, to join the line, header-get, the lock,
+//!                                  // header-get, its event noted,
 //!                                  // its turn at object 0, map-set, data-write,
 //!                                  // its turn at object 1, map-set, data-write, applied
-//!     request.next(alloc)?         // the operation, where it wants one; `event` tells the event
+//!     request.next(alloc)?         // the operation, where it wants one
 //!     request.ready(alloc, &fed)?  // takes the memory that the answer needs
 //!     match request.feed(&fed) {
 //!         Turn::More => continue,
@@ -56,13 +57,13 @@
 //! A request takes a step for each thing that it wants. A write asks twice for each object that it
 //! touches, for its state and for its bytes, and a read once; a read that begins again takes all
 //! its steps again. The bytes of a write lie in memory once: the request takes them over from the
-//! command, and its event, its pieces and their operations share them. Only those of a piece with
-//! several parts, which lie apart in the command's bytes, are gathered, once, at the look under the
-//! lock. The snapshot context is one for all pieces. Those of a read are copied once from the
-//! answers to behind one another, and once into the reply, in the order of the image.
+//! command, and its pieces and their operations share them. Only those of a piece with several
+//! parts, which lie apart in the command's bytes, are gathered, once, at the look under the lock.
+//! The snapshot context is one for all pieces. Those of a read are copied once from the answers to
+//! behind one another, and once into the reply, in the order of the image.
 //!
-//! Memory is taken by [`write_request`], `next`, `event` and `ready`, and these may be refused it
-//! without a change. [`ReadRequest::new`], `wants` and `feed` take none.
+//! Memory is taken by [`write_request`], `next` and `ready`, and these may be refused it without a
+//! change. [`ReadRequest::new`], `wants` and `feed` take none.
 //!
 //! # How it works
 //!

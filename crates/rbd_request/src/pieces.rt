@@ -30,7 +30,8 @@ pub fn write_pieces(
     requires form { IsHeaderInForm header.now }
     requires fits { out_of_range (extent_at at bytes.now) header.now.size ≡ None }
     ensures { IfOk result (λ made. (next : Plan) → of_write.rest_of_pieces made.items next
-        ≡ of_write.write_pieces target.site target.image header.now at bytes.now (pieces_of header.now.layout (extent_at at bytes.now)) next) }
+        ≡ of_write.write_pieces target.site target.image header.now at bytes.now
+        (pieces_of header.now.layout (extent_at at bytes.now)) next) }
 {
     let extent = Extent {
         at,
@@ -56,7 +57,8 @@ fn write_piece(
 ) -> Result<WriteTurn, NoMemory>
     requires { AreBehind at piece.parts }
     ensures plan { IfOk result (λ w. (header : of_header.HeaderView) (next : Plan) → context.now ≡ told_context header
-        → of_write.rest_of_piece w next ≡ piece_of_write target.site target.image header piece (bytes_of_parts piece.parts at bytes.now) next) }
+        → of_write.rest_of_piece w next
+        ≡ piece_of_write target.site target.image header piece (bytes_of_parts piece.parts at bytes.now) next) }
     ensures object { IfOk result (λ w. of_write.object_of w ≡ piece.object) }
 {
     let bytes = bytes_for(alloc, bytes, at, piece.parts.as_slice())?;

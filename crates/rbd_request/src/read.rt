@@ -18,8 +18,8 @@ use crate::extent::out_of_range as refused_range;
 use crate::looked::Looked;
 use rbd_header::{View, view_of};
 use rbd_kinds::{
-    Answer, AskedName, Bytes, Command, Event, Extent, Fed, HeaderView, ImageId, Name, NoMemory, Op,
-    OpKind, Refusal, Reply, SiteId, TryClone, Turn, Want,
+    Answer, AskedName, Bytes, Command, Extent, Fed, HeaderView, ImageId, Name, NoMemory, Op,
+    OpKind, Refusal, Reply, SiteId, Turn, Want,
 };
 use rbd_layout::pieces;
 use rbd_machine::{
@@ -99,7 +99,8 @@ impl ReadRequest {
             ≡ going (of_read.gathering self.now.site image header.now self.now.extent) result }
         ensures view { IfOk result (λ view. named_view header.now self.now.snap ≡ Some view) }
         ensures fits { IfOk result (λ view. out_of_range self.now.extent view.size ≡ None) }
-        ensures none { OnErr result ((view : View) → named_view header.now self.now.snap ≡ Some view → out_of_range self.now.extent view.size ≡ None → ⊥) }
+        ensures none { OnErr result ((view : View)
+            → named_view header.now self.now.snap ≡ Some view → out_of_range self.now.extent view.size ≡ None → ⊥) }
     {
         let Some(view) = view_of(header, self.snap.as_ref()) else {
             return Err(Refusal::NoSnap);
@@ -155,7 +156,9 @@ impl ReadRequest {
         requires form { IsHeaderInForm header.now }
         requires view { named_view header.now self.now.snap ≡ Some view.now }
         requires fits { out_of_range self.now.extent view.now.size ≡ None }
-        ensures { IfOk result (λ g. (next : List ℕ → Plan) → rest_of_gather g next ≡ gathered self.now.site image view.now.snap (pieces_of header.now.layout self.now.extent) [] next) }
+        ensures { IfOk result (λ g. (next : List ℕ → Plan)
+            → rest_of_gather g next
+            ≡ gathered self.now.site image view.now.snap (pieces_of header.now.layout self.now.extent) [] next) }
     {
         let listed = pieces(alloc, &header.layout, &self.extent)?;
         Ok(Gather::new(alloc, self.site, image, view.snap, listed))
@@ -167,7 +170,9 @@ impl ReadRequest {
         requires tells { TellsHeader answer.now }
         requires form { IsHeaderToldInForm answer.now }
         requires ready { of_read.IsReady self.old answer.now }
-        ensures { GoesOn (of_read.standing_of self.old).labels (plan_after (of_read.rest_at (stage.Looking image) self.old) (fed_with.Answer answer.now)) result (of_read.standing_of self.new) }
+        ensures { GoesOn (of_read.standing_of self.old).labels
+            (plan_after (of_read.rest_at (stage.Looking image) self.old) (fed_with.Answer answer.now))
+            result (of_read.standing_of self.new) }
     {
         let header = match told_header(answer) {
             Ok(header) => header,
@@ -195,7 +200,9 @@ impl ReadRequest {
         requires at { of_read.IsClosing self.old.stage }
         requires tells { TellsHeader answer.now }
         requires ready { of_read.IsReady self.old answer.now }
-        ensures { GoesOn (of_read.standing_of self.old).labels (plan_after (of_read.rest_at self.old.stage self.old) (fed_with.Answer answer.now)) result (of_read.standing_of self.new) }
+        ensures { GoesOn (of_read.standing_of self.old).labels
+            (plan_after (of_read.rest_at self.old.stage self.old) (fed_with.Answer answer.now))
+            result (of_read.standing_of self.new) }
     {
         let Stage::Closing(_, looked, _) = &self.stage else {
             unreachable!()
@@ -229,7 +236,8 @@ fn show(
     read: &[u8],
     header: &HeaderView,
 ) -> Result<(), NoMemory>
-    ensures { OnOk result ((header.now.generation == looked.now.generation) ≡ true → shown.new ≡ Some (of_seen.shown looked.now read.now)) }
+    ensures { OnOk result ((header.now.generation == looked.now.generation) ≡ true
+        → shown.new ≡ Some (of_seen.shown looked.now read.now)) }
 {
     if !looked.is_still(header) {
         return Ok(());
@@ -273,15 +281,6 @@ impl Machine for ReadRequest {
 
     fn reason(&self) -> Reason {
         Reason::Own
-    }
-
-    fn event(&self, _alloc: Global) -> Result<Option<Event>, NoMemory> {
-        match &self.stage {
-            Stage::Finding => Ok(None),
-            Stage::Looking(_) => Ok(None),
-            Stage::Gathering(_, _, _) => Ok(None),
-            Stage::Closing(_, _, _) => Ok(None),
-        }
     }
 
     fn ready(&mut self, alloc: Global, fed: &Fed) -> Result<(), NoMemory> {

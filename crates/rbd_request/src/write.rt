@@ -9,8 +9,8 @@ use crate::extent::range_refusal;
 use crate::pieces::write_pieces;
 use rbd_change::{ExtentChange, ExtentRequest, Part, Piece};
 use rbd_kinds::{
-    Answer, Bytes, Command, Event, Extent, FillLength, HeaderView, ImageAt, ImageId, Name,
-    NoMemory, Op, Refusal, Sharing, SiteId, TryClone, Want,
+    Answer, Bytes, Command, Extent, FillLength, HeaderView, ImageAt, ImageId, Name, NoMemory, Op,
+    Refusal, Sharing, SiteId, Want,
 };
 use rbd_machine::{Progress, Refuses};
 use rbd_piece::WritePiece;
@@ -82,7 +82,7 @@ fn write_of(alloc: Global, site: SiteId, name: Name, at: u64, bytes: Bytes) -> W
     WriteRequest::new(alloc, site, name, Sharing::Shared, change)
 }
 
-/// As many bytes as a fill puts, in memory that its pieces and its event share.
+/// As many bytes as a fill puts, in memory that its pieces share.
 fn filled(alloc: Global, len: FillLength, byte: u8) -> Result<Bytes, NoMemory>
     ensures { IfOk result (λ bytes. bytes ≡ replicate len byte) }
 {
@@ -107,13 +107,6 @@ impl ExtentChange for WriteChange {
     ghost noted = { event_of };
 
     ghost does = { does };
-
-    fn event(&self) -> Result<Event, NoMemory> {
-        Ok(Event::Write {
-            at: self.at,
-            bytes: self.bytes.try_clone()?,
-        })
-    }
 
     fn pieces(
         &self,

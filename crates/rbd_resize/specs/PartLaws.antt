@@ -1,5 +1,5 @@
--- The laws of the parts of `resize` and `snap rollback`: lemmas that the laws of an `impl` cite. They
--- define nothing.
+-- The laws of the parts of `resize` and `snap rollback`: lemmas that the laws of an `impl` cite.
+-- They define nothing.
 use Rattle.std.proofs.Common.{Some, refl}
 use Rattle.rbd_kinds.specs.declared.answer.Answer.{Answer}
 use Rattle.rbd_kinds.specs.declared.machine.Fed.TheVariants as fed
@@ -56,7 +56,8 @@ full_asks (way.Zeroing z) next = zero_asks z.stage z next
 size_asks : (s : of_size.Stage) (z : Size) (next : Plan) → AsksByItself (size.rest_from s z next)
 size_asks (size_stage.Growing objects to) z next = refl
 size_asks (size_stage.Looking shrink) z next = refl
-size_asks (size_stage.Zeroing piece to) z next = zero_asks piece.stage piece (size.rest_of_zeros z.pieces.items (size.sizing z.site z.image to next))
+size_asks (size_stage.Zeroing piece to) z next =
+    zero_asks piece.stage piece (size.rest_of_zeros z.pieces.items (size.sizing z.site z.image to next))
 size_asks (size_stage.Sizing to) z next = refl
 
 pub new_size_asks : (n : NewSize) (next : Plan) → AsksByItself (rest_of_new_size n next)
@@ -75,10 +76,12 @@ rollback_asks r next = rolling_asks r.stage next
 
 -- ---- what it may be fed tells it how to go on
 
-pub new_size_tells : (n : NewSize) (next : Plan) (a : Answer) → CanBeFed (rest_of_new_size n next) (fed.Answer a) → TellsNewSize n a
+pub new_size_tells : (n : NewSize) (next : Plan) (a : Answer) → CanBeFed (rest_of_new_size n next) (fed.Answer a)
+    → TellsNewSize n a
 new_size_tells n next a can = size_tells n.size.stage n.size next a can
 
-restore_tells : (s : of_restore.Stage) (r : Restoring) (next : Plan) (a : Answer) → CanBeFed (restore.rest_from s r next) (fed.Answer a) → restore.Tells s a
+restore_tells : (s : of_restore.Stage) (r : Restoring) (next : Plan) (a : Answer)
+    → CanBeFed (restore.rest_from s r next) (fed.Answer a) → restore.Tells s a
 restore_tells restore_stage.Reading r next a can = read_tells r.image (Some r.snap) r.piece a can
 restore_tells (restore_stage.Replacing f) r next a can = full_tells f.way (rest_of_others r next) a can
 
@@ -86,5 +89,6 @@ rolling_tells : (s : Stage) (next : Plan) (a : Answer) → CanBeFed (rest_from s
 rolling_tells (stage.Sizing z objects) next a can = size_tells z.stage z (rest_of_some objects next) a can
 rolling_tells (stage.Restoring objects) next a can = restore_tells objects.stage objects next a can
 
-pub rollback_tells : (r : Rollback) (next : Plan) (a : Answer) → CanBeFed (rest_of_rollback r next) (fed.Answer a) → Tells r a
+pub rollback_tells : (r : Rollback) (next : Plan) (a : Answer)
+    → CanBeFed (rest_of_rollback r next) (fed.Answer a) → Tells r a
 rollback_tells r next a can = rolling_tells r.stage next a can

@@ -28,7 +28,8 @@ is_resize _ = false
 
 -- its event is noted, then the size is set, and then the event counts as applied
 abbrev pub set_size : SiteId → (to : ℕ) → (image : ℕ) → HeaderView → Plan
-set_size site to image h = Note site image (event.Resize to) (resize site image h to (object_count h.layout to) (applied site image))
+set_size site to image h =
+    Note site image (event.Resize to) (resize site image h to (object_count h.layout to) (applied site image))
 
 abbrev pub size_change : SiteId → (name : List ℕ) → (to : ℕ) → Plan
 size_change site name to = change site name sharing.Alone (resize_refuses to) (set_size site to)

@@ -58,7 +58,8 @@ Tells (stage.Replacing full) = TellsDone
 
 abbrev pub IsReplacedBy : Restoring → (bytes : List ℕ) → Option FullPiece → Type 0
 IsReplacedBy r bytes None = ⊥
-IsReplacedBy r bytes (Some full) = (next : Plan) → rest_of_full full next ≡ full_piece r.site r.image r.header r.piece bytes next
+IsReplacedBy r bytes (Some full) =
+    (next : Plan) → rest_of_full full next ≡ full_piece r.site r.image r.header r.piece bytes next
 
 abbrev pub IsReadyAt : Stage → Restoring → Answer → Type 0
 IsReadyAt stage.Reading r (answer.Bytes bytes) = IsReplacedBy r bytes r.readied

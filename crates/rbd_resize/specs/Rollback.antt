@@ -29,12 +29,14 @@ is_rollback _ = false
 
 -- a piece is read at a snapshot, and what it shows replaces the head's object
 abbrev pub restore : SiteId → (image : ℕ) → HeaderView → (snap : ℕ) → Piece → (next : Plan) → Plan
-restore site image h snap p next = gather site image (Some snap) (p ∷ []) [] (λ bytes. full_piece site image h p bytes next)
+restore site image h snap p next =
+    gather site image (Some snap) (p ∷ []) [] (λ bytes. full_piece site image h p bytes next)
 
 -- one piece after another
 abbrev pub restore_pieces : SiteId → (image : ℕ) → HeaderView → (snap : ℕ) → List Piece → (next : Plan) → Plan
 restore_pieces site image h snap [] next = next
-restore_pieces site image h snap (p ∷ pieces) next = restore site image h snap p (restore_pieces site image h snap pieces next)
+restore_pieces site image h snap (p ∷ pieces) next =
+    restore site image h snap p (restore_pieces site image h snap pieces next)
 
 -- all objects of the head, by the header at the snapshot's size
 abbrev pub restore_all : SiteId → (image : ℕ) → HeaderView → (snap : ℕ) → (next : Plan) → Plan
@@ -43,14 +45,16 @@ restore_all site image h snap next = restore_pieces site image h snap (pieces_of
 -- The size is set first, to that of the snapshot.
 abbrev pub roll_back : SiteId → (image : ℕ) → HeaderView → (listed : SnapView) → (next : Plan) → Plan
 roll_back site image h listed next =
-    resize site image h listed.size (object_count h.layout listed.size) (restore_all site image (at_size listed.size h) listed.id next)
+    resize site image h listed.size (object_count h.layout listed.size)
+    (restore_all site image (at_size listed.size h) listed.id next)
 
 -- ---- the command
 
 -- by the snapshot that the look under the lock lists under the name
 abbrev pub roll_back_listed : SiteId → (snap : List ℕ) → (image : ℕ) → HeaderView → Option SnapView → Plan
 roll_back_listed site snap image h None = refused refusal.NoSnap
-roll_back_listed site snap image h (Some listed) = Note site image (event.SnapRollback snap) (roll_back site image h listed (applied site image))
+roll_back_listed site snap image h (Some listed) =
+    Note site image (event.SnapRollback snap) (roll_back site image h listed (applied site image))
 
 abbrev pub roll_back_to : SiteId → (snap : List ℕ) → (image : ℕ) → HeaderView → Plan
 roll_back_to site snap image h = roll_back_listed site snap image h (snap_named h.snaps snap)

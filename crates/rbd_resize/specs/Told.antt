@@ -27,4 +27,5 @@ HasFewToCut to most h = length (pieces_of h.layout (head_from h to)) ≤ most
 -- byte behind the snapshot's size, and four for each of the snapshot's.
 abbrev pub HasFewToRestore : (snap : List ℕ) (most : ℕ) → HeaderView → Type 0
 HasFewToRestore snap most h = (s : SnapView) → snap_named h.snaps snap ≡ Some s
-    → 3 * length (pieces_of h.layout (head_from h s.size)) + 4 * length (pieces_of h.layout (head_of (at_size s.size h))) ≤ most
+    → 3 * length (pieces_of h.layout (head_from h s.size))
+    + 4 * length (pieces_of h.layout (head_of (at_size s.size h))) ≤ most

@@ -29,17 +29,26 @@ ghost use Rattle.rbd_resize.specs.Told.{HasFewToCut, HasFewToRestore, HoldsOfTol
 /// That of a whole request is said of walks, since its look under the lock decides how many objects
 /// there are.
 pub fn requests_are_bounded()
-    ensures grow { (site : SiteId) (to image : ℕ) (h : HeaderView) → h.size ≤ to → IsBounded (set_size site to image h) 2 }
+    ensures grow { (site : SiteId) (to image : ℕ) (h : HeaderView)
+        → h.size ≤ to → IsBounded (set_size site to image h) 2 }
     ensures shrink { (site : SiteId) (to image : ℕ) (h : HeaderView) → to < h.size
         → IsBounded (set_size site to image h) (2 + 3 * length (pieces_of h.layout (head_from h to))) }
-    ensures back_grow { (site : SiteId) (image : ℕ) (h : HeaderView) (listed : SnapView) (next : Plan) (n : ℕ) → IsBounded next n → h.size ≤ listed.size
-        → IsBounded (roll_back site image h listed next) (n + 2 + 4 * length (pieces_of h.layout (head_of (at_size listed.size h)))) }
-    ensures back_shrink { (site : SiteId) (image : ℕ) (h : HeaderView) (listed : SnapView) (next : Plan) (n : ℕ) → IsBounded next n → listed.size < h.size
+    ensures back_grow { (site : SiteId) (image : ℕ) (h : HeaderView) (listed : SnapView) (next : Plan) (n : ℕ)
+        → IsBounded next n → h.size ≤ listed.size
         → IsBounded (roll_back site image h listed next)
-        (n + 2 + 3 * length (pieces_of h.layout (head_from h listed.size)) + 4 * length (pieces_of h.layout (head_of (at_size listed.size h)))) }
-    ensures resize { (site : SiteId) (name : List ℕ) (to most : ℕ) (feds : List Fed) (steps : List Answered) (reply : Reply) → HoldsOfTold (HasFewToCut to most) steps
+        (n + 2 + 4 * length (pieces_of h.layout (head_of (at_size listed.size h)))) }
+    ensures back_shrink { (site : SiteId) (image : ℕ) (h : HeaderView) (listed : SnapView) (next : Plan) (n : ℕ)
+        → IsBounded next n → listed.size < h.size
+        → IsBounded (roll_back site image h listed next)
+        (n + 2 + 3 * length (pieces_of h.layout (head_from h listed.size))
+        + 4 * length (pieces_of h.layout (head_of (at_size listed.size h)))) }
+    ensures resize { (site : SiteId) (name : List ℕ) (to most : ℕ) (feds : List Fed) (steps : List Answered)
+        (reply : Reply)
+        → HoldsOfTold (HasFewToCut to most) steps
         → IsWalk Goto (size_change site name to) feds steps (Return reply) → length steps ≤ 5 + 3 * most }
-    ensures rollback { (site : SiteId) (name snap : List ℕ) (most : ℕ) (feds : List Fed) (steps : List Answered) (reply : Reply) → HoldsOfTold (HasFewToRestore snap most) steps
+    ensures rollback { (site : SiteId) (name snap : List ℕ) (most : ℕ) (feds : List Fed) (steps : List Answered)
+        (reply : Reply)
+        → HoldsOfTold (HasFewToRestore snap most) steps
         → IsWalk Goto (rollback site name snap) feds steps (Return reply) → length steps ≤ 5 + most }
 {}
 
@@ -60,7 +69,8 @@ pub fn rollbacks_are_lawful()
 pub fn plans_go_to_no_label()
     ensures resize { (home : SiteId) (command : Command) → IsClosed Goto (resize_plan home command) }
     ensures rollback { (home : SiteId) (command : Command) → IsClosed Goto (rollback_plan home command) }
-    ensures part { (labels : Label → Plan) (site : SiteId) (image : ℕ) (h : HeaderView) (listed : SnapView) (next : Plan)
+    ensures part { (labels : Label → Plan) (site : SiteId) (image : ℕ) (h : HeaderView)
+        (listed : SnapView) (next : Plan)
         → IsClosed labels next → IsClosed labels (roll_back site image h listed next) }
 {}
 
@@ -86,8 +96,10 @@ pub fn rollbacks_are_whole()
 /// front of a whole one. No other reply comes. (Of an image with a parent `data-zero` may be
 /// answered `none`, where copy-up will join.)
 pub fn replies_are_meant()
-    ensures resize { (site : SiteId) (name : List ℕ) (to : ℕ) (feds : List Fed) (steps : List Answered) (reply : Reply) → AreGiven steps → AreParentless steps
+    ensures resize { (site : SiteId) (name : List ℕ) (to : ℕ) (feds : List Fed) (steps : List Answered) (reply : Reply)
+        → AreGiven steps → AreParentless steps
         → IsWalk Goto (size_change site name to) feds steps (Return reply) → ResizeMeans site name to steps reply }
-    ensures rollback { (site : SiteId) (name snap : List ℕ) (feds : List Fed) (steps : List Answered) (reply : Reply) → AreGiven steps → AreParentless steps
+    ensures rollback { (site : SiteId) (name snap : List ℕ) (feds : List Fed) (steps : List Answered) (reply : Reply)
+        → AreGiven steps → AreParentless steps
         → IsWalk Goto (rollback site name snap) feds steps (Return reply) → RollbackMeans site name snap steps reply }
 {}

@@ -8,7 +8,7 @@
 //!     request.wants()              // dir-find, to join the line alone, header-get, the lock,
 //!                                  // header-get, its event noted, map-get, data-zero,
 //!                                  // header-set-size, applied
-//!     request.next(alloc)?         // the operation, where it wants one; `event` tells the event
+//!     request.next(alloc)?         // the operation, where it wants one
 //!     request.ready(alloc, &fed)?  // takes the memory that the answer needs
 //!     match request.feed(&fed) {
 //!         Turn::More => continue,
@@ -77,9 +77,9 @@
 //! | a size that shrinks | 2, and up to 3 for each object with a byte from the new size on | at the look under the lock a copy of the header, and at the answer to `map-get` the pieces |
 //! | a rollback's objects | up to 4 for each | at the look under the lock a copy of the header, and the pieces of all objects; at each `data-read` its bytes, where they aren't shared |
 //!
-//! Each request has three operations up to its look under the lock. Memory is taken by `next`,
-//! `event` and `ready`, and these may be refused it without a change. `new` of the requests,
-//! `wants` and `feed` take none.
+//! Each request has three operations up to its look under the lock. Memory is taken by `next` and
+//! `ready`, and these may be refused it without a change. `new` of the requests, `wants` and `feed`
+//! take none.
 //!
 //! # How it works
 //!

@@ -7,9 +7,7 @@ ghost use Rattle.rbd_resize.specs.Resize.{is_resize, resize_plan, refuses_of, ev
 
 use crate::few::has_few_objects;
 use rbd_change::{Change, ChangeRequest, Part};
-use rbd_kinds::{
-    Answer, Command, Event, HeaderView, ImageId, Name, NoMemory, Op, Refusal, SiteId, Want,
-};
+use rbd_kinds::{Answer, Command, HeaderView, ImageId, Name, NoMemory, Op, Refusal, SiteId, Want};
 use rbd_machine::{Progress, Refuses, non_primary};
 use rbd_zero::Size;
 use std::alloc::Global;
@@ -60,10 +58,6 @@ impl Change for SizeChange {
             Command::Resize { image, size } => (image.into_name(), SizeChange { to: size.get() }),
             _ => unreachable!(),
         }
-    }
-
-    fn event(&self) -> Result<Event, NoMemory> {
-        Ok(Event::Resize { size: self.to })
     }
 
     fn part(

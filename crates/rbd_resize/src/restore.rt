@@ -5,7 +5,7 @@ ghost use Rattle.rbd_kinds.specs.Form.{IsHeaderInForm};
 ghost use Rattle.rbd_kinds.specs.Parts.{parts_len};
 ghost use Rattle.rbd_machine.specs.Plan.{Plan, Wants, Asks, plan_after};
 ghost use Rattle.rbd_machine.specs.Objects.{data_read};
-ghost use Rattle.rbd_machine.specs.Steps.{Progresses};
+ghost use Rattle.rbd_machine.specs.Steps.{Progresses, ProgressesBy};
 ghost use Rattle.rbd_piece.specs.Gather.{TellsBytes};
 ghost use Rattle.rbd_resize.specs.Rollback.{restore_all};
 ghost use Rattle.rbd_resize.specs.Restore as of_restore;
@@ -73,9 +73,19 @@ impl Model for Restore {
 
     ghost Value = { Restoring };
 
-    ghost view = { λ r. record { site = r.site; image = r.image; header = r.header; snap = r.snap; piece = r.piece; others = r.others.items; stage = r.stage; readied = r.readied } };
+    ghost view = { λ r. record {
+      site = r.site;
+      image = r.image;
+      header = r.header;
+      snap = r.snap;
+      piece = r.piece;
+      others = r.others.items;
+      stage = r.stage;
+      readied = r.readied;
+    } };
 
-    ghost invariant = { λ r. IsHeaderInForm r.header × (r.context ≡ context_of r.header) × All (IsObjectOf r.header) (r.piece ∷ r.others.items) };
+    ghost invariant = { λ r. IsHeaderInForm r.header × (r.context ≡ context_of r.header)
+        × All (IsObjectOf r.header) (r.piece ∷ r.others.items) };
 }
 
 impl Restore {
@@ -89,7 +99,8 @@ impl Restore {
         snap: SnapId,
     ) -> Result<Option<Self>, NoMemory>
         requires { IsHeaderInForm header }
-        ensures { IfOk result (λ made. (next : Plan) → rest_of_some made next ≡ restore_all site image header snap next) }
+        ensures { IfOk result (λ made. (next : Plan)
+            → rest_of_some made next ≡ restore_all site image header snap next) }
     {
         let head = Extent {
             at: 0,
@@ -170,7 +181,9 @@ impl Restore {
 
     /// The object becomes these bytes.
     fn full(&self, bytes: &Bytes) -> Result<FullPiece, NoMemory>
-        ensures { IfOk result (λ f. (next : Plan) → rest_of_full f next ≡ full_piece self.now.site self.now.image self.now.header self.now.piece bytes.now next) }
+        ensures { IfOk result (λ f. (next : Plan)
+            → rest_of_full f next
+            ≡ full_piece self.now.site self.now.image self.now.header self.now.piece bytes.now next) }
     {
         let context = self.context.try_clone()?;
         let piece = Piece {
@@ -184,7 +197,8 @@ impl Restore {
     #[tactic(auto, using(crate::proofs::Restored::zeros_are_none))]
     fn zeros(&self, alloc: Global) -> Result<FullPiece, NoMemory>
         ensures { IfOk result (λ f. (next : Plan) → rest_of_full f next
-            ≡ full_piece self.now.site self.now.image self.now.header self.now.piece (replicate (parts_len self.now.piece.parts) 0) next) }
+            ≡ full_piece self.now.site self.now.image self.now.header self.now.piece
+            (replicate (parts_len self.now.piece.parts) 0) next) }
     {
         self.full(&Bytes::from_vec(Vec::new(alloc)))
     }
@@ -193,7 +207,7 @@ impl Restore {
     pub fn feed(&mut self, answer: &Answer) -> Progress<()>
         requires tells { of_restore.Tells self.old.stage answer.now }
         requires ready { of_restore.IsReady self.old answer.now }
-        ensures { (next : Plan) → Progresses next (plan_after (rest_of_restore self.old next) (fed_with.Answer answer.now)) result (rest_of_restore self.new next) }
+        ensures { ProgressesBy rest_of_restore answer.now result self.old self.new }
     {
         match &mut self.stage {
             Stage::Reading => self.begin(answer),
@@ -209,7 +223,10 @@ impl Restore {
     fn begin(&mut self, answer: &Answer) -> Progress<()>
         requires tells { TellsBytes answer.now }
         requires ready { of_restore.IsReadyAt stage.Reading self.old answer.now }
-        ensures { (next : Plan) → Progresses next (plan_after (of_restore.rest_from stage.Reading self.old next) (fed_with.Answer answer.now)) result (rest_of_restore self.new next) }
+        ensures { (next : Plan)
+            → Progresses next
+            (plan_after (of_restore.rest_from stage.Reading self.old next) (fed_with.Answer answer.now))
+            result (rest_of_restore self.new next) }
     {
         match answer {
             Answer::Bytes(_) => self.replace(),
@@ -222,7 +239,10 @@ impl Restore {
     fn replace(&mut self) -> Progress<()>
         requires { IsSome self.old.readied }
         ensures { (bytes : List ℕ) (next : Plan) → of_restore.IsReplacedBy self.old bytes self.old.readied
-            → Progresses next (full_piece self.old.site self.old.image self.old.header self.old.piece bytes (of_restore.rest_of_others self.old next)) result (rest_of_restore self.new next) }
+            → Progresses next
+            (full_piece self.old.site self.old.image self.old.header self.old.piece bytes
+            (of_restore.rest_of_others self.old next))
+            result (rest_of_restore self.new next) }
     {
         match self.readied.take() {
             Some(full) => {
@@ -235,7 +255,8 @@ impl Restore {
 
     /// Goes on to the next object.
     fn go_on(&mut self) -> Progress<()>
-        ensures { (next : Plan) → Progresses next (of_restore.rest_of_others self.old next) result (rest_of_restore self.new next) }
+        ensures { (next : Plan)
+            → Progresses next (of_restore.rest_of_others self.old next) result (rest_of_restore self.new next) }
     {
         match self.others.pop_front() {
             None => Progress::Ended(()),

@@ -57,7 +57,8 @@ impl Rollback {
     ) -> Result<Self, NoMemory>
         requires form { IsHeaderInForm header.now }
         requires listed { IsSnapInForm header.now.layout listed.now }
-        ensures { IfOk result (λ r. (next : Plan) → rest_of_rollback r next ≡ roll_back site image header.now listed.now next) }
+        ensures { IfOk result (λ r. (next : Plan)
+            → rest_of_rollback r next ≡ roll_back site image header.now listed.now next) }
     {
         let size = Size::new(alloc, site, image, header, listed.size)?;
         let objects = objects_at(alloc, site, image, header, listed)?;
@@ -144,7 +145,9 @@ fn objects_at(
 ) -> Result<Option<Restore>, NoMemory>
     requires form { IsHeaderInForm header.now }
     requires listed { IsSnapInForm header.now.layout listed.now }
-    ensures { IfOk result (λ made. (next : Plan) → rest_of_some made next ≡ restore_all site image (head_at_size listed.now.size header.now) listed.now.id next) }
+    ensures { IfOk result (λ made. (next : Plan)
+        → rest_of_some made next
+        ≡ restore_all site image (head_at_size listed.now.size header.now) listed.now.id next) }
 {
     let head = at_size(header, listed.size)?;
     Restore::new(alloc, site, image, head, listed.id)

@@ -7,7 +7,7 @@ ghost use Rattle.rbd_resize.specs.Rolling.{refuses_of, event_of, does};
 
 use crate::rollback::Rollback;
 use rbd_change::{Change, ChangeRequest};
-use rbd_kinds::{Command, Event, HeaderView, ImageId, Name, NoMemory, Refusal, SiteId, TryClone};
+use rbd_kinds::{Command, HeaderView, ImageId, Name, NoMemory, Refusal, SiteId};
 use rbd_machine::{Refuses, non_primary};
 use std::alloc::Global;
 
@@ -56,12 +56,6 @@ impl Change for RollbackChange {
             }
             _ => unreachable!(),
         }
-    }
-
-    fn event(&self) -> Result<Event, NoMemory> {
-        Ok(Event::SnapRollback {
-            name: self.snap.try_clone()?,
-        })
     }
 
     fn part(

@@ -15,81 +15,77 @@ pub const REMOVING: &str = "dir-find disk, join alone, header-get, watchers-get,
 /// stripings. Inside an overlap an object is emptied and doesn't go. The look under the lock
 /// decides.
 pub const DISCARDS: &str = "\
-discard 1 4095|size 12288||note discard 1 4095, turn 0, data-zero 0 at 1 4095, applied|done
-discard 4096 4096|size 12288||note discard 4096 4096, turn 1, map-set 1 2, data-remove 1, \
-    map-set 1 0, applied|done
-discard 8192 1808|size 10000||note discard 8192 1808, turn 2, map-set 2 2, data-remove 2, \
-    map-set 2 0, applied|done
-discard 8192 1807|size 10000||note discard 8192 1807, turn 2, data-zero 2 at 0 1807, applied|done
-discard 4000 8192|size 16384||note discard 4000 8192, turn 0, data-zero 0 at 4000 96, turn 1, \
-    map-set 1 2, data-remove 1, map-set 1 0, turn 2, data-zero 2 at 0 4000, applied|done
-discard 4095 2|size 16384|size 4097|note discard 4095 2, turn 0, data-zero 0 at 4095 1, turn 1, \
-    map-set 1 2, data-remove 1, map-set 1 0, applied|done
-discard 0 4096|size 8192 snap 8192 primary||note discard 0 4096, turn 0, map-set 0 2, \
-    data-remove 0 for 1, map-set 0 0, applied|done
-discard 1 1|size 8192 snap 8192||note discard 1 1, turn 0, data-zero 0 for 1 at 1 1, applied|done
-discard 0 4097|size 8192 parent 5000||note discard 0 4097, turn 0, map-set 0 1, data-empty 0, \
-    turn 1, map-set 1 1, data-zero 1 must at 0 1, applied|done
-discard 4000 8388|size 32768 object 8192 count 2||note discard 4000 8388, turn 0, \
-    data-zero 0 at 4000 96 at 4096 4096, turn 1, data-zero 1 at 0 4096 at 4096 100, applied|done
-discard 4096 4096|size 12288 object 8192 count 2||note discard 4096 4096, turn 1, map-set 1 2, \
+discard 1 4095|size 12288||note, turn 0, data-zero 0 at 1 4095, applied|done
+discard 4096 4096|size 12288||note, turn 1, map-set 1 2, data-remove 1, map-set 1 0, applied|done
+discard 8192 1808|size 10000||note, turn 2, map-set 2 2, data-remove 2, map-set 2 0, applied|done
+discard 8192 1807|size 10000||note, turn 2, data-zero 2 at 0 1807, applied|done
+discard 4000 8192|size 16384||note, turn 0, data-zero 0 at 4000 96, turn 1, map-set 1 2, \
+    data-remove 1, map-set 1 0, turn 2, data-zero 2 at 0 4000, applied|done
+discard 4095 2|size 16384|size 4097|note, turn 0, data-zero 0 at 4095 1, turn 1, map-set 1 2, \
     data-remove 1, map-set 1 0, applied|done
-discard 256 1024|size 8192 unit 512 count 2||note discard 256 1024, turn 0, \
-    data-zero 0 at 256 256 at 512 256, turn 1, data-zero 1 at 0 512, applied|done
-discard 0 4096|size 8192 none map-set||note discard 0 4096, turn 0, map-set 0 2|NoImage";
+discard 0 4096|size 8192 snap 8192 primary||note, turn 0, map-set 0 2, data-remove 0 for 1, \
+    map-set 0 0, applied|done
+discard 1 1|size 8192 snap 8192||note, turn 0, data-zero 0 for 1 at 1 1, applied|done
+discard 0 4097|size 8192 parent 5000||note, turn 0, map-set 0 1, data-empty 0, turn 1, \
+    map-set 1 1, data-zero 1 must at 0 1, applied|done
+discard 4000 8388|size 32768 object 8192 count 2||note, turn 0, \
+    data-zero 0 at 4000 96 at 4096 4096, turn 1, data-zero 1 at 0 4096 at 4096 100, applied|done
+discard 4096 4096|size 12288 object 8192 count 2||note, turn 1, map-set 1 2, data-remove 1, \
+    map-set 1 0, applied|done
+discard 256 1024|size 8192 unit 512 count 2||note, turn 0, data-zero 0 at 256 256 at 512 256, \
+    turn 1, data-zero 1 at 0 512, applied|done
+discard 0 4096|size 8192 none map-set||note, turn 0, map-set 0 2|NoImage";
 
 /// Resizes, behind the way: an image grows, stays as long, shrinks within an object, and over
 /// objects of which some are in state 0. The largest sizes have 2^20 objects.
 pub const RESIZES: &str = "\
-resize 12289|size 8192||note resize 12289, map-resize 4, header-set-size 12289, applied|done
-resize 8192|size 8192||note resize 8192, map-resize 2, header-set-size 8192, applied|done
-resize 8192|size 4096|size 8192 journal primary|note resize 8192, map-resize 2, \
-    header-set-size 8192, applied|done
-resize 4096|size 4096|size 8192 states 11|note resize 4096, map-get, map-set 1 2, data-remove 1, \
-    map-set 1 0, header-set-size 4096, applied|done
-resize 4097|size 8192 states 11||note resize 4097, map-get, data-zero 1 at 1 4095, \
-    header-set-size 4097, applied|done
-resize 6000|size 20480 states 11012||note resize 6000, map-get, data-zero 1 at 1904 2192, \
-    map-set 3 2, data-remove 3, map-set 3 0, map-set 4 2, data-remove 4, map-set 4 0, \
-    header-set-size 6000, applied|done
-resize 6000|size 12288 parent 5000 states 000||note resize 6000, map-get, map-set 1 1, \
-    data-zero 1 must at 1904 2192, header-set-size 6000, applied|done
-resize 0|size 8192 states 00||note resize 0, map-get, header-set-size 0, applied|done
-resize 4096|size 12288 snap 12288 states 101||note resize 4096, map-get, map-set 2 2, \
-    data-remove 2 for 1, map-set 2 0, header-set-size 4096, applied|done
-resize 4294967296|size 0||note resize 4294967296, map-resize 1048576, header-set-size 4294967296, \
+resize 12289|size 8192||note, map-resize 4, header-set-size 12289, applied|done
+resize 8192|size 8192||note, map-resize 2, header-set-size 8192, applied|done
+resize 8192|size 4096|size 8192 journal primary|note, map-resize 2, header-set-size 8192, \
     applied|done
-resize 8589930496|size 0 object 8192 count 3||note resize 8589930496, map-resize 1048576, \
+resize 4096|size 4096|size 8192 states 11|note, map-get, map-set 1 2, data-remove 1, map-set 1 0, \
+    header-set-size 4096, applied|done
+resize 4097|size 8192 states 11||note, map-get, data-zero 1 at 1 4095, header-set-size 4097, \
+    applied|done
+resize 6000|size 20480 states 11012||note, map-get, data-zero 1 at 1904 2192, map-set 3 2, \
+    data-remove 3, map-set 3 0, map-set 4 2, data-remove 4, map-set 4 0, header-set-size 6000, \
+    applied|done
+resize 6000|size 12288 parent 5000 states 000||note, map-get, map-set 1 1, \
+    data-zero 1 must at 1904 2192, header-set-size 6000, applied|done
+resize 0|size 8192 states 00||note, map-get, header-set-size 0, applied|done
+resize 4096|size 12288 snap 12288 states 101||note, map-get, map-set 2 2, data-remove 2 for 1, \
+    map-set 2 0, header-set-size 4096, applied|done
+resize 4294967296|size 0||note, map-resize 1048576, header-set-size 4294967296, applied|done
+resize 8589930496|size 0 object 8192 count 3||note, map-resize 1048576, \
     header-set-size 8589930496, applied|done
-resize 0|size 4096 states 1 none map-get||note resize 0, map-get|NoImage
-resize 0|size 0 none header-set-size||note resize 0, map-resize 0, header-set-size 0|NoImage";
+resize 0|size 4096 states 1 none map-get||note, map-get|NoImage
+resize 0|size 0 none header-set-size||note, map-resize 0, header-set-size 0|NoImage";
 
 /// Rollbacks, behind the way: an image that grew since the snapshot, and one that shrank. Objects
 /// that weren't there, or had only zeros, go; bytes are cut behind the last that isn't zero.
 pub const ROLLBACKS: &str = "\
-rollback one|size 12288 snap 4096 states 112 held ab||note rollback one, map-get, map-set 1 2, \
+rollback one|size 12288 snap 4096 states 112 held ab||note, map-get, map-set 1 2, \
     data-remove 1 for 1, map-set 1 0, map-set 2 2, data-remove 2 for 1, map-set 2 0, \
     header-set-size 4096, data-read 0 snap 1 at 0 4096, map-set 0 1, data-write-full 0 for 1 ab, \
     applied|done
-rollback one|size 4096 snap 10000 held ab,-,.c.||note rollback one, map-resize 3, \
-    header-set-size 10000, data-read 0 snap 1 at 0 4096, map-set 0 1, data-write-full 0 for 1 ab, \
+rollback one|size 4096 snap 10000 held ab,-,.c.||note, map-resize 3, header-set-size 10000, \
+    data-read 0 snap 1 at 0 4096, map-set 0 1, data-write-full 0 for 1 ab, \
     data-read 1 snap 1 at 0 4096, map-set 1 2, data-remove 1 for 1, map-set 1 0, \
     data-read 2 snap 1 at 0 1808, map-set 2 1, data-write-full 2 for 1 .c, applied|done
-rollback one|size 4096 snap 4096 held ...||note rollback one, map-resize 1, header-set-size 4096, \
+rollback one|size 4096 snap 4096 held ...||note, map-resize 1, header-set-size 4096, \
     data-read 0 snap 1 at 0 4096, map-set 0 2, data-remove 0 for 1, map-set 0 0, applied|done
-rollback one|size 5000 snap 4100 states 11 held a,b||note rollback one, map-get, \
-    data-zero 1 for 1 at 4 900, header-set-size 4100, data-read 0 snap 1 at 0 4096, map-set 0 1, \
-    data-write-full 0 for 1 a, data-read 1 snap 1 at 0 4, map-set 1 1, data-write-full 1 for 1 b, \
+rollback one|size 5000 snap 4100 states 11 held a,b||note, map-get, data-zero 1 for 1 at 4 900, \
+    header-set-size 4100, data-read 0 snap 1 at 0 4096, map-set 0 1, data-write-full 0 for 1 a, \
+    data-read 1 snap 1 at 0 4, map-set 1 1, data-write-full 1 for 1 b, applied|done
+rollback one|size 4096 snap 0 states 1||note, map-get, map-set 0 2, data-remove 0 for 1, \
+    map-set 0 0, header-set-size 0, applied|done
+rollback one|size 4096 snap 4096|size 4096 snap 0 states 0|note, map-get, header-set-size 0, \
     applied|done
-rollback one|size 4096 snap 0 states 1||note rollback one, map-get, map-set 0 2, \
-    data-remove 0 for 1, map-set 0 0, header-set-size 0, applied|done
-rollback one|size 4096 snap 4096|size 4096 snap 0 states 0|note rollback one, map-get, \
-    header-set-size 0, applied|done
-rollback one|size 3072 snap 3072 unit 512 count 2 held a,b||note rollback one, map-resize 2, \
+rollback one|size 3072 snap 3072 unit 512 count 2 held a,b||note, map-resize 2, \
     header-set-size 3072, data-read 0 snap 1 at 0 512 at 512 512 at 1024 512, map-set 0 1, \
     data-write-full 0 for 1 a, data-read 1 snap 1 at 0 512 at 512 512 at 1024 512, map-set 1 1, \
     data-write-full 1 for 1 b, applied|done
-rollback one|size 4096 snap 4096 none header-set-size||note rollback one, map-resize 1, \
+rollback one|size 4096 snap 4096 none header-set-size||note, map-resize 1, \
     header-set-size 4096|NoImage";
 
 /// Removals, behind the way: objects in use and not, none, a parent and a journal. Where the

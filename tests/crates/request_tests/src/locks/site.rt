@@ -5,8 +5,8 @@ use crate::fixtures::{
     operation_into, wait_into,
 };
 use rbd_kinds::{
-    Answer, DirectoryOp, Event, HeaderOp, Instance, Instances, NoMemory, NoticeKind, Op, Shared,
-    SiteId, Want,
+    Answer, DirectoryOp, HeaderOp, Instance, Instances, NoMemory, NoticeKind, Op, Shared, SiteId,
+    Want,
 };
 use rbd_machine::Reason;
 use rbd_owner::is_waiting;
@@ -130,8 +130,7 @@ impl Answers for Site {
     }
 
     /// It writes down what a request waits for.
-    fn pass(&mut self, want: &Want, event: &Option<Event>) -> Result<bool, NoMemory> {
-        let _event = event;
+    fn pass(&mut self, want: &Want) -> Result<bool, NoMemory> {
         wait_into(&mut self.log, want)?;
         Ok(is_here(want))
     }

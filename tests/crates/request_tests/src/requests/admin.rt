@@ -40,7 +40,7 @@ join alone
 header-get => header size 4096
 hold
 header-get => header size 4096
-note snap-create first
+note
 map-get => bits 1
 map-put snap 1 1000 => done
 header-snap-add first => snap 1

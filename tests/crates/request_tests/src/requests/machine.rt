@@ -3,8 +3,8 @@
 use super::commands::first_row;
 use crate::fixtures::{IMAGE, holds, plays};
 use rbd_kinds::{
-    Answer, Bytes, Event, Fed, HeaderView, Name, NoMemory, Op, Refusal, Reply, Role, Sharing,
-    SiteId, Turn, Want,
+    Answer, Bytes, Fed, HeaderView, Name, NoMemory, Op, Refusal, Reply, Role, Sharing, SiteId,
+    Turn, Want,
 };
 use rbd_machine::{
     Approach, Machine, Progress, Reason, Refuses, non_primary, told_done, told_header, told_image,
@@ -54,10 +54,6 @@ impl Machine for Change {
 
     fn reason(&self) -> Reason {
         Reason::Own
-    }
-
-    fn event(&self, _alloc: Global) -> Result<Option<Event>, NoMemory> {
-        Ok(None)
     }
 
     fn ready(&mut self, _alloc: Global, _fed: &Fed) -> Result<(), NoMemory> {

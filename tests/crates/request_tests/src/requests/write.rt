@@ -25,7 +25,7 @@ join
 header-get => header size 8192 generation 1
 hold
 header-get => header size 8192 generation 1
-note write 4094 hello
+note
 turn 0
 map-set 0 1 => done
 data-write 0 at 4094 2 he of 4094 => done

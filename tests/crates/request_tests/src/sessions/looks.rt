@@ -4,7 +4,7 @@ use super::drive::Tested;
 use crate::fixtures::cases_hold;
 use std::test::Fail;
 
-const CASES: &str = "the second look of a write is its own and ends the rest
+const CASES: &str = "the look under the lock of a write ends the rest
 1 looks none, takes write-0, looks none, dir-find id-7, looks none
 rests 7
 1 header-get header, looks 7
