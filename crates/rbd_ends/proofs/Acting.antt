@@ -1,6 +1,6 @@
 -- Who acts at a slot of a tame client, what a newcomer is, and which locks still count.
-use Rattle.std.proofs.Common.{◌≡◌, ℕ, List, ◌==◌, ◌||◌, ◌⊎◌, inl, inr, cond, Bool, true, false, Option, Some, None, refl, sym, ap, ◌∙◌, subst}
-use Rattle.std.proofs.lemmas.Bool.{false≢true, true≢false}
+use Rattle.std.proofs.Common.{◌≡◌, ℕ, ◌==◌, ◌||◌, ◌&&◌, ◌⊎◌, inl, inr, cond, Bool, true, false, Option, Some, None, refl, sym, ap, ◌∙◌, subst}
+use Rattle.std.proofs.lemmas.Bool.{true≢false}
 use Rattle.std.proofs.lemmas.Option.{none-some, same_Some}
 use Rattle.rbd_client.specs.declared.actor.Actor.{Actor}
 use Rattle.rbd_client.specs.declared.actor.Actor.TheVariants as actor
@@ -21,8 +21,7 @@ use Rattle.rbd_kinds.specs.declared.layout.Extent.{Extent}
 use Rattle.rbd_kinds.specs.declared.machine.Fed.TheVariants as fed
 use Rattle.rbd_kinds.specs.declared.operation.Op.{Op}
 use Rattle.rbd_kinds.specs.declared.reply.Reply.{Reply}
-use Rattle.rbd_known.specs.Calm.{IsCalmRequest, closes_in_line}
-use Rattle.rbd_known.proofs.Calmly.{look_is_calm}
+use Rattle.rbd_known.specs.Calm.{IsCalmRequest}
 use Rattle.rbd_locks.specs.declared.lock_state.LockState.{LockState}
 use Rattle.rbd_locks.specs.Locks.{state_at}
 use Rattle.rbd_machine.specs.Plan.{Standing}
@@ -30,13 +29,17 @@ use Rattle.rbd_machine.specs.declared.seat.Seat.{Seat}
 use Rattle.rbd_owner.specs.Acquire.{begun}
 use Rattle.rbd_owner.specs.declared.acquire.Acquire.{Acquire}
 use Rattle.rbd_owner.specs.declared.release.Release.{Release}
-use Rattle.rbd_requests.specs.Served.{Closes, Creates, Discards, IsPlanFor, Lists, Reads, Removes, Resizes, Rollbacks, Snaps, Writes}
+use Rattle.rbd_requests.proofs.FollowsAll.{command_follows}
+use Rattle.rbd_requests.specs.Profile.{drops_a_lock, has_none_of, joins_a_line, looks_at_a_header, profile}
+use Rattle.rbd_requests.specs.Plans.{IsPlanFor}
 use Rattle.rbd_session.specs.Session.{BeginsAt, IsNewcomer, own_look_at, running_at, running_in}
 use Rattle.rbd_session.specs.declared.running.Occupant.{Occupant}
 use Rattle.rbd_session.specs.declared.running.Occupant.TheVariants as occupant
 use Rattle.rbd_session.specs.declared.running.Running.{Running}
-use Rattle.rbd_ends.specs.OneChanger.{holds_back, takes_the_lock}
-use Rattle.rbd_world.proofs.Asking.{DoesOnly, IsNoLook, close_looks_at_none, requests_take_no_lock}
+use Rattle.rbd_ends.specs.OneChanger.{takes_the_lock}
+use Rattle.rbd_known.proofs.Calmly.{look_is_calm}
+use Rattle.rbd_requests.proofs.Asking.{looks_at_none, takes_no_lock}
+use Rattle.rbd_requests.specs.Asking.{DoesOnly, IsNoLook}
 use Rattle.rbd_ends.proofs.Counts.{IsNoQuiesce, fed_owned, gives_up_at}
 use Rattle.rbd_ends.proofs.Tame.{ComesToNoLook, IsTame, IsTameSlot, LooksUnlessItChanges, MayBeOnWay, no_own_look, unbegun_may}
 use Rattle.rbd_ends.proofs.Ways.{begun_early, is_early}
@@ -119,25 +122,21 @@ module _ {R : Type 0} (stands : R → Standing) (changes : Bool) (c : ClientView
 
 -- ---- a newcomer
 
--- a command that neither takes a lock nor quiesces waits for nothing, or is a `close`
-close_plan_alone : (seat : Seat) (image : List ℕ) (s : Standing) → IsPlanFor seat (command.Close image) s → DoesOnly IsNoLook s
-close_plan_alone seat image s (Writes is at_plan) = absurd (false≢true is)
-close_plan_alone seat image s (Discards is at_plan) = absurd (false≢true is)
-close_plan_alone seat image s (Reads is) = absurd is
-close_plan_alone seat image s (Creates is at_plan) = absurd is
-close_plan_alone seat image s (Lists is at_plan) = absurd (false≢true is)
-close_plan_alone seat image s (Snaps is at_plan) = absurd (false≢true is)
-close_plan_alone seat image s (Resizes is at_plan) = absurd (false≢true is)
-close_plan_alone seat image s (Rollbacks is at_plan) = absurd (false≢true is)
-close_plan_alone seat image s (Removes is at_plan) = absurd (false≢true is)
-close_plan_alone seat image s (Closes is at_plan) = subst (DoesOnly IsNoLook) (sym at_plan) (record { plan = close_looks_at_none seat.home image; labels = λ label. tt })
+-- who lets a lock go looks at no header
+lets_go_unlooked : (c : Command) → has_none_of drops_a_lock (profile c) ≡ false → has_none_of looks_at_a_header (profile c) ≡ true
+lets_go_unlooked (command.Close image) drops = refl
+lets_go_unlooked _ drops = cc
 
-is_calm_or_closes : (seat : Seat) (c : Command) (s : Standing) → takes_the_lock c ≡ false → holds_back c ≡ false → IsPlanFor seat c s → IsCalmRequest s ⊎ DoesOnly IsNoLook s
-is_calm_or_closes seat (command.Close image) s takes holds is = inr (close_plan_alone seat image s is)
-is_calm_or_closes seat (command.Quiesce image) s takes holds is = absurd (true≢false holds)
-is_calm_or_closes seat c s takes holds is = inl (look_is_calm seat c s (ap (λ b. b || closes_in_line c) takes) is)
+-- a command that takes no lock waits for nothing, or lets one go
+is_calm_or_closes : (seat : Seat) (c : Command) (s : Standing) → takes_the_lock c ≡ false → IsPlanFor seat c s → IsCalmRequest s ⊎ DoesOnly IsNoLook s
+is_calm_or_closes seat c s takes plan = by (joins_a_line (profile c)) (has_none_of drops_a_lock (profile c)) refl refl takes
+  where
+    by : (joins keeps : Bool) → joins_a_line (profile c) ≡ joins → has_none_of drops_a_lock (profile c) ≡ keeps → (joins && keeps) ≡ false → IsCalmRequest s ⊎ DoesOnly IsNoLook s
+    by false keeps apart is none = inl (look_is_calm seat c s apart plan)
+    by true false joins drops none = inr (looks_at_none (profile c) s (lets_go_unlooked c drops) (command_follows seat c s plan))
+    by true true joins keeps none = absurd (true≢false none)
 
-module _ {R : Type 0} (stands : R → Standing) (changes : Bool) (c : Command) (takes : changes ≡ false → takes_the_lock c ≡ false) (holds : holds_back c ≡ false) where
+module _ {R : Type 0} (stands : R → Standing) (changes : Bool) (c : Command) (takes : changes ≡ false → takes_the_lock c ≡ false) where
   newcomer_looks : (extent_of : Command → Option Extent) (seat : Seat) (line : ℕ) (r : Running R) → BeginsAt stands IsPlanFor extent_of seat line c r → LooksUnlessItChanges stands changes r
   newcomer_looks extent_of seat line r begins = by changes refl
     where
@@ -147,7 +146,7 @@ module _ {R : Type 0} (stands : R → Standing) (changes : Bool) (c : Command) (
 
       by : (b : Bool) → changes ≡ b → LooksUnlessItChanges stands b r
       by true is = tt
-      by false is = of (is_calm_or_closes seat c (stands r.request) (takes is) holds begins.stands_there)
+      by false is = of (is_calm_or_closes seat c (stands r.request) (takes is) begins.stands_there)
 
   pub newcomer_is_tame : (extent_of : Command → Option Extent) (seat : Seat) (line : ℕ) (o : Option (Occupant R)) (q : Quiescing) (s : SlotState) → IsNewcomer stands IsPlanFor extent_of seat line c o
       → s ≡ newcomer q → IsNoQuiesce q → (r : Running R) → running_in o ≡ Some r → IsTameSlot stands changes r s
@@ -156,7 +155,7 @@ module _ {R : Type 0} (stands : R → Standing) (changes : Bool) (c : Command) (
   newcomer_is_tame extent_of seat line (Some (occupant.Running x)) q s new state quiet r runs =
       let begins = subst (BeginsAt stands IsPlanFor extent_of seat line c) (same_Some x r runs) new in
       record {
-        asks = requests_take_no_lock seat c (stands r.request) begins.stands_there;
+        asks = takes_no_lock (profile c) (stands r.request) (command_follows seat c (stands r.request) begins.stands_there);
         looks = newcomer_looks extent_of seat line r begins;
         way = subst (λ (t : SlotState). MayBeOnWay changes t.way) (sym state) (unbegun_may changes);
         quiescing = subst (λ (t : SlotState). IsNoQuiesce t.quiescing) (sym state) quiet;

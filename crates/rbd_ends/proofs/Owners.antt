@@ -23,7 +23,7 @@ use Rattle.rbd_site.specs.Records.{Records}
 use Rattle.rbd_site.specs.Step.{after, after_served, answer_served, answer_to, is_fenced, mail_after, mail_served}
 use Rattle.rbd_site.specs.WatchStep.{notified, receivers}
 use Rattle.rbd_watch.specs.Posting.{notices, numbered}
-use Rattle.rbd_world.proofs.Asking.{TakesNoLock}
+use Rattle.rbd_requests.specs.Follows.{TakesNoLock}
 
 -- ---- the owner of an image's lock
 

@@ -38,7 +38,7 @@ use Rattle.rbd_owner.specs.declared.acquire.Stage.TheVariants as stage
 use Rattle.rbd_owner.specs.declared.release.Release.{Release}
 use Rattle.rbd_owner.specs.declared.release.Stage.{Stage as ReleaseStage}
 use Rattle.rbd_owner.specs.declared.release.Stage.TheVariants as releasing
-use Rattle.rbd_requests.specs.Touched.{extent_of}
+use Rattle.rbd_requests.specs.Profile.{changed_extent}
 use Rattle.rbd_session.specs.Advance.{track_of}
 use Rattle.rbd_session.specs.Session.{SessionView, held_in, running_at, running_in, seat_of}
 use Rattle.rbd_session.specs.Waits.{waits}
@@ -60,7 +60,8 @@ use Rattle.rbd_world.specs.World.{LivesView, WorldView, client_in, late_of, live
 use Rattle.rbd_schedule.specs.Starts.{is_ended}
 use Rattle.rbd_ends.specs.OneChanger.{holds_back, is_replied, takes_the_lock}
 use Rattle.rbd_ends.proofs.Acting.{newcomer_is_tame, owned_fed, owned_on_way, owned_released, ways_are_early}
-use Rattle.rbd_world.proofs.Asking.{AsksOnly, TakesNoLock}
+use Rattle.rbd_requests.specs.Asking.{AsksOnly}
+use Rattle.rbd_requests.specs.Follows.{TakesNoLock}
 use Rattle.rbd_ends.proofs.Counts.{IsFree, IsNoQuiesce, heard_free, heard_owned, taken_owned}
 use Rattle.rbd_ends.proofs.Owners.{AsksNobody, IsNoFence, IsNoRequest, Keeps, asks_for_lock, answers, gives_up, held_by_another, no_fence, no_request, numbered_asks, owner_at, served_keeps, served_taken}
 use Rattle.rbd_ends.proofs.Tame.{IsTame, IsTameSlot, tame_begun, tame_fed, tame_on_way, tame_released, tame_served}
@@ -312,7 +313,7 @@ module _ {R : Type 0} (stands : R → Standing) (changer : ℕ) where
           owned = λ s image is. subst (λ l. IsTrue (state_at s image l).owned) (sym begins.house.locks) is;
           tame = λ tame.
               tame_begun stands (n == changer) x.session.lowest x d begins.begins.slots begins.states
-              (newcomer_is_tame stands (n == changer) command (takes n named) may.1 extent_of (seat_of x.session) line (held_in x.session.lowest d.session.slots) (quiescing_of command) (state_in x.session.lowest d.slots)
+              (newcomer_is_tame stands (n == changer) command (takes n named) changed_extent (seat_of x.session) line (held_in x.session.lowest d.session.slots) (quiescing_of command) (state_in x.session.lowest d.slots)
               begins.begins.held begins.state (quiets command may.1))
               begins.house.locks tame;
         }

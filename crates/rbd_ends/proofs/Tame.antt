@@ -39,7 +39,9 @@ use Rattle.rbd_session.specs.Waits.{waits}
 use Rattle.rbd_session.specs.declared.running.Occupant.{Occupant}
 use Rattle.rbd_session.specs.declared.running.Occupant.TheVariants as occupant
 use Rattle.rbd_session.specs.declared.running.Running.{Running}
-use Rattle.rbd_world.proofs.Asking.{AsksOnly, DoesOnly, IsNoLook, TakesNoLock, only_after}
+use Rattle.rbd_requests.specs.Asking.{AsksOnly, DoesOnly, IsNoLook}
+use Rattle.rbd_requests.specs.Follows.{TakesNoLock}
+use Rattle.rbd_requests.proofs.Asking.{only_after}
 use Rattle.rbd_ends.proofs.Counts.{IsFree, IsNoQuiesce, fed_free}
 use Rattle.rbd_ends.proofs.Ways.{IsEarly, IsFreeFor, is_early, way_stays_early}
 use Rattle.rbd_world.proofs.Answered.{answered_place}

@@ -1,16 +1,10 @@
 -- Scripts in which one session alone changes images, and in which each command has its reply.
-use Rattle.std.specs.Prelude.{◌≡◌, ℕ, ◌==◌, ◌||◌, Bool, true, false, List, All}
+use Rattle.std.specs.Prelude.{◌≡◌, ℕ, ◌==◌, ◌&&◌, Bool, true, false, List, All}
 use Rattle.std.specs.List.{list_any}
-use Rattle.rbd_admin.specs.Snap.{is_snap}
 use Rattle.rbd_commands.specs.declared.command.Command.{Command}
-use Rattle.rbd_commands.specs.declared.command.Command.TheVariants as command
-use Rattle.rbd_discard.specs.Discard.{is_discard}
 use Rattle.rbd_flat.specs.declared.entry.Entry.{Entry}
 use Rattle.rbd_flat.specs.declared.entry.Entry.TheVariants as entry
-use Rattle.rbd_remove.specs.Remove.{is_remove}
-use Rattle.rbd_request.specs.Write.{is_write}
-use Rattle.rbd_resize.specs.Resize.{is_resize}
-use Rattle.rbd_resize.specs.Rollback.{is_rollback}
+use Rattle.rbd_requests.specs.Profile.{begins_a_quiesce, drops_a_lock, has_none_of, joins_a_line, profile}
 use Rattle.rbd_schedule.specs.Given.{commands_of}
 use Rattle.rbd_schedule.specs.declared.given.Given.{Given}
 use Rattle.rbd_script.specs.declared.script.Line.{Line}
@@ -21,15 +15,15 @@ use Rattle.rbd_world.specs.World.{WorldView}
 
 -- ---- the scripts
 
--- A `write`, a `fill`, a `discard`, a `snap create`, a `snap rm`, a `resize`, a `snap rollback` and an
--- `rm` take the lock of their image.
+-- It takes the lock of its image, and keeps it: it joins the image's line, and lets no lock go. So
+-- do a `write`, a `fill`, a `discard`, a `snap create`, a `snap rm`, a `resize`, a `snap rollback`,
+-- an `rm` and a `quiesce`.
 abbrev pub takes_the_lock : Command → Bool
-takes_the_lock c = is_write c || is_discard c || is_snap c || is_resize c || is_rollback c || is_remove c
+takes_the_lock c = joins_a_line (profile c) && has_none_of drops_a_lock (profile c)
 
--- A `quiesce` holds the changes of its image back.
+-- It holds the changes of its image back, as a `quiesce` does.
 abbrev pub holds_back : Command → Bool
-holds_back (command.Quiesce image) = true
-holds_back c = false
+holds_back c = begins_a_quiesce (profile c).quiescing
 
 -- The line leaves all changes to one session: no other session has a command that takes a lock, no
 -- image is quiesced, and no session is stopped.

@@ -1,4 +1,5 @@
 pub mod PaysSteps
+pub mod Unowing
 pub mod PaysChanges
 pub mod PaysRemoval
 pub mod Pays

@@ -2,10 +2,9 @@
 -- behind its state, and one that goes has its state set to 0 then.
 use Rattle.std.proofs.Common.{◌≡◌, ℕ, nat_le, List, [], ◌∷◌, Bool, true, false, Option, Some, None, refl, sym, ap, subst}
 use Rattle.rbd_kinds.specs.declared.sharing.Sharing.TheVariants as sharing
-use Rattle.rbd_commands.specs.declared.command.Command.{Command}
-use Rattle.rbd_commands.specs.declared.command.Command.TheVariants as command
 use Rattle.rbd_kinds.specs.declared.answer.Answer.{Answer}
 use Rattle.rbd_kinds.specs.declared.answer.Answer.TheVariants as answer
+use Rattle.rbd_kinds.specs.declared.data_op.DataOp.TheVariants as object
 use Rattle.rbd_kinds.specs.declared.header.HeaderView.{HeaderView}
 use Rattle.rbd_kinds.specs.declared.header.SnapContext.{SnapContext}
 use Rattle.rbd_kinds.specs.declared.header.SnapView.{SnapView}
@@ -22,18 +21,18 @@ use Rattle.rbd_machine.specs.Steps.{on_done, applied}
 use Rattle.rbd_meaning.specs.Resizes.{resize_refuses}
 use Rattle.rbd_meaning.specs.Rollbacks.{at_size, rollback_refuses}
 use Rattle.rbd_meaning.specs.Writes.{write_refuses}
-use Rattle.rbd_zero.specs.Full.{cut_bytes, full_by, full_piece, replacing, writing_full}
-use Rattle.rbd_zero.specs.Operations.{data_empty, data_remove, data_write_full, map_set}
+use Rattle.rbd_zero.specs.Full.{cut_bytes, full_by, full_piece}
+use Rattle.rbd_zero.specs.Operations.{data_remove}
 use Rattle.rbd_zero.specs.Shrink.{pieces_from}
 use Rattle.rbd_zero.specs.Size.{cutting, resize, resize_by, sizing}
 use Rattle.rbd_zero.specs.Size as of_size
-use Rattle.rbd_zero.specs.Zero.{emptying, head_of, is_below, is_inside, is_whole, removing, setting, zero_all, zero_by, zero_piece}
-use Rattle.rbd_discard.specs.Discard.{discard_plan, zero, zero_pieces}
+use Rattle.rbd_zero.specs.Zero.{head_of, is_below, is_inside, is_whole, removing, setting, zero_all, zero_by, zero_piece}
+use Rattle.rbd_discard.specs.Discard.{discard, zero, zero_pieces}
 use Rattle.rbd_meaning.specs.Count.{object_count}
-use Rattle.rbd_resize.specs.Resize.{resize_plan, set_size}
-use Rattle.rbd_resize.specs.Rollback.{restore_all, restore_pieces, roll_back_listed, roll_back_to, rollback_plan}
-use Rattle.rbd_exact.specs.Owed.{Due, Made, Gone, Lowered, PaysItsStates, Spot, owed_by}
-use Rattle.rbd_exact.proofs.PaysSteps.{Pays, pays_change, pays_gather, pays_ends}
+use Rattle.rbd_resize.specs.Resize.{set_size, size_change}
+use Rattle.rbd_resize.specs.Rollback.{restore_all, restore_pieces, roll_back_listed, roll_back_to, rollback}
+use Rattle.rbd_exact.specs.Owed.{Due, Gone, Lowered, PaysItsStates, Spot, owed_by}
+use Rattle.rbd_exact.proofs.PaysSteps.{Pays, pays_change, pays_ends, pays_gather, pays_making, pays_set}
 use Rattle.rbd_requests.proofs.PlanSteps.{at_not_there, at_done, at_bits}
 
 -- ---- one object
@@ -44,11 +43,7 @@ module _ (site : SiteId) (image : ℕ) (context : SnapContext) (p : Piece) (next
 
   -- it went, and its state is set to 0
   pays_lowering : PaysItsStates (Some (spot Lowered)) (setting site image context p 0 next)
-  pays_lowering = ((refl, (refl, refl, refl)), λ a given told. by a)
-    where
-      by : (a : Answer) → PaysItsStates (owed_by (Some (spot Lowered)) site (map_set image p.object 0) a) (on_done next a)
-      by answer.Done = pays
-      by a = at_not_there Pays pays_ends a
+  pays_lowering = ((refl, (refl, refl, refl)), λ a given told. pays_set site image p.object (Some (spot Lowered)) 0 next pays a)
 
   pays_removing : PaysItsStates (Some (spot Gone)) (removing site image context p (setting site image context p 0 next))
   pays_removing = ((refl, (refl, refl, refl)), λ a given told. by a)
@@ -57,41 +52,15 @@ module _ (site : SiteId) (image : ℕ) (context : SnapContext) (p : Piece) (next
       by answer.Done = pays_lowering
       by a = at_not_there Pays pays_ends a
 
-  pays_emptying : PaysItsStates (Some (spot Made)) (emptying site image context p next)
-  pays_emptying = ((refl, (refl, refl, refl)), λ a given told. by a)
-    where
-      by : (a : Answer) → PaysItsStates (owed_by (Some (spot Made)) site (data_empty image context p.object) a) (on_done next a)
-      by answer.Done = pays
-      by a = at_not_there Pays pays_ends a
-
   -- all bytes of it
-  pub pays_zero_all : (inside : Bool) → Pays (zero_all site image context p inside next)
-  pays_zero_all false = (tt, λ a given told. by a)
-    where
-      by : (a : Answer) → PaysItsStates (owed_by None site (map_set image p.object 2) a) (on_done (removing site image context p (setting site image context p 0 next)) a)
-      by answer.Done = pays_removing
-      by a = at_not_there Pays pays_ends a
-  pays_zero_all true = (tt, λ a given told. by a)
-    where
-      by : (a : Answer) → PaysItsStates (owed_by None site (map_set image p.object 1) a) (on_done (emptying site image context p next) a)
-      by answer.Done = pays_emptying
-      by a = at_not_there Pays pays_ends a
+  pays_zero_all : (inside : Bool) → Pays (zero_all site image context p inside next)
+  pays_zero_all false = (tt, λ a given told. pays_set site image p.object None 2 (removing site image context p (setting site image context p 0 next)) pays_removing a)
+  pays_zero_all true = pays_making site image p.object (object.Empty context) next refl pays
 
   -- of an image without a parent
   pays_zero_by : (whole : Bool) → Pays (zero_by site image context p whole false next)
   pays_zero_by false = (tt, λ a given told. at_done Pays pays_ends next pays a)
   pays_zero_by true = pays_zero_all false
-
-  pays_full : (bytes : List ℕ) → Pays (replacing site image context p.object bytes next)
-  pays_full bytes = (tt, λ a given told. by a)
-    where
-      written : (a : Answer) → PaysItsStates (owed_by (Some (spot Made)) site (data_write_full image context p.object bytes) a) (on_done next a)
-      written answer.Done = pays
-      written a = at_not_there Pays pays_ends a
-
-      by : (a : Answer) → PaysItsStates (owed_by None site (map_set image p.object 1) a) (on_done (writing_full site image context p.object bytes next) a)
-      by answer.Done = ((refl, (refl, refl, refl)), λ a given told. written a)
-      by a = at_not_there Pays pays_ends a
 
 outside : (h : HeaderView) (number : ℕ) → IsStandalone h → is_inside h number ≡ false
 outside h number standalone = ap (λ parent. is_below parent (byte_at h.layout number 0)) standalone.no_parent
@@ -106,7 +75,7 @@ pays_full_piece site image h p bytes next pays = by (cut_bytes bytes)
   where
     by : (left : List ℕ) → Pays (full_by site image h p left next)
     by [] = pays_zero_all site image (context_of h) p next pays (is_inside h p.object)
-    by (byte ∷ left) = pays_full site image (context_of h) p next pays (byte ∷ left)
+    by (byte ∷ left) = pays_making site image p.object (object.WriteFull (context_of h) (byte ∷ left)) next refl pays
 
 -- ---- discard
 
@@ -115,11 +84,9 @@ pays_pieces [] site image h next standalone pays = pays
 pays_pieces (p ∷ pieces) site image h next standalone pays =
     pays_zero_piece site image h p (zero_pieces site image h pieces next) standalone (pays_pieces pieces site image h next standalone pays)
 
-pub pays_discard : (site : SiteId) (c : Command) → Pays (discard_plan site c)
-pays_discard site (command.Discard image at len) =
-    let e : Extent = record { at = at; len = len } in
-    pays_change site image sharing.Discard (write_refuses e) (zero site e) (λ i h standalone. pays_pieces (pieces_of h.layout e) site i h (applied site i) standalone tt)
-pays_discard site _ = tt
+pub pays_discard : (site : SiteId) (name : List ℕ) (e : Extent) → Pays (discard site name e)
+pays_discard site name e =
+    pays_change site name sharing.Discard (write_refuses e) (zero site e) (λ image h standalone. pays_pieces (pieces_of h.layout e) site image h (applied site image) standalone tt)
 
 -- ---- resize
 
@@ -143,10 +110,10 @@ pays_resize site image h to objects next standalone pays = by (nat_le h.size to)
           (λ bits. pays_zeros (pieces_from h to bits) site image h (sizing site image to next) standalone (pays_sizing site image to next pays)) a,
     )
 
-pub pays_resize_plan : (site : SiteId) (c : Command) → Pays (resize_plan site c)
-pays_resize_plan site (command.Resize image size) =
-    pays_change site image sharing.Alone (resize_refuses size) (set_size site size) (λ i h standalone. pays_resize site i h size (object_count h.layout size) (applied site i) standalone tt)
-pays_resize_plan site _ = tt
+pub pays_size_change : (site : SiteId) (name : List ℕ) (to : ℕ) → Pays (size_change site name to)
+pays_size_change site name to =
+    pays_change site name sharing.Alone (resize_refuses to) (set_size site to)
+    (λ image h standalone. pays_resize site image h to (object_count h.layout to) (applied site image) standalone tt)
 
 -- ---- snap rollback
 
@@ -163,7 +130,6 @@ pays_listed site snap image h (Some listed) standalone =
     pays_resize site image h listed.size (object_count h.layout listed.size) (restore_all site image sized listed.id (applied site image)) standalone
     (pays_restore (pieces_of sized.layout (head_of sized)) site image sized listed.id (applied site image) tt)
 
-pub pays_rollback : (site : SiteId) (c : Command) → Pays (rollback_plan site c)
-pays_rollback site (command.SnapRollback image snap) =
-    pays_change site image sharing.Alone (rollback_refuses snap) (roll_back_to site snap) (λ i h standalone. pays_listed site snap i h (snap_named h.snaps snap) standalone)
-pays_rollback site _ = tt
+pub pays_rollback : (site : SiteId) (name snap : List ℕ) → Pays (rollback site name snap)
+pays_rollback site name snap =
+    pays_change site name sharing.Alone (rollback_refuses snap) (roll_back_to site snap) (λ image h standalone. pays_listed site snap image h (snap_named h.snaps snap) standalone)

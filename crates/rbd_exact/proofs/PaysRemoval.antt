@@ -1,7 +1,5 @@
 -- An `rm` owes nothing: it removes objects with all of their image.
-use Rattle.std.proofs.Common.{ℕ, List, [], ◌∷◌, ◌++◌, map, Bool, true, false, Option, Some, None, refl}
-use Rattle.rbd_commands.specs.declared.command.Command.{Command}
-use Rattle.rbd_commands.specs.declared.command.Command.TheVariants as command
+use Rattle.std.proofs.Common.{◌≡◌, ℕ, List, [], ◌∷◌, ◌++◌, map, Bool, true, false, Option, Some, None, refl, sym, subst}
 use Rattle.rbd_kinds.specs.declared.children_op.ChildrenOp.TheVariants as child
 use Rattle.rbd_kinds.specs.declared.directory_op.DirectoryOp.TheVariants as directory
 use Rattle.rbd_kinds.specs.declared.header.HeaderView.{HeaderView}
@@ -14,40 +12,48 @@ use Rattle.rbd_kinds.specs.declared.map_op.MapOp.TheVariants as states
 use Rattle.rbd_kinds.specs.declared.operation.Op.{Op}
 use Rattle.rbd_kinds.specs.declared.operation.Op.TheVariants as op
 use Rattle.rbd_kinds.specs.declared.reply.Reply.TheVariants as reply
+use Rattle.rbd_kinds.specs.OperationKind.{kind_of}
 use Rattle.rbd_machine.specs.Plan.{Plan, Return}
-use Rattle.rbd_machine.specs.Steps.{owned}
 use Rattle.rbd_meaning.specs.Removals.{image_removal_refuses, link_of, removal, removing_journal, removing_map_of, removing_object, unlinking, used_objects}
-use Rattle.rbd_remove.specs.Remove.{holding_it, joining_its_line, looked_at_it, remove, remove_each, remove_owned, remove_plan, unless_watched}
-use Rattle.rbd_exact.specs.Owed.{IsClearing}
-use Rattle.rbd_exact.proofs.PaysSteps.{Pays, pays_find, pays_look, pays_ends}
+use Rattle.rbd_remove.specs.Remove.{holding_it, joining_its_line, looked_at_it, on_gone as removed_or_gone, remove, remove_each, remove_image, remove_owned, unless_watched}
+use Rattle.rbd_exact.specs.Owed.{IsClearing, PaysItsStates}
+use Rattle.rbd_exact.proofs.PaysSteps.{Pays, pays_ends, pays_find, pays_holding, pays_look}
+use Rattle.rbd_exact.proofs.Unowing.{is_owing, owes_none, removes_none}
 use Rattle.rbd_requests.proofs.PlanSteps.{at_unless, at_bits, at_removed, at_watchers}
 
 -- ---- what goes
 
 module _ (site : SiteId) (image : ℕ) (next : Plan) (pays : Pays next) where
+  -- what is no object goes, and then the others do
+  goes : (o : Op) (others : List Op) → is_owing (kind_of o) ≡ false → Pays (remove_each site others next) → Pays (remove_each site (o ∷ others) next)
+  goes o others none rest = (
+    removes_none site o (remove_each site others next) none,
+    λ a given told.
+        subst (λ owed. PaysItsStates owed (removed_or_gone o (remove_each site others next) a)) (sym (owes_none site o a none))
+        (at_removed Pays pays_ends o (remove_each site others next) rest a),
+  )
+
   -- ---- behind the objects
 
-  pays_journal : (noted : Bool) → Pays (remove_each site (removing_journal image noted) next)
-  pays_journal false = pays
-  pays_journal true = (tt, λ a given told. at_removed Pays pays_ends (op.Journal image journal.Remove) next pays a)
+  abbrev behind_map : (snaps : List SnapView) (noted : Bool) → List Op
+  behind_map snaps noted = map (removing_map_of image) snaps ++ removing_journal image noted
 
-  pays_maps : (snaps : List SnapView) (noted : Bool) → Pays (remove_each site (map (removing_map_of image) snaps ++ removing_journal image noted) next)
-  pays_maps [] noted = pays_journal noted
-  pays_maps (s ∷ snaps) noted =
-      (tt, λ a given told. at_removed Pays pays_ends (removing_map_of image s) (remove_each site (map (removing_map_of image) snaps ++ removing_journal image noted) next) (pays_maps snaps noted) a)
+  pays_behind : (snaps : List SnapView) (noted : Bool) → Pays (remove_each site (behind_map snaps noted) next)
+  pays_behind [] false = pays
+  pays_behind [] true = goes (op.Journal image journal.Remove) [] refl pays
+  pays_behind (s ∷ snaps) noted = goes (removing_map_of image s) (behind_map snaps noted) refl (pays_behind snaps noted)
 
   -- ---- the objects, and the map of the head behind them
 
   abbrev from_map : (snaps : List SnapView) (noted : Bool) → List Op
-  from_map snaps noted = op.Map image (states.Remove None) ∷ (map (removing_map_of image) snaps ++ removing_journal image noted)
+  from_map snaps noted = op.Map image (states.Remove None) ∷ behind_map snaps noted
 
   clearing : (objects : List ℕ) (snaps : List SnapView) (noted : Bool) → IsClearing site image (remove_each site (map (removing_object image) objects ++ from_map snaps noted) next)
   clearing [] snaps noted = (refl, refl)
   clearing (number ∷ objects) snaps noted = (refl, refl, clearing objects snaps noted)
 
   pays_objects : (objects : List ℕ) (snaps : List SnapView) (noted : Bool) → Pays (remove_each site (map (removing_object image) objects ++ from_map snaps noted) next)
-  pays_objects [] snaps noted =
-      (tt, λ a given told. at_removed Pays pays_ends (op.Map image (states.Remove None)) (remove_each site (map (removing_map_of image) snaps ++ removing_journal image noted) next) (pays_maps snaps noted) a)
+  pays_objects [] snaps noted = goes (op.Map image (states.Remove None)) (behind_map snaps noted) refl (pays_behind snaps noted)
   pays_objects (number ∷ objects) snaps noted = (
     clearing objects snaps noted,
     λ a given told.
@@ -56,15 +62,14 @@ module _ (site : SiteId) (image : ℕ) (next : Plan) (pays : Pays next) where
 
   -- ---- before them
 
-  pays_link : (link : Option ParentLink) (ops : List Op) → Pays (remove_each site ops next) → Pays (remove_each site (unlinking image link ++ ops) next)
-  pays_link None ops then = then
-  pays_link (Some link) ops then = (tt, λ a given told. at_removed Pays pays_ends (op.Children (child.Remove link.image link.snap image)) (remove_each site ops next) then a)
+  pays_link : (link : Option ParentLink) (others : List Op) → Pays (remove_each site others next) → Pays (remove_each site (unlinking image link ++ others) next)
+  pays_link None others rest = rest
+  pays_link (Some link) others rest = goes (op.Children (child.Remove link.image link.snap image)) others refl rest
 
   pays_all : (h : HeaderView) (bits : List ℕ) → Pays (remove_each site (removal image h bits) next)
-  pays_all h bits = (
-    tt,
-    λ a given told. at_removed Pays pays_ends (op.Directory (directory.Remove image)) (remove_each site (op.Header image header.Remove ∷ rest) next) headless a,
-  )
+  pays_all h bits =
+      goes (op.Directory (directory.Remove image)) (op.Header image header.Remove ∷ rest) refl (
+      goes (op.Header image header.Remove) rest refl (pays_link (link_of h) objects (pays_objects (used_objects bits) h.snaps h.journal)))
     where
       objects : List Op
       objects = map (removing_object image) (used_objects bits) ++ from_map h.snaps h.journal
@@ -72,33 +77,23 @@ module _ (site : SiteId) (image : ℕ) (next : Plan) (pays : Pays next) where
       rest : List Op
       rest = unlinking image (link_of h) ++ objects
 
-      headless : Pays (remove_each site (op.Header image header.Remove ∷ rest) next)
-      headless = (
-        tt,
-        λ a given told.
-            at_removed Pays pays_ends (op.Header image header.Remove) (remove_each site rest next) (pays_link (link_of h) objects (pays_objects (used_objects bits) h.snaps h.journal)) a,
-      )
-
   pays_remove : (h : HeaderView) → Pays (remove site image h next)
   pays_remove h = (tt, λ a given told. at_bits Pays pays_ends (λ bits. remove_each site (removal image h bits) next) (pays_all h) a)
 
 -- ---- the command
 
-pays_unwatched : (site : SiteId) (session image : ℕ) (next : Plan) → Pays next → Pays (unless_watched site session image next)
-pays_unwatched site session image next pays = (tt, λ a given told. at_watchers Pays pays_ends session next pays a)
+module _ (site : SiteId) (session : ℕ) where
+  pays_unwatched : (image : ℕ) (next : Plan) → Pays next → Pays (unless_watched site session image next)
+  pays_unwatched image next pays = (tt, λ a given told. at_watchers Pays pays_ends session next pays a)
 
-pays_removed : (site : SiteId) (session image : ℕ) (h : HeaderView) → Pays (remove_owned site session image h)
-pays_removed site session image h = pays_unwatched site session image (remove site image h (Return reply.Done)) (pays_remove site image (Return reply.Done) tt h)
+  pays_held : (image : ℕ) → Pays (holding_it site session image)
+  pays_held image =
+      pays_holding site image_removal_refuses (remove_owned site session) image (λ h standalone.
+      pays_unwatched image (remove site image h (Return reply.Done)) (pays_remove site image (Return reply.Done) tt h))
 
-pays_held : (site : SiteId) (session image : ℕ) → Pays (holding_it site session image)
-pays_held site session image =
-    pays_look site image (owned image_removal_refuses (remove_owned site session) image) (λ h standalone.
-    at_unless Pays pays_ends (image_removal_refuses h) (remove_owned site session image h) (pays_removed site session image h))
-
-pub pays_removal : (site : SiteId) (session : ℕ) (c : Command) → Pays (remove_plan site session c)
-pays_removal site session (command.Remove image) =
-    pays_find site image (joining_its_line site session) (λ i.
-    pays_look site i (looked_at_it site session i) (λ h standalone.
-    at_unless Pays pays_ends (image_removal_refuses h) (unless_watched site session i (holding_it site session i))
-    (pays_unwatched site session i (holding_it site session i) (pays_held site session i))))
-pays_removal site session _ = tt
+  pub pays_removal : (name : List ℕ) → Pays (remove_image site session name)
+  pays_removal name =
+      pays_find site name (joining_its_line site session) (λ image.
+      pays_look site image (looked_at_it site session image) (λ h standalone.
+      at_unless Pays pays_ends (image_removal_refuses h) (unless_watched site session image (holding_it site session image))
+      (pays_unwatched image (holding_it site session image) (pays_held image))))

@@ -15,7 +15,7 @@ ghost use Rattle.rbd_machine.specs.Refused.{AreGiven};
 ghost use Rattle.rbd_machine.specs.Standalone.{TellAllStandalone};
 ghost use Rattle.rbd_machine.specs.declared.seat.Seat.{Seat};
 ghost use Rattle.rbd_rely.specs.Truth.{AreMapped, IsTrueAt};
-ghost use Rattle.rbd_requests.specs.Served.{IsPlanFor};
+ghost use Rattle.rbd_requests.specs.Plans.{IsPlanFor};
 ghost use Rattle.rbd_site.specs.InForm.{AreInForm};
 ghost use Rattle.rbd_site.specs.Log.{expired, trimmed};
 ghost use Rattle.rbd_site.specs.Records.{Records, no_records};

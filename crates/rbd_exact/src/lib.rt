@@ -12,6 +12,13 @@
 //! exact but for what anybody owes (`IsExactBut`). [`laws`] says that the plans of all commands pay
 //! what they owe, and that what is permitted by true knowledge leaves maps exact but for what is
 //! owed then.
+//!
+//! # How it is shown
+//!
+//! A command whose row (`profile` of `rbd_requests`) has neither the setting of a state nor the
+//! removal of an object among its kinds owes nothing, whatever its plan is (`proofs/Unowing.antt`).
+//! The plans of the others are gone through step by step: `write`, `fill`, `discard`, `resize`,
+//! `snap rollback` and `rm`.
 #![tactic(auto)]
 
 pub mod laws;

@@ -57,7 +57,7 @@ use Rattle.rbd_session.proofs.OwnLooks.{at_own_look}
 
 -- One that is alone and may pass is the first. Behind it nobody may, until it is past its look
 -- under the lock.
-alone_goes_first : (line : List Member) (slot other : ℕ) (m n : Member) → slot ≢ other → member_of slot line ≡ Some m → member_of other line ≡ Some n → is_alone m.sharing ≡ true → is_past m.stage ≡ false
+pub alone_goes_first : (line : List Member) (slot other : ℕ) (m n : Member) → slot ≢ other → member_of slot line ≡ Some m → member_of other line ≡ Some n → is_alone m.sharing ≡ true → is_past m.stage ≡ false
     → may_pass slot line ≡ true → may_pass other line ≡ true → ⊥
 alone_goes_first [] slot other m n differ here there alone waits may also = none-some m here
 alone_goes_first (x ∷ line) slot other m n differ here there alone waits may also = by (x.slot == slot) refl
@@ -153,32 +153,32 @@ module _ {R : Type 0} (stands : R → Standing) (c : ClientView R) (sound : IsSo
 
 module _ {R : Type 0} (stands : R → Standing) (c : ClientView R) (knows : ℕ → Knowledge) (sound : IsSoundClient stands c) (all : AllKnow stands knows c.session)
     (slot : ℕ) (site : SiteId) (image : ℕ) (wanted : op_by stands slot c.session actor.Request ≡ Some (site, op.Header image header.LockDrop)) (holds : HoldsUnlooked (knows slot) site image) where
-  w : Wants stands slot c.session.lines site (op.Header image header.LockDrop) (held_in slot c.session.slots)
-  w = wants stands slot c.session.lines site (op.Header image header.LockDrop) (held_in slot c.session.slots) wanted
+  pub wanting : Wants stands slot c.session.lines site (op.Header image header.LockDrop) (held_in slot c.session.slots)
+  wanting = wants stands slot c.session.lines site (op.Header image header.LockDrop) (held_in slot c.session.slots) wanted
 
   abbrev track : Track
-  track = track_of w.request c.session.lines
+  track = track_of wanting.request c.session.lines
 
   abbrev line : List Member
   line = lines_of c.session.lines site image
 
   -- it waits in the image's line, alone
-  m : IsMemberFor slot site image (unlooked site image) track
-  m = owner_runs stands c.session knows sound.session all slot w.request (ap running_in w.is) site image (unlooked site image) holds.is
+  pub membership : IsMemberFor slot site image (unlooked site image) track
+  membership = owner_runs stands c.session knows sound.session all slot wanting.request (ap running_in wanting.is) site image (unlooked site image) holds.is
 
-  waiting : m.member.stage ≡ stage.Waiting
-  waiting = by m.member.stage refl
+  pub waiting : membership.member.stage ≡ stage.Waiting
+  waiting = by membership.member.stage refl
     where
-      by : (s : Stage) → m.member.stage ≡ s → s ≡ stage.Waiting
-      by stage.Joined is = absurd (true≢false (sym (ap has_just_joined is) ∙ m.waits))
+      by : (s : Stage) → membership.member.stage ≡ s → s ≡ stage.Waiting
+      by stage.Joined is = absurd (true≢false (sym (ap has_just_joined is) ∙ membership.waits))
       by stage.Waiting is = refl
-      by stage.Past is = absurd (true≢false (sym (m.told (ap is_past is))))
+      by stage.Past is = absurd (true≢false (sym (membership.told (ap is_past is))))
 
-  may : may_pass slot line ≡ true
+  pub may : may_pass slot line ≡ true
   may =
-      sym (ap (may_pass slot) m.line)
-      ∙ may_of (is_at_own (course_of slot track).place) (may_pass slot (line_in track.place track.lines)) (ap is_at_own m.place ∙ ap is_waiting waiting)
-      (or_parts (awaits_line slot track) (awaits_turn slot track) w.goes).0
+      sym (ap (may_pass slot) membership.line)
+      ∙ may_of (is_at_own (course_of slot track).place) (may_pass slot (line_in track.place track.lines)) (ap is_at_own membership.place ∙ ap is_waiting waiting)
+      (or_parts (awaits_line slot track) (awaits_turn slot track) wanting.goes).0
 
   nobody_past : (b : Bool) → any_past line ≡ b → b ≡ false
   nobody_past false is = refl
@@ -189,16 +189,16 @@ module _ {R : Type 0} (stands : R → Standing) (c : ClientView R) (knows : ℕ 
         where
           go : (p.member.slot ≡ slot) ⊎ (p.member.slot ≢ slot) → ⊥
           go (inl same) =
-              let one = same_Some m.member p.member (sym m.found ∙ sym (ap (λ n. member_of n line) same) ∙ p.found) in
+              let one = same_Some membership.member p.member (sym membership.found ∙ sym (ap (λ n. member_of n line) same) ∙ p.found) in
               true≢false (sym p.past ∙ sym (ap (λ (x : Member). is_past x.stage) one) ∙ ap is_past waiting)
           go (inr differ) =
-              true≢false (m.alone ∙ (may_shared line slot p.member.slot m.member p.member (sound.session.fair site image) (λ same. differ (sym same)) m.found p.found may p.past).0)
+              true≢false (membership.alone ∙ (may_shared line slot p.member.slot membership.member p.member (sound.session.fair site image) (λ same. differ (sym same)) membership.found p.found may p.past).0)
 
   pub rests : is_at_rest site image c ≡ true
   rests =
       ap (λ a. not a && not (any_taken site image c.slots)) (nobody_past (any_past line) refl)
       ∙ ap not (none_taken stands c sound slot site image header.LockDrop answer.Done refl wanted
-      (λ other n differ found may_also. alone_goes_first line slot other m.member n differ m.found found (sym m.alone) (ap is_past waiting) may may_also))
+      (λ other n differ found may_also. alone_goes_first line slot other membership.member n differ membership.found found (sym membership.alone) (ap is_past waiting) may may_also))
 
 -- ---- the removal of a header
 

@@ -19,7 +19,8 @@ ghost use Rattle.rbd_machine.specs.declared.reason.Reason.{Reason};
 ghost use Rattle.rbd_machine.specs.declared.seat.Seat.{Seat};
 ghost use Rattle.rbd_rely.specs.Beside.{AreBeside, MayAct};
 ghost use Rattle.rbd_rely.specs.Truth.{IsTrueAt};
-ghost use Rattle.rbd_requests.specs.Served.{IsPlanFor};
+ghost use Rattle.rbd_requests.specs.Plans.{IsPlanFor};
+ghost use Rattle.rbd_requests.specs.Profile.{joins_a_line, profile};
 ghost use Rattle.rbd_session.specs.Advance.{track_of};
 ghost use Rattle.rbd_session.specs.Lines.{LinesView, lines_of};
 ghost use Rattle.rbd_session.specs.OnTrack.{LeavesOthers};
@@ -27,7 +28,7 @@ ghost use Rattle.rbd_session.specs.Session.{SessionView, IsSoundSession, BeginsA
 ghost use Rattle.rbd_session.specs.Waits.{waits};
 ghost use Rattle.rbd_session.specs.declared.running.Running.{Running};
 ghost use Rattle.rbd_site.specs.Records.{Records};
-ghost use Rattle.rbd_known.specs.Calm.{IsCalmRequest, OwnsNothing, is_change};
+ghost use Rattle.rbd_known.specs.Calm.{IsCalmRequest, OwnsNothing};
 ghost use Rattle.rbd_known.specs.Knowing.{KnowsBy, AllKnow, knows_after, known_at_operation, known_behind};
 
 use rbd_course::Request;
@@ -94,9 +95,10 @@ pub fn calm_requests_own_nothing()
     ensures acted_beside { (site : Site) (r : Records) (me you : Instance) (k j : Knowledge) (op : Op) → OwnsNothing j → MayAct site r me you k j op }
 {}
 
-/// Only what changes an image or closes it waits for anything, and waits in the line of that image:
-/// a `write`, a `fill`, a `discard`, a `resize`, an `rm`, a `snap create`, a `snap rm`, a `snap
-/// rollback`, a `close` and a `quiesce`.
-pub fn looks_wait_for_nothing()
-    ensures { (seat : Seat) (command : Command) (s : Standing) → is_change command ≡ false → IsPlanFor seat command s → IsCalmRequest s }
+/// Who joins no line, by the row of its command, waits for nothing: neither for a lock, nor for a
+/// turn, nor for an event. So only a `write`, a `fill`, a `discard`, a `resize`, an `rm`, a `snap
+/// create`, a `snap rm`, a `snap rollback`, a `close` and a `quiesce` wait for anything.
+pub fn who_joins_no_line_waits_for_nothing()
+    ensures { (seat : Seat) (command : Command) (s : Standing)
+        → joins_a_line (profile command) ≡ false → IsPlanFor seat command s → IsCalmRequest s }
 {}

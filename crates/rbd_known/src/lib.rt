@@ -37,11 +37,8 @@
 //! | `specs/Calm.antt` | requests that wait for nothing |
 //!
 //! [`laws`] says that a session's calls keep this, that who may go on may act beside the others
-//! (`MayAct` of `rbd_rely`), and which commands wait for nothing. [`is_change`] tells whether a
-//! command waits in the line of an image.
+//! (`MayAct` of `rbd_rely`), and that who joins no line, by the row of its command (`profile` of
+//! `rbd_requests`), waits for nothing.
 #![tactic(auto)]
 
-mod change;
 pub mod laws;
-
-pub use change::is_change;

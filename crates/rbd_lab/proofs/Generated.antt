@@ -5,7 +5,7 @@ use Rattle.std.specs.List.{range_with_len}
 use Rattle.std.proofs.lemmas.List.Elements.{All-cons, All-nil}
 use Rattle.std.proofs.lemmas.List.FromFn.{length-map-range_with_len}
 use Rattle.rbd_generate.specs.Generated.{client_of, command_by, command_line, create_line, drawn, image_name, lines_of, owner, script_of, settle_line}
-use Rattle.rbd_requests.specs.Served.{is_built}
+use Rattle.rbd_requests.specs.Plans.{is_built}
 use Rattle.rbd_schedule.specs.InOrder.{AreBehind, AreDeclared, AreInOrder, NamesDeclared}
 use Rattle.rbd_schedule.specs.Playing.{IsPlayable, IsPlayed}
 use Rattle.rbd_script.specs.declared.script.Line.{Line}

@@ -1,6 +1,6 @@
 -- Which bytes are a script of built forms, and which fault is told of others.
 use Rattle.std.specs.Prelude.{◌≡◌, ℕ, All, Bool, true, false, if◌then◌else◌, List, [], ◌∷◌, ◌++◌, codes, decimal, Option, Some, None, Result, Ok, Err}
-use Rattle.rbd_requests.specs.Served.{is_built}
+use Rattle.rbd_requests.specs.Plans.{is_built}
 use Rattle.rbd_script.specs.declared.fault.LineCause.TheVariants.{UnknownWord}
 use Rattle.rbd_script.specs.declared.fault.LineFault.{LineFault}
 use Rattle.rbd_script.specs.declared.script.Line.{Line}

@@ -13,8 +13,8 @@ use Rattle.rbd_kinds.specs.declared.reply.Reply.{Reply}
 use Rattle.rbd_locks.specs.Locks.{heard, state_at}
 use Rattle.rbd_machine.specs.Plan.{Standing}
 use Rattle.rbd_machine.specs.declared.seat.Seat.{Seat}
-use Rattle.rbd_requests.specs.Served.{IsPlanFor, is_built}
-use Rattle.rbd_requests.specs.Touched.{extent_of}
+use Rattle.rbd_requests.specs.Plans.{IsPlanFor, is_built}
+use Rattle.rbd_requests.specs.Profile.{changed_extent}
 use Rattle.rbd_session.specs.Lines.{lines_of}
 use Rattle.rbd_session.specs.Session.{IsAlikeIn, IsNewcomer, SessionView, held_in, seat_of}
 use Rattle.rbd_world.specs.Run.{Operation}
@@ -68,8 +68,8 @@ module _ {R : Type 0} (stands : R → Standing) where
         → IsAlikeIn stands (held_in c.session.lowest x.session.slots) (held_in c.session.lowest y.session.slots)
     begin_held line k built is other =
         newcomers_alike stands (seat_of c.session) line k built (held_in c.session.lowest x.session.slots) (held_in c.session.lowest y.session.slots) is.begins.held
-        (subst (λ n. IsNewcomer stands IsPlanFor extent_of (seat_of c.session) line k (held_in n y.session.slots)) alike.session.lowest
-        (subst (λ (seat : Seat). IsNewcomer stands IsPlanFor extent_of seat line k (held_in d.session.lowest y.session.slots)) same_seat other.begins.held))
+        (subst (λ n. IsNewcomer stands IsPlanFor changed_extent (seat_of c.session) line k (held_in n y.session.slots)) alike.session.lowest
+        (subst (λ (seat : Seat). IsNewcomer stands IsPlanFor changed_extent seat line k (held_in d.session.lowest y.session.slots)) same_seat other.begins.held))
       where
         same_seat : seat_of d.session ≡ seat_of c.session
         same_seat =

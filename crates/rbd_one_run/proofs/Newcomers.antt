@@ -5,9 +5,9 @@ use Rattle.rbd_commands.specs.declared.refusal.Refusal.{Refusal}
 use Rattle.rbd_kinds.specs.declared.reply.Reply.TheVariants as reply
 use Rattle.rbd_machine.specs.Plan.{Plan, Return, Standing, IsAsking}
 use Rattle.rbd_machine.specs.declared.seat.Seat.{Seat}
-use Rattle.rbd_requests.proofs.OnePlan.{has_one_plan, what_has_a_plan_is_built}
-use Rattle.rbd_requests.specs.Served.{IsPlanFor, is_built}
-use Rattle.rbd_requests.specs.Touched.{extent_of}
+use Rattle.rbd_requests.proofs.Plans.{has_plan, one_plan}
+use Rattle.rbd_requests.specs.Plans.{IsPlanFor, is_built}
+use Rattle.rbd_requests.specs.Profile.{changed_extent}
 use Rattle.rbd_session.specs.Session.{BeginsAt, IsAlikeIn, IsNewcomer}
 use Rattle.rbd_session.specs.declared.running.Occupant.{Occupant}
 use Rattle.rbd_session.specs.declared.running.Occupant.TheVariants as occupant
@@ -20,16 +20,11 @@ refusal_of other plan = other
 
 module _ {R : Type 0} (stands : R → Standing) (seat : Seat) (line : ℕ) (c : Command) where
   abbrev Begins : Option (Occupant R) → Type 0
-  Begins o = IsNewcomer stands IsPlanFor extent_of seat line c o
+  Begins o = IsNewcomer stands IsPlanFor changed_extent seat line c o
 
-  one_standing : (s t : Standing) → IsPlanFor seat c s → IsPlanFor seat c t → t ≡ s
-  one_standing s t is also =
-      let one = has_one_plan seat c (what_has_a_plan_is_built seat c s is) in
-      one.only t also ∙ sym (one.only s is)
-
-  run_alike : (r q : Running R) → BeginsAt stands IsPlanFor extent_of seat line c r → BeginsAt stands IsPlanFor extent_of seat line c q → IsAlikeIn stands (Some (occupant.Running r)) (Some (occupant.Running q))
+  run_alike : (r q : Running R) → BeginsAt stands IsPlanFor changed_extent seat line c r → BeginsAt stands IsPlanFor changed_extent seat line c q → IsAlikeIn stands (Some (occupant.Running r)) (Some (occupant.Running q))
   run_alike r q begins also = record {
-    same = one_standing (stands r.request) (stands q.request) begins.stands_there also.stands_there;
+    same = one_plan seat c (stands q.request) (stands r.request) also.stands_there begins.stands_there;
     line = also.is_line ∙ sym begins.is_line;
     extent = also.extent ∙ sym begins.extent;
     place = also.place ∙ sym begins.place;
@@ -37,14 +32,14 @@ module _ {R : Type 0} (stands : R → Standing) (seat : Seat) (line : ℕ) (c : 
   }
 
   -- who stands at an operation isn't refused
-  runs_or_not : (r : Running R) (n : ℕ) (x : Refusal) → BeginsAt stands IsPlanFor extent_of seat line c r → Begins (Some (occupant.Refused n x)) → ⊥
+  runs_or_not : (r : Running R) (n : ℕ) (x : Refusal) → BeginsAt stands IsPlanFor changed_extent seat line c r → Begins (Some (occupant.Refused n x)) → ⊥
   runs_or_not r n x begins refuses = subst IsAsking (refuses.1 (stands r.request) begins.stands_there) begins.asks
 
   -- the command has a plan, so that it says why it is refused
   refused_alike : is_built c ≡ true → (n m : ℕ) (x y : Refusal) → Begins (Some (occupant.Refused n x)) → Begins (Some (occupant.Refused m y))
       → IsAlikeIn stands (Some (occupant.Refused n x)) (Some (occupant.Refused m y))
   refused_alike built n m x y is also =
-      let one = has_one_plan seat c built in
+      let one = has_plan seat c built in
       let same : y ≡ x = ap (refusal_of x) (sym (also.1 one.standing one.is) ∙ is.1 one.standing one.is) in
       ap (λ k. Some (occupant.Refused k y)) (also.0 ∙ sym is.0) ∙ ap (λ z. Some (occupant.Refused n z)) same
 

@@ -23,7 +23,6 @@ use Rattle.rbd_meaning.specs.Reads.{bytes_shown}
 use Rattle.rbd_meaning.specs.Resizes.{ResizesWhole, resize_refuses}
 use Rattle.rbd_meaning.specs.Rollbacks.{AreRestored, RollsBack, at_size, rollback_refuses}
 use Rattle.rbd_meaning.specs.Writes.{write_refuses}
-use Rattle.rbd_requests.proofs.OnePlan.{stands_by}
 use Rattle.rbd_resize.specs.Resize.{set_size}
 use Rattle.rbd_resize.specs.Rollback.{roll_back_to}
 use Rattle.rbd_stands.proofs.Served.{is_served}
@@ -185,7 +184,7 @@ module _ (homes : ℕ → SiteId) (home : SiteId) where
         sharing = sharing.Discard;
         refuses = write_refuses e;
         act = λ site. zero site e;
-        stands = λ seat s plan. stands_by seat (command.Discard name at len) s plan;
+        plan = λ seat. refl;
         may_wait = whole.may_wait;
         may = whole.may;
         keeps = keeps_zeroing home e whole.image whole.own;
@@ -201,7 +200,7 @@ module _ (homes : ℕ → SiteId) (home : SiteId) where
         sharing = sharing.Alone;
         refuses = resize_refuses to;
         act = λ site. set_size site to;
-        stands = λ seat s plan. stands_by seat (command.Resize name to) s plan;
+        plan = λ seat. refl;
         may_wait = whole.may_wait;
         may = whole.may;
         keeps = keeps_set_size home to whole.image whole.own;
@@ -217,7 +216,7 @@ module _ (homes : ℕ → SiteId) (home : SiteId) where
           sharing = sharing.Alone;
           refuses = rollback_refuses snap;
           act = λ site. roll_back_to site snap;
-          stands = λ seat s plan. stands_by seat (command.SnapRollback name snap) s plan;
+          plan = λ seat. refl;
           may_wait = rolls.may_wait;
           may = rolls.may;
           keeps = keeps_rollback home snap rolls.image rolls.own (snap_named rolls.own.snaps snap);

@@ -1,5 +1,5 @@
--- Who is fenced at a site is answered so there, whatever he does, and stays fenced; and a fence is
--- put up by who isn't.
+-- What leaves the records of its site leaves all as it was. Who is fenced at a site is answered so
+-- there, whatever he does, and stays fenced; and a fence is put up by who isn't.
 use Rattle.std.proofs.Common.{◌≡◌, ℕ, cond, Bool, true, false, List, [], ◌∷◌, ◌++◌, Option, Some, None, refl, sym, ap, ◌∙◌, subst}
 use Rattle.std.proofs.lemmas.Option.{same_Some}
 use Rattle.rbd_kinds.specs.declared.answer.Answer.{Answer}
@@ -16,7 +16,7 @@ use Rattle.rbd_rely.specs.Truth.{changed_by}
 use Rattle.rbd_site.proofs.FenceLemmas.{fence_stays, lists_it}
 use Rattle.rbd_site.specs.Log.{expired, trimmed}
 use Rattle.rbd_site.specs.Records.{Records}
-use Rattle.rbd_site.specs.Step.{after, answer_served, answer_to, is_fenced, mail_served}
+use Rattle.rbd_site.specs.Step.{after, answer_served, answer_to, is_fenced, mail_after, mail_served}
 use Rattle.rbd_site.specs.declared.done.DoneOp.TheVariants as done
 use Rattle.rbd_stands.proofs.NoEffect.{fenced_none}
 use Rattle.rbd_stands.proofs.Served.{fenced_after, fenced_answer}
@@ -24,7 +24,28 @@ use Rattle.rbd_stands.specs.Effect.{effect_of}
 use Rattle.rbd_world.specs.Run.{Happening, Nothing, Waited, Began, Did, Refused, Trimmed, Expired, Heard, Stopped, Restarted, Operation, fence_of, flat_after, mail_of, records_after, records_behind}
 use Rattle.rbd_world.specs.Sound.{IsDone, IsRight}
 use Rattle.rbd_world.proofs.Runs.{done_of}
-use Rattle.rbd_replies.specs.Fenced.{ChangesNothing}
+use Rattle.rbd_replies.specs.Fenced.{ChangesNothing, LeavesAll}
+
+-- ---- what leaves the records of its site
+
+module _ (o : Operation) (reply : Option Reply) (run : List Happening) (silent : o.effect ≡ None) (still : after (records_after o.site run) o.instance o.op ≡ records_after o.site run)
+    (untold : mail_after o.site (records_after o.site run) o.instance o.op (mail_of run) ≡ mail_of run) where
+  flat_stays : (s : SiteId) → flat_after s (Did o reply ∷ run) ≡ flat_after s run
+  flat_stays s = by (same_site o.site s)
+    where
+      by : (b : Bool) → cond b (changed_by (flat_after s run) o.effect) (flat_after s run) ≡ flat_after s run
+      by true = ap (changed_by (flat_after s run)) silent
+      by false = refl
+
+  records_stay : (s : SiteId) → records_after s (Did o reply ∷ run) ≡ records_after s run
+  records_stay s = by (same_site o.site s) refl
+    where
+      by : (b : Bool) → same_site o.site s ≡ b → cond b (after (records_after s run) o.instance o.op) (records_after s run) ≡ records_after s run
+      by true here = subst (λ t. after (records_after t run) o.instance o.op ≡ records_after t run) (same_site_is o.site s here) still
+      by false elsewhere = refl
+
+  pub leaves_all : LeavesAll o reply run
+  leaves_all = record { silent = silent; flat = flat_stays; records = records_stay; mail = untold }
 
 -- ---- what a fenced instance does
 
@@ -35,27 +56,13 @@ module _ (o : Operation) (reply : Option Reply) (run : List Happening) (is : IsD
   no_effect : o.effect ≡ None
   no_effect = is.effect ∙ ap (λ a. effect_of (records_after o.site run) (done.Op o.op) a) told ∙ fenced_none (records_after o.site run) o.op
 
-  flat_stays : (s : SiteId) → flat_after s (Did o reply ∷ run) ≡ flat_after s run
-  flat_stays s = by (same_site o.site s)
-    where
-      by : (b : Bool) → cond b (changed_by (flat_after s run) o.effect) (flat_after s run) ≡ flat_after s run
-      by true = ap (changed_by (flat_after s run)) no_effect
-      by false = refl
-
-  records_stay : (s : SiteId) → records_after s (Did o reply ∷ run) ≡ records_after s run
-  records_stay s = by (same_site o.site s) refl
-    where
-      by : (b : Bool) → same_site o.site s ≡ b → cond b (after (records_after s run) o.instance o.op) (records_after s run) ≡ records_after s run
-      by true here =
-          fenced_after (records_after s run) o.instance o.op
-          (subst (λ t. is_fenced (records_after t run) o.instance ≡ true) (same_site_is o.site s here) fenced)
-      by false elsewhere = refl
-
-  mail_stays : mail_of (Did o reply ∷ run) ≡ mail_of run
-  mail_stays = ap (λ b. cond b (mail_of run) (mail_served o.site (records_after o.site run) o.instance o.op (mail_of run))) fenced
-
   fenced_changes_nothing : ChangesNothing o reply run
-  fenced_changes_nothing = record { answered = told; silent = no_effect; flat = flat_stays; records = records_stay; mail = mail_stays }
+  fenced_changes_nothing = record {
+    answered = told;
+    leaves =
+        leaves_all o reply run no_effect (fenced_after (records_after o.site run) o.instance o.op fenced)
+        (ap (λ b. cond b (mail_of run) (mail_served o.site (records_after o.site run) o.instance o.op (mail_of run))) fenced);
+  }
 
 pub fenced_here : (homes : ℕ → SiteId) (run : List Happening) (o : Operation) (reply : Option Reply) → IsRight homes (Did o reply ∷ run)
     → is_fenced (records_after o.site run) o.instance ≡ true → ChangesNothing o reply run

@@ -1,12 +1,11 @@
--- Once it owns its image a change keeps to it: it looks at no header any more, changes objects and
--- maps, and sets the size, at the image's site; and it leaves the image's line only at its end. So
--- it knows the header that its look under the lock told, with its own changes since.
+-- Once it owns its image a change keeps to it: it changes objects and maps, and sets the size, at
+-- the image's site; and it leaves the image's line only at its end. So it knows the header that its
+-- look under the lock told, with its own changes since.
 use Rattle.std.proofs.Common.{◌≡◌, ℕ, Bool, true, false, List, [], ◌∷◌, Option, Some, None, refl}
 use Rattle.std.specs.Prelude.{nat_le}
 use Rattle.rbd_discard.specs.Discard.{zero, zero_pieces as discard_pieces}
 use Rattle.rbd_header.specs.Header.{context_of}
 use Rattle.rbd_kinds.specs.declared.answer.Answer.{Answer}
-use Rattle.rbd_kinds.specs.declared.data_op.DataOp.{DataOp}
 use Rattle.rbd_kinds.specs.declared.data_op.DataOp.TheVariants as object
 use Rattle.rbd_kinds.specs.declared.header.HeaderView.{HeaderView}
 use Rattle.rbd_kinds.specs.declared.header.SnapContext.{SnapContext}
@@ -14,11 +13,8 @@ use Rattle.rbd_kinds.specs.declared.header.SnapView.{SnapView}
 use Rattle.rbd_kinds.specs.declared.header_op.HeaderOp.TheVariants as header
 use Rattle.rbd_kinds.specs.declared.id.SiteId.{SiteId}
 use Rattle.rbd_kinds.specs.declared.layout.Extent.{Extent}
-use Rattle.rbd_kinds.specs.declared.map_op.MapOp.{MapOp}
-use Rattle.rbd_kinds.specs.declared.map_op.MapOp.TheVariants as states
 use Rattle.rbd_kinds.specs.declared.operation.Op.{Op}
 use Rattle.rbd_kinds.specs.declared.operation.Op.TheVariants as op
-use Rattle.rbd_kinds.specs.OperationKind.{kind_of}
 use Rattle.rbd_layout.specs.Pieces.{pieces_of}
 use Rattle.rbd_layout.specs.declared.types.Piece.{Piece}
 use Rattle.rbd_machine.specs.Plan.{Plan, Ask, Await, Note, Return, Goto}
@@ -29,12 +25,10 @@ use Rattle.rbd_meaning.specs.Count.{object_count}
 use Rattle.rbd_meaning.specs.Rollbacks.{at_size}
 use Rattle.rbd_resize.specs.Resize.{set_size}
 use Rattle.rbd_resize.specs.Rollback.{restore_pieces, roll_back_listed}
-use Rattle.rbd_session.specs.Session.{is_look_at}
 use Rattle.rbd_zero.specs.Full.{cut_bytes, full_by, full_piece, writing_full}
 use Rattle.rbd_zero.specs.Shrink.{pieces_from}
 use Rattle.rbd_zero.specs.Size.{cutting, resize_by, sizing, zero_pieces}
 use Rattle.rbd_zero.specs.Zero.{emptying, head_of, is_inside, is_whole, removing, setting, zero_all, zero_by, zero_piece, zero_some, zeroing}
-use Rattle.rbd_replies.proofs.LooksFirst.{NoLook}
 use Rattle.rbd_requests.proofs.PlanSteps.{at_bits, at_bytes, at_done}
 
 -- an operation on objects or maps, or one that sets the image's size
@@ -56,37 +50,6 @@ KeepsOwn site image (Await w next) = StaysInLine w × KeepsOwn site image next
 KeepsOwn site image (Note s i event next) = KeepsOwn site image next
 KeepsOwn site image (Return r) = Unit {0}
 KeepsOwn site image (Goto label) = ⊥
-
--- so it looks at no header
-module _ (s site : SiteId) where
-  no_look_at_object : (i number : ℕ) (o : DataOp) → is_look_at s (Some (site, kind_of (op.Data i number o))) ≡ false
-  no_look_at_object i number (object.Read snap parts) = refl
-  no_look_at_object i number (object.Write context must parts bytes) = refl
-  no_look_at_object i number (object.WriteFull context bytes) = refl
-  no_look_at_object i number (object.Zero context must parts) = refl
-  no_look_at_object i number (object.Empty context) = refl
-  no_look_at_object i number (object.Remove context) = refl
-  no_look_at_object i number (object.CopyUp bytes) = refl
-
-  no_look_at_map : (i : ℕ) (o : MapOp) → is_look_at s (Some (site, kind_of (op.Map i o))) ≡ false
-  no_look_at_map i (states.Resize count) = refl
-  no_look_at_map i (states.Get view) = refl
-  no_look_at_map i (states.Put view bits) = refl
-  no_look_at_map i (states.Set view number state) = refl
-  no_look_at_map i (states.Remove view) = refl
-
-  no_look_by : (image : ℕ) (o : Op) → IsOnImage image o → is_look_at s (Some (site, kind_of o)) ≡ false
-  no_look_by image (op.Data i number o) on = no_look_at_object i number o
-  no_look_by image (op.Map i o) on = no_look_at_map i o
-  no_look_by image (op.Header i (header.SetSize to)) on = refl
-  no_look_by image _ on = elim on [ ]
-
-pub looks_no_more : (site : SiteId) (image : ℕ) (plan : Plan) → KeepsOwn site image plan → NoLook plan
-looks_no_more site image (Ask s why o next) keeps = (λ other. no_look_by other s image o keeps.0.1, λ a. looks_no_more site image (next a) (keeps.1 a))
-looks_no_more site image (Await w next) keeps = looks_no_more site image next keeps.1
-looks_no_more site image (Note s i event next) keeps = looks_no_more site image next keeps
-looks_no_more site image (Return r) keeps = tt
-looks_no_more site image (Goto label) keeps = absurd keeps
 
 -- ---- a piece becomes zeros
 

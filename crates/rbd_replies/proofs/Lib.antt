@@ -15,11 +15,9 @@ pub mod Led
 pub mod LineBounds
 pub mod LinesBelow
 pub mod ListingsTold
-pub mod LookFirst
-pub mod LooksFirst
+pub mod LooksOnly
 pub mod Measured
 pub mod NoEffects
-pub mod NoLooks
 pub mod OnWay
 pub mod OnWaysOnly
 pub mod OwnedLogs
@@ -43,9 +41,8 @@ pub mod Removing
 pub mod RepliesOf
 pub mod Restoring
 pub mod SentOnce
-pub mod ShownNothing
 pub mod Silent
-pub mod SilentPlans
+pub mod SilentKinds
 pub mod Taught
 pub mod TaughtHeader
 pub mod WatchesEnd

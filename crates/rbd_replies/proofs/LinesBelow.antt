@@ -1,5 +1,5 @@
 -- A line that hasn't ended stands at its next operation, or is refused before its first: so it has
--- had fewer than its bound. And each poll of its slot that doesn't wait is a step of it.
+-- had fewer than its row allows. And each poll of its slot that doesn't wait is a step of it.
 use Rattle.std.proofs.Common.{◌≡◌, ◌⊎◌, inl, inr, ℕ, ◌||◌, cond, Bool, true, false, List, Option, Some, None, refl, sym, ap, ◌∙◌, subst}
 use Rattle.std.proofs.lemmas.Bool.{eq-eqb}
 use Rattle.std.proofs.lemmas.Option.{none-some, same_Some}
@@ -11,7 +11,8 @@ use Rattle.rbd_kinds.specs.declared.id.Instance.{Instance}
 use Rattle.rbd_kinds.specs.declared.id.SiteId.{SiteId}
 use Rattle.rbd_machine.specs.Label.{Label}
 use Rattle.rbd_machine.specs.Plan.{Plan, Ask, Await, Note, Return, Goto, IsAsking, Standing}
-use Rattle.rbd_requests.specs.Touched.{HasAtMost, bound_of, touched_by}
+use Rattle.rbd_requests.specs.Profile.{profile}
+use Rattle.rbd_requests.specs.Touched.{HasAtMost}
 use Rattle.rbd_session.specs.declared.running.Occupant.{Occupant}
 use Rattle.rbd_session.specs.declared.running.Occupant.TheVariants as occupant
 use Rattle.rbd_session.specs.declared.running.Running.{Running}
@@ -27,18 +28,18 @@ use Rattle.rbd_world.specs.World.{WorldView, client_in, session_of}
 use Rattle.rbd_replies.proofs.Below.{begins_below, walk_stays_below}
 use Rattle.rbd_replies.specs.Bounds.{IsStepFor, StaysBelow}
 
--- ---- fewer than the bound
+-- ---- fewer than the row allows
 
-module _ {R : Type 0} (stands : R → Standing) (homes : ℕ → SiteId) (session : ℕ) (who : Instance) (whose : who.session ≡ session) (run : List Happening) (asked : Asked) (most : ℕ) (few : HasAtMost most (touched_by asked.command)) where
+module _ {R : Type 0} (stands : R → Standing) (homes : ℕ → SiteId) (session : ℕ) (who : Instance) (whose : who.session ≡ session) (run : List Happening) (asked : Asked) (pieces : ℕ) (few : HasAtMost pieces (profile asked.command).extent) where
   abbrev IsBelow : (line : ℕ) → Asked → Type 0
-  IsBelow line a = StaysBelow (homes a.who.session) a.command (bound_of a.command most) (steps_of line run)
+  IsBelow line a = StaysBelow (homes a.who.session) a.command pieces (steps_of line run)
 
   -- the command that the line began is the one that its slot has
-  of_begun : (line : ℕ) (begun : Asked) → begun ≡ asked → begun.who ≡ who → (HasAtMost most (touched_by begun.command) → StaysBelow (homes session) begun.command (bound_of begun.command most) (steps_of line run)) → IsBelow line asked
+  of_begun : (line : ℕ) (begun : Asked) → begun ≡ asked → begun.who ≡ who → (HasAtMost pieces (profile begun.command).extent → StaysBelow (homes session) begun.command pieces (steps_of line run)) → IsBelow line asked
   of_begun line begun same mine below =
       subst (IsBelow line) same
-      (subst (λ n. StaysBelow (homes n) begun.command (bound_of begun.command most) (steps_of line run)) (sym (ap (λ (i : Instance). i.session) mine ∙ whose))
-      (below (subst (λ (a : Asked). HasAtMost most (touched_by a.command)) (sym same) few)))
+      (subst (λ n. StaysBelow (homes n) begun.command pieces (steps_of line run)) (sym (ap (λ (i : Instance). i.session) mine ∙ whose))
+      (below (subst (λ (a : Asked). HasAtMost pieces (profile a.command).extent) (sym same) few)))
 
   held_below : (line : ℕ) (o : Option (Occupant R)) → script_line o ≡ Some line → IsHeldRightly stands (seat_at homes session) who run o
       → ((r : Running R) → running_in o ≡ Some r → IsAsking (stands r.request).plan) → asked_by line run ≡ Some asked → IsBelow line asked
@@ -47,16 +48,16 @@ module _ {R : Type 0} (stands : R → Standing) (homes : ℕ → SiteId) (sessio
       let same : number ≡ line = same_Some number line is in
       subst (λ l. IsBelow l asked) same
       (of_begun number held.begun.asked (same_Some held.begun.asked asked (sym held.begun.is ∙ ap (λ l. asked_by l run) same ∙ by)) held.mine
-      (λ fewer. begins_below (seat_at homes session) held.begun.asked.command held.start held.plan most (steps_of number run) held.none))
+      (λ fewer. begins_below (seat_at homes session) held.begun.asked.command held.start held.plan pieces (steps_of number run) held.none))
   held_below line (Some (occupant.Running r)) is held asks by =
       let same : r.line ≡ line = same_Some r.line line is in
       subst (λ l. IsBelow l asked) same
       (of_begun r.line held.begun.asked (same_Some held.begun.asked asked (sym held.begun.is ∙ ap (λ l. asked_by l run) same ∙ by)) held.mine
-      (λ fewer. walk_stays_below (seat_at homes session) held.begun.asked.command held.start held.plan most fewer held.feds (steps_of r.line run) (stands r.request).plan held.given (asks r refl) held.walk))
+      (λ fewer. walk_stays_below (seat_at homes session) held.begun.asked.command held.start held.plan pieces fewer held.feds (steps_of r.line run) (stands r.request).plan held.given (asks r refl) held.walk))
 
-module _ {R : Type 0} (stands : R → Standing) (w : WorldView R) (sound : IsSoundWorld stands w) (line : ℕ) (asked : Asked) (most : ℕ) (few : HasAtMost most (touched_by asked.command)) (is : asked_by line sound.told.run ≡ Some asked) where
+module _ {R : Type 0} (stands : R → Standing) (w : WorldView R) (sound : IsSoundWorld stands w) (line : ℕ) (asked : Asked) (pieces : ℕ) (few : HasAtMost pieces (profile asked.command).extent) (is : asked_by line sound.told.run ≡ Some asked) where
   abbrev IsBelowHere : Type 0
-  IsBelowHere = StaysBelow (sound.told.homes asked.who.session) asked.command (bound_of asked.command most) (steps_of line sound.told.run)
+  IsBelowHere = StaysBelow (sound.told.homes asked.who.session) asked.command pieces (steps_of line sound.told.run)
 
   pub below_in_slot : (session slot : ℕ) → line_at session slot w.lives ≡ Some line → IsBelowHere
   below_in_slot session slot at = by (client_in session w.lives) refl at
@@ -65,7 +66,7 @@ module _ {R : Type 0} (stands : R → Standing) (w : WorldView R) (sound : IsSou
       by None there none = absurd (none-some line none)
       by (Some c) there at_line =
           let living = sound.clients session c there in
-          held_below stands sound.told.homes session c.session.instance living.whose sound.told.run asked most few line (held_in slot c.session.slots) at_line (living.held slot)
+          held_below stands sound.told.homes session c.session.instance living.whose sound.told.run asked pieces few line (held_in slot c.session.slots) at_line (living.held slot)
           (λ r runs. living.sound.session.asks slot r runs) is
 
   pub below_open : has_ended line sound.told.run ≡ false → IsBelowHere

@@ -19,7 +19,7 @@ use Rattle.rbd_machine.specs.Steps.{change}
 use Rattle.rbd_machine.specs.declared.seat.Seat.{Seat}
 use Rattle.rbd_rely.proofs.Headers.{IsThere, find_there}
 use Rattle.rbd_rely.specs.Truth.{known_header}
-use Rattle.rbd_requests.specs.Served.{IsPlanFor}
+use Rattle.rbd_requests.specs.Plans.{plan_of, planned, IsPlanFor}
 use Rattle.rbd_site.specs.Step.{is_fenced}
 use Rattle.rbd_stands.proofs.Served.{is_served}
 use Rattle.rbd_world.specs.Run.{Asked, Doer, Itself, OnWay, House, AfterStop, Happening, Nothing, Waited, Began, Did, Refused, Trimmed, Expired, Heard, Stopped, Restarted, asked_by, is_own, steps_of}
@@ -60,7 +60,7 @@ asked_still homes line (h ∷ since) run right asked is = by h right.1 (asked_st
 
 -- ---- what is known
 
-own_line : (line : ℕ) (doer : Doer) (s : SiteId) (o : Op) (k : Knowledge) (before : List Happening) → is_own line doer ≡ true → RecallsBy doer s o k before → Recalls line s o k before
+pub own_line : (line : ℕ) (doer : Doer) (s : SiteId) (o : Op) (k : Knowledge) (before : List Happening) → is_own line doer ≡ true → RecallsBy doer s o k before → Recalls line s o k before
 own_line line (Itself other) s o k before mine recalls = subst (λ l. Recalls l s o k before) (eqb-true other line mine) recalls
 own_line line (OnWay other) s o k before mine recalls = cc
 own_line line House s o k before mine recalls = cc
@@ -115,7 +115,7 @@ pub record IsChangeBy (home : SiteId) (c : Command) (name : List ℕ) (image : �
   pub sharing : Sharing
   pub refuses : HeaderView → Option Refusal
   pub act : SiteId → ℕ → HeaderView → Plan
-  pub stands : (seat : Seat) (s : Standing) → IsPlanFor seat c s → s ≡ without_labels (change seat.home name sharing refuses (act seat.home))
+  pub plan : (seat : Seat) → plan_of seat c ≡ planned (change seat.home name sharing refuses (act seat.home))
   pub may_wait : refuses first ≡ None
   pub may : refuses own ≡ None
   pub keeps : KeepsOwn home image (act home image own)
@@ -134,7 +134,7 @@ module _ (homes : ℕ → SiteId) (home : SiteId) (line : ℕ) (run : List Happe
       → known_header k home image ≡ sized image steps (Some own)
   knows_at s o k before goes steps r are =
       let plan : IsPlanFor r.seat asked.command r.start = subst (λ c. IsPlanFor r.seat c r.start) (same_command before goes r.begun.asked r.begun.is) r.plan in
-      let at_plan = changes.stands r.seat r.start plan in
+      let at_plan = same_Some r.start (without_labels (change r.seat.home name changes.sharing changes.refuses (changes.act r.seat.home))) (sym plan ∙ changes.plan r.seat) in
       let walk : IsWalk Goto (change r.seat.home name changes.sharing changes.refuses (changes.act r.seat.home)) r.feds (way steps) (Ask s r.why o r.next) =
       subst (λ (xs : List Answered). IsWalk Goto (change r.seat.home name changes.sharing changes.refuses (changes.act r.seat.home)) r.feds xs (Ask s r.why o r.next)) are
       (subst (λ (st : Standing). IsWalk st.labels st.plan r.feds (steps_of line before) (Ask s r.why o r.next)) at_plan r.walk) in

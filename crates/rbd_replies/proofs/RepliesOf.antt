@@ -9,6 +9,7 @@ use Rattle.rbd_kinds.specs.declared.id.SiteId.{SiteId}
 use Rattle.rbd_kinds.specs.declared.reply.Reply.{Reply}
 use Rattle.rbd_kinds.specs.declared.reply.Reply.TheVariants as reply
 use Rattle.rbd_machine.specs.Path.{Answered}
+use Rattle.rbd_machine.specs.Plan.{Return}
 use Rattle.rbd_machine.specs.declared.seat.Seat.{Seat}
 use Rattle.rbd_meaning.proofs.Undone.{meant_changes_nothing}
 use Rattle.rbd_meaning.specs.Meant.{IsMeantBy}
@@ -18,46 +19,46 @@ use Rattle.rbd_world.specs.Sound.{IsRefusedOnWay, IsReplyMeant, IsRight, look_an
 use Rattle.rbd_replies.proofs.ChangesDone.{create_creates, rename_renames, snap_create_takes, snap_remove_removes}
 use Rattle.rbd_replies.proofs.HomeSteps.{meant_at_places}
 use Rattle.rbd_replies.proofs.ListingsTold.{info_shows, lists_names, snaps_show, used_shows}
+use Rattle.rbd_replies.proofs.NoEffects.{no_effects}
 use Rattle.rbd_replies.proofs.OnWay.{EndsOnWay, ends_so, nothing_before, places_on_way, refused_there}
 use Rattle.rbd_replies.proofs.PlacedRight.{ArePlacedRight, places_right}
 use Rattle.rbd_replies.proofs.Places.{step_at, steps_at_places}
 use Rattle.rbd_replies.proofs.ReadOrder.{AreOrdered, all_in, places_ordered}
 use Rattle.rbd_replies.proofs.ReadPass.{shows_at_places}
 use Rattle.rbd_replies.proofs.RefusalsNothing.{nothing_at_places}
-use Rattle.rbd_replies.proofs.Silent.{close_does_nothing, quiesce_does_nothing, resume_does_nothing, tell_does_nothing}
 use Rattle.rbd_replies.proofs.ChangesLike.{IsOfLine, discard_at, resize_at, rollback_at}
 use Rattle.rbd_replies.proofs.InLine.{places_in_line}
 use Rattle.rbd_replies.proofs.Removing.{remove_removes}
 use Rattle.rbd_replies.proofs.WriteWhole.{writes_at_places}
-use Rattle.rbd_replies.specs.Places.{Placed, places_of}
-use Rattle.rbd_replies.specs.Replies.{IsReplyOf}
+use Rattle.rbd_replies.specs.Places.{Placed, effects_of, places_of}
+use Rattle.rbd_replies.specs.Replies.{IsReplyOf, changes_no_image}
 
 reply_of : (homes : ℕ → SiteId) (seat : Seat) (places : List Placed) → ArePlacedRight homes places → AreOrdered places
-    → (c : Command) (r : Reply) → IsMeantBy seat c (map step_at places) r → IsOfLine homes seat.home c places → IsReplyOf c r places
-reply_of homes seat places right ordered c (reply.Refused x) meant of = λ early.
+    → (c : Command) (r : Reply) → IsMeantBy seat c (map step_at places) r → IsOfLine homes seat.home c places → (changes_no_image c ≡ true → effects_of places ≡ []) → IsReplyOf c r places
+reply_of homes seat places right ordered c (reply.Refused x) meant of silent = λ early.
     nothing_at_places homes places right (meant_changes_nothing seat c (map step_at places) x meant early)
-reply_of homes seat places right ordered (command.Create name size shape) reply.Done meant of = create_creates homes places right seat.home name size shape meant.1
-reply_of homes seat places right ordered (command.Write name at bytes) reply.Done meant of = writes_at_places homes seat.home name at bytes places right meant
-reply_of homes seat places right ordered (command.Fill name at len byte) reply.Done meant of = writes_at_places homes seat.home name at (replicate len byte) places right meant
-reply_of homes seat places right ordered (command.Discard name at len) reply.Done meant of = discard_at homes seat.home name at len places right of meant
-reply_of homes seat places right ordered (command.Resize name size) reply.Done meant of = resize_at homes seat.home name size places right of meant
-reply_of homes seat places right ordered (command.SnapRollback name snap) reply.Done meant of = rollback_at homes seat.home name snap places right of meant
-reply_of homes seat places right ordered (command.Rename from to) reply.Done meant of = rename_renames homes places right seat.home from to meant
-reply_of homes seat places right ordered (command.Remove name) reply.Done meant of = remove_removes homes seat.home name seat.session places right ordered meant
-reply_of homes seat places right ordered (command.Used name) (reply.Used used count) meant of = used_shows homes places right seat.home name used count meant
-reply_of homes seat places right ordered (command.SnapCreate name snap) reply.Done meant of = snap_create_takes homes places right seat.home name snap meant
-reply_of homes seat places right ordered (command.SnapRemove name snap) reply.Done meant of = snap_remove_removes homes places right seat.home name snap meant
-reply_of homes seat places right ordered (command.Read name snap at len) (reply.Bytes bytes) meant of =
+reply_of homes seat places right ordered (command.Create name size shape) reply.Done meant of silent = create_creates homes places right seat.home name size shape meant.1
+reply_of homes seat places right ordered (command.Write name at bytes) reply.Done meant of silent = writes_at_places homes seat.home name at bytes places right meant
+reply_of homes seat places right ordered (command.Fill name at len byte) reply.Done meant of silent = writes_at_places homes seat.home name at (replicate len byte) places right meant
+reply_of homes seat places right ordered (command.Discard name at len) reply.Done meant of silent = discard_at homes seat.home name at len places right of meant
+reply_of homes seat places right ordered (command.Resize name size) reply.Done meant of silent = resize_at homes seat.home name size places right of meant
+reply_of homes seat places right ordered (command.SnapRollback name snap) reply.Done meant of silent = rollback_at homes seat.home name snap places right of meant
+reply_of homes seat places right ordered (command.Rename from to) reply.Done meant of silent = rename_renames homes places right seat.home from to meant
+reply_of homes seat places right ordered (command.Remove name) reply.Done meant of silent = remove_removes homes seat.home name seat.session places right ordered meant
+reply_of homes seat places right ordered (command.Used name) (reply.Used used count) meant of silent = used_shows homes places right seat.home name used count meant
+reply_of homes seat places right ordered (command.SnapCreate name snap) reply.Done meant of silent = snap_create_takes homes places right seat.home name snap meant
+reply_of homes seat places right ordered (command.SnapRemove name snap) reply.Done meant of silent = snap_remove_removes homes places right seat.home name snap meant
+reply_of homes seat places right ordered (command.Read name snap at len) (reply.Bytes bytes) meant of silent =
     shows_at_places homes seat.home name snap (record { at = at; len = len }) bytes places right ordered meant
-reply_of homes seat places right ordered command.List (reply.Names names) meant of = lists_names homes places right seat.home names meant
-reply_of homes seat places right ordered (command.Info name) (reply.Info h) meant of = info_shows homes places right seat.home name h meant
-reply_of homes seat places right ordered (command.SnapList name) (reply.Snaps snaps) meant of = snaps_show homes places right seat.home name snaps meant
-reply_of homes seat places right ordered (command.Close name) reply.Done meant of = close_does_nothing homes places right seat.home name meant
-reply_of homes seat places right ordered (command.Quiesce name) reply.Done meant of = quiesce_does_nothing homes places right seat.home name meant
-reply_of homes seat places right ordered (command.Resume name) reply.Done meant of = resume_does_nothing homes places right seat.home name meant
-reply_of homes seat places right ordered (command.Tell name bytes) reply.Done meant of = tell_does_nothing homes places right seat.home name bytes meant
-reply_of homes seat places right ordered (command.Create name size shape) _ (plain, meant) of = absurd meant
-reply_of homes seat places right ordered _ _ meant of = absurd meant
+reply_of homes seat places right ordered command.List (reply.Names names) meant of silent = lists_names homes places right seat.home names meant
+reply_of homes seat places right ordered (command.Info name) (reply.Info h) meant of silent = info_shows homes places right seat.home name h meant
+reply_of homes seat places right ordered (command.SnapList name) (reply.Snaps snaps) meant of silent = snaps_show homes places right seat.home name snaps meant
+reply_of homes seat places right ordered (command.Close name) reply.Done meant of silent = silent refl
+reply_of homes seat places right ordered (command.Quiesce name) reply.Done meant of silent = silent refl
+reply_of homes seat places right ordered (command.Resume name) reply.Done meant of silent = silent refl
+reply_of homes seat places right ordered (command.Tell name bytes) reply.Done meant of silent = silent refl
+reply_of homes seat places right ordered (command.Create name size shape) _ (plain, meant) of silent = absurd meant
+reply_of homes seat places right ordered _ _ meant of silent = absurd meant
 
 -- a reply that is meant behind a run that is right is the asked command's
 pub reply_at_places : (homes : ℕ → SiteId) (line : ℕ) (r : Reply) (before run : List Happening) (asked : Asked) → IsRight homes run → asked_by line run ≡ asked_by line before
@@ -78,7 +79,8 @@ reply_at_places homes line r before run asked right still is asks =
       in_line = places_in_line line run;
       within = all_in line run;
       at_home = meant_at_places seat is.begun.asked.command places r meant;
-    }))
+    })
+    (λ none. no_effects homes line run is.begun.asked right (record { last = Return r; led = is.ended }) none))
 
 -- ---- a line that is refused on its way to the lock
 

@@ -1,5 +1,5 @@
--- How many operations a line's command has itself: no more than its bound. Those on its way to the
--- lock of its image are apart: it may ask for the lock as often as another one has it.
+-- How many operations a line's command has itself: no more than its row allows. Those on its way to
+-- the lock of its image are apart: it may ask for the lock as often as another one has it.
 use Rattle.std.specs.Prelude.{◌≡◌, ◌<◌, ◌≤◌, true, ℕ, ◌+◌, List, [], ◌∷◌, ◌++◌, length, Option}
 use Rattle.rbd_commands.specs.declared.command.Command.{Command}
 use Rattle.rbd_commands.specs.declared.command.Command.TheVariants as command
@@ -8,7 +8,7 @@ use Rattle.rbd_kinds.specs.declared.layout.Extent.{Extent}
 use Rattle.rbd_machine.specs.Passes.{joined}
 use Rattle.rbd_machine.specs.Path.{Answered}
 use Rattle.rbd_meaning.specs.Reads.{SeeOthers}
-use Rattle.rbd_requests.specs.Touched.{told_by}
+use Rattle.rbd_requests.specs.Profile.{between, more_by, most_operations, profile}
 use Rattle.rbd_world.specs.Run.{Happening, Did, Refused, is_for}
 
 -- each has so many operations at most
@@ -27,14 +27,18 @@ pub record KeepsPasses (site : SiteId) (name : List ℕ) (snap : Option (List �
   pub each : HaveAtMost most passes
   pub last : length pass ≤ most
 
--- A read has so many operations at most in each of its passes, any other command in all. A resize, a
--- rollback and an `rm` have beside these as many as they were told of objects.
-abbrev pub KeepsBound : (home : SiteId) → Command → (most : ℕ) → List Answered → Type 0
-KeepsBound home (command.Read image snap at len) most steps = KeepsPasses home image snap (record { at = at; len = len }) most steps
-KeepsBound home (command.Resize image size) most steps = length steps ≤ most + told_by (command.Resize image size) steps
-KeepsBound home (command.SnapRollback image snap) most steps = length steps ≤ most + told_by (command.SnapRollback image snap) steps
-KeepsBound home (command.Remove image) most steps = length steps ≤ most + told_by (command.Remove image) steps
-KeepsBound home c most steps = length steps ≤ most
+-- How many operations the row of a command allows it: by the number of pieces that its extent has
+-- at most, and by what it was told.
+abbrev pub allowed : Command → (pieces : ℕ) → List Answered → ℕ
+allowed c pieces steps = most_operations (profile c) pieces + more_by (profile c).told steps
+
+-- A read has so many at most in each of its passes, any other command in all.
+abbrev pub DoesAtMost : (home : SiteId) → Command → (most : ℕ) → List Answered → Type 0
+DoesAtMost home (command.Read image snap at len) most steps = KeepsPasses home image snap (between at len) most steps
+DoesAtMost home c most steps = length steps ≤ most
+
+abbrev pub KeepsBound : (home : SiteId) → Command → (pieces : ℕ) → List Answered → Type 0
+KeepsBound home c pieces steps = DoesAtMost home c (allowed c pieces steps) steps
 
 -- ---- of a line that hasn't ended
 
@@ -47,14 +51,14 @@ pub record IsInPass (site : SiteId) (name : List ℕ) (snap : Option (List ℕ))
   pub each : HaveAtMost most passes
   pub fewer : length pass < most
 
--- It has had fewer operations than its bound, a read in the pass that it is in. So at least one more
--- is due, and who has had as many as its bound has ended.
-abbrev pub StaysBelow : (home : SiteId) → Command → (most : ℕ) → List Answered → Type 0
-StaysBelow home (command.Read image snap at len) most steps = IsInPass home image snap (record { at = at; len = len }) most steps
-StaysBelow home (command.Resize image size) most steps = length steps < most + told_by (command.Resize image size) steps
-StaysBelow home (command.SnapRollback image snap) most steps = length steps < most + told_by (command.SnapRollback image snap) steps
-StaysBelow home (command.Remove image) most steps = length steps < most + told_by (command.Remove image) steps
-StaysBelow home c most steps = length steps < most
+-- A read has had fewer in the pass that it is in, any other command in all.
+abbrev pub DoesFewer : (home : SiteId) → Command → (most : ℕ) → List Answered → Type 0
+DoesFewer home (command.Read image snap at len) most steps = IsInPass home image snap (between at len) most steps
+DoesFewer home c most steps = length steps < most
+
+-- So at least one more is due, and who has had as many as its row allows has ended.
+abbrev pub StaysBelow : (home : SiteId) → Command → (pieces : ℕ) → List Answered → Type 0
+StaysBelow home c pieces steps = DoesFewer home c (allowed c pieces steps) steps
 
 -- An operation of the line was done, by its command itself or on its way to the lock of its image;
 -- or it was refused before any.

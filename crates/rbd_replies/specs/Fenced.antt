@@ -1,4 +1,4 @@
--- What an operation of a fenced client does, which is nothing; and whose changes are.
+-- What an operation of a fenced client does, and a look, which is nothing; and whose changes are.
 use Rattle.std.specs.Prelude.{◌≡◌, ◌⊎◌, ℕ, ◌==◌, Bool, true, false, List, [], ◌∷◌, ◌++◌, Option, Some, None}
 use Rattle.rbd_kinds.specs.declared.answer.Answer.TheVariants as answer
 use Rattle.rbd_kinds.specs.declared.data_op.DataOp.TheVariants as object
@@ -19,14 +19,18 @@ use Rattle.rbd_world.specs.Past.{HadNoHeader}
 use Rattle.rbd_world.specs.Run.{Doer, Itself, AfterStop, Happening, Did, Stopped, Operation, flat_after, is_among, mail_of, records_after, steps_of}
 use Rattle.rbd_world.specs.Sound.{StandsAt}
 
--- It is answered so, has no effect, and leaves the flat sites, the records of both sites and the
--- notices as they were.
-pub record ChangesNothing (o : Operation) (reply : Option Reply) (before : List Happening) : Type 0 where
-  pub answered : o.answer ≡ answer.Fenced
+-- It has no effect, and leaves the flat sites, the records of both sites and the notices as they
+-- were.
+pub record LeavesAll (o : Operation) (reply : Option Reply) (before : List Happening) : Type 0 where
   pub silent : o.effect ≡ None
   pub flat : (s : SiteId) → flat_after s (Did o reply ∷ before) ≡ flat_after s before
   pub records : (s : SiteId) → records_after s (Did o reply ∷ before) ≡ records_after s before
   pub mail : mail_of (Did o reply ∷ before) ≡ mail_of before
+
+-- It is answered so, and leaves all as it was.
+pub record ChangesNothing (o : Operation) (reply : Option Reply) (before : List Happening) : Type 0 where
+  pub answered : o.answer ≡ answer.Fenced
+  pub leaves : LeavesAll o reply before
 
 -- It is nothing where its instance is fenced at its site.
 abbrev pub IsStoppedByTheFence : Operation → Option Reply → List Happening → Type 0

@@ -1,10 +1,11 @@
 -- What a reply says of the flat-copy machine, at its place in the one history.
-use Rattle.std.specs.Prelude.{◌≡◌, Bool, true, false, List, [], replicate}
+use Rattle.std.specs.Prelude.{◌≡◌, Bool, List, [], replicate}
 use Rattle.rbd_commands.specs.declared.command.Command.{Command}
 use Rattle.rbd_commands.specs.declared.command.Command.TheVariants as command
 use Rattle.rbd_kinds.specs.declared.reply.Reply.{Reply}
 use Rattle.rbd_kinds.specs.declared.reply.Reply.TheVariants as reply
 use Rattle.rbd_meaning.specs.Undone.{ComesLate}
+use Rattle.rbd_requests.specs.Profile.{changes_anything, changes_what_is_seen, has_none_of, profile}
 use Rattle.rbd_replies.specs.Changed.{Creates, RemovesSnap, Renames, TakesSnap, Writes}
 use Rattle.rbd_replies.specs.Listed.{ListsNames, ShowsImage, ShowsSnaps, ShowsUsed}
 use Rattle.rbd_replies.specs.Places.{Placed, effects_of}
@@ -40,20 +41,11 @@ IsReplyOf (command.Resume image) reply.Done places = effects_of places ≡ []
 IsReplyOf (command.Tell image bytes) reply.Done places = effects_of places ≡ []
 IsReplyOf c r places = ⊥
 
--- what only shows
+-- what only shows: none of its operations changes anything
 abbrev pub only_shows : Command → Bool
-only_shows (command.Read image snap at len) = true
-only_shows command.List = true
-only_shows (command.Info image) = true
-only_shows (command.SnapList image) = true
-only_shows (command.Used image) = true
-only_shows _ = false
+only_shows c = has_none_of changes_anything (profile c)
 
--- what changes no image: it only shows, lets a lock go, holds the image's requests back, or tells
--- something to its watchers
+-- What changes no image: none of its operations changes what users see. It only shows, lets a lock
+-- go, holds the image's requests back, or tells something to its watchers.
 abbrev pub changes_no_image : Command → Bool
-changes_no_image (command.Close image) = true
-changes_no_image (command.Quiesce image) = true
-changes_no_image (command.Resume image) = true
-changes_no_image (command.Tell image bytes) = true
-changes_no_image c = only_shows c
+changes_no_image c = has_none_of changes_what_is_seen (profile c)

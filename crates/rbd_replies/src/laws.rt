@@ -11,13 +11,14 @@ ghost use Rattle.rbd_kinds.specs.declared.operation.Op.{Op};
 ghost use Rattle.rbd_kinds.specs.declared.operation.Op.TheVariants as op;
 ghost use Rattle.rbd_kinds.specs.declared.reply.Reply.{Reply};
 ghost use Rattle.rbd_machine.specs.Plan.{Standing};
-ghost use Rattle.rbd_requests.specs.Touched.{HasAtMost, bound_of, touched_by};
+ghost use Rattle.rbd_requests.specs.Profile.{profile};
+ghost use Rattle.rbd_requests.specs.Touched.{HasAtMost};
 ghost use Rattle.rbd_site.specs.declared.done.Done.{Done};
 ghost use Rattle.rbd_site.specs.Log.{after_all};
 ghost use Rattle.rbd_site.specs.Records.{no_records};
 ghost use Rattle.rbd_site.specs.Step.{is_fenced};
 ghost use Rattle.rbd_stands.specs.Owned.{HasLock, IsLetGo, SomeLine, changes_image, was_done};
-ghost use Rattle.rbd_world.specs.Run.{AfterStop, Asked, Happening, Operation, Did, Refused, Stopped, Waited, asked_by, fence_of, is_among, is_on_way, log_of, records_after, replies_to, step_of, steps_of};
+ghost use Rattle.rbd_world.specs.Run.{AfterStop, Asked, Happening, Operation, Did, Refused, Stopped, Waited, asked_by, fence_of, is_among, is_on_way, is_own, log_of, records_after, replies_to, step_of, steps_of};
 ghost use Rattle.rbd_world.specs.Sound.{HasRun, IsRight, IsSoundWorld, has_ended, line_at};
 ghost use Rattle.rbd_world.specs.Step.{happening};
 ghost use Rattle.rbd_world.specs.Watched.{ends_watch};
@@ -25,7 +26,7 @@ ghost use Rattle.rbd_world.specs.World.{WorldView, site_in};
 ghost use Rattle.rbd_world.specs.declared.event.Call.{Call};
 ghost use Rattle.rbd_world.specs.declared.event.Event.TheVariants as event;
 ghost use Rattle.rbd_replies.specs.Bounds.{IsStepFor, KeepsBound, StaysBelow};
-ghost use Rattle.rbd_replies.specs.Fenced.{AtEachOperation, ChangesNothing, IsStoppedByTheFence, IsTheOwners, OwnsOrNone};
+ghost use Rattle.rbd_replies.specs.Fenced.{AtEachOperation, ChangesNothing, IsStoppedByTheFence, IsTheOwners, LeavesAll, OwnsOrNone};
 ghost use Rattle.rbd_replies.specs.Home.{AreDoneAt};
 ghost use Rattle.rbd_replies.specs.Logs.{IsOwnedLog};
 ghost use Rattle.rbd_replies.specs.Places.{Placed, effects_of, places_of};
@@ -56,9 +57,14 @@ pub fn replies_are_the_flat_machines()
         → IsReplyOf asked.command reply (places_of line (Refused s line reply ∷ run)) }
 {}
 
-/// A command that only shows, as `read`, `ls`, `info`, `snap ls` and `du` do, changes nothing of
-/// the flat site, whatever its reply is.
+/// A command that only shows, as `read`, `ls`, `info`, `snap ls`, `du` and `resume` do, changes
+/// nothing: each operation of its line has no effect, and leaves the records of both sites, the
+/// flat sites and the notices as they were. So whatever its reply is, it did nothing to the flat
+/// site.
 pub fn what_only_shows_changes_nothing()
+    ensures each { (homes : ℕ → Site) (run : List Happening) (o : Operation) (reply : Option Reply) (line : ℕ) (asked : Asked)
+        → IsRight homes (Did o reply ∷ run) → is_own line o.by ≡ true → asked_by line run ≡ Some asked → only_shows asked.command ≡ true
+        → LeavesAll o reply run }
     ensures done { (homes : ℕ → Site) (run : List Happening) (o : Operation) (line : ℕ) (reply : Reply) (asked : Asked)
         → IsRight homes (Did o (Some reply) ∷ run) → replies_to line (Did o (Some reply)) ≡ true → asked_by line run ≡ Some asked → only_shows asked.command ≡ true
         → effects_of (places_of line (Did o (Some reply) ∷ run)) ≡ [] }
@@ -98,50 +104,50 @@ pub fn replies_are_of_their_home()
         → AreDoneAt (homes asked.who.session) (places_of line (Refused s line reply ∷ run)) }
 {}
 
-/// The command of a line that was begun has no more operations itself than its bound (`bound_of` of
-/// `rbd_requests`), by the number of pieces that its extent has at most: in all when it has its
-/// reply, or is lost by a stop, and so far at any time before. A read has so many at most in each
-/// of its passes, and began again only where its closing look was told a header of another
-/// generation, or none. A resize, a rollback and an `rm` have beside their bound as many as they
-/// were told of objects (`told_by` of `rbd_requests`). Who waits has none: each operation is a
-/// poll's whose outcome is `Step`. Operations on the way to a lock aren't counted: it asks as often
-/// as another one has the lock.
+/// The command of a line that was begun has no more operations itself than its row allows
+/// (`allowed`), by the number of pieces that its extent has at most: in all when it has its reply,
+/// or is lost by a stop, and so far at any time before. A read has so many at most in each of its
+/// passes, and began again only where its closing look was told a header of another generation, or
+/// none. A resize, a rollback and an `rm` have beside these as many as they were told of objects
+/// (`more_by` of `rbd_requests`). Who waits has none: each operation is a poll's whose outcome is
+/// `Step`. Operations on the way to a lock aren't counted: it asks as often as another one has the
+/// lock.
 pub fn lines_keep_their_bounds()
-    ensures ended { (homes : ℕ → Site) (run : List Happening) (line : ℕ) (asked : Asked) (most : ℕ)
-        → IsRight homes run → asked_by line run ≡ Some asked → has_ended line run ≡ true → HasAtMost most (touched_by asked.command)
-        → KeepsBound (homes asked.who.session) asked.command (bound_of asked.command most) (steps_of line run) }
-    ensures lost { (homes : ℕ → Site) (run : List Happening) (who : Who) (wanted : List (Option (Site × Op))) (lost : List ℕ) (line : ℕ) (asked : Asked) (most : ℕ)
-        → IsRight homes (Stopped who wanted lost ∷ run) → is_among line lost ≡ true → asked_by line run ≡ Some asked → HasAtMost most (touched_by asked.command)
-        → KeepsBound (homes asked.who.session) asked.command (bound_of asked.command most) (steps_of line (Stopped who wanted lost ∷ run)) }
-    ensures under_way { (w : WorldView Standing) (sound : IsSoundWorld as_is w) (session slot line : ℕ) (asked : Asked) (most : ℕ)
-        → line_at session slot w.lives ≡ Some line → asked_by line sound.told.run ≡ Some asked → HasAtMost most (touched_by asked.command)
-        → KeepsBound (sound.told.homes asked.who.session) asked.command (bound_of asked.command most) (steps_of line sound.told.run) }
-    ensures begun { (w : WorldView Standing) (sound : IsSoundWorld as_is w) (line : ℕ) (asked : Asked) (most : ℕ)
-        → asked_by line sound.told.run ≡ Some asked → HasAtMost most (touched_by asked.command)
-        → KeepsBound (sound.told.homes asked.who.session) asked.command (bound_of asked.command most) (steps_of line sound.told.run) }
+    ensures ended { (homes : ℕ → Site) (run : List Happening) (line : ℕ) (asked : Asked) (pieces : ℕ)
+        → IsRight homes run → asked_by line run ≡ Some asked → has_ended line run ≡ true → HasAtMost pieces (profile asked.command).extent
+        → KeepsBound (homes asked.who.session) asked.command pieces (steps_of line run) }
+    ensures lost { (homes : ℕ → Site) (run : List Happening) (who : Who) (wanted : List (Option (Site × Op))) (lost : List ℕ) (line : ℕ) (asked : Asked) (pieces : ℕ)
+        → IsRight homes (Stopped who wanted lost ∷ run) → is_among line lost ≡ true → asked_by line run ≡ Some asked → HasAtMost pieces (profile asked.command).extent
+        → KeepsBound (homes asked.who.session) asked.command pieces (steps_of line (Stopped who wanted lost ∷ run)) }
+    ensures under_way { (w : WorldView Standing) (sound : IsSoundWorld as_is w) (session slot line : ℕ) (asked : Asked) (pieces : ℕ)
+        → line_at session slot w.lives ≡ Some line → asked_by line sound.told.run ≡ Some asked → HasAtMost pieces (profile asked.command).extent
+        → KeepsBound (sound.told.homes asked.who.session) asked.command pieces (steps_of line sound.told.run) }
+    ensures begun { (w : WorldView Standing) (sound : IsSoundWorld as_is w) (line : ℕ) (asked : Asked) (pieces : ℕ)
+        → asked_by line sound.told.run ≡ Some asked → HasAtMost pieces (profile asked.command).extent
+        → KeepsBound (sound.told.homes asked.who.session) asked.command pieces (steps_of line sound.told.run) }
 {}
 
 /// The command of a line that was begun, has no reply yet and isn't lost has had fewer operations
-/// itself than its bound, a read in the pass that it is in: at least one more is due. So a line
-/// that has had as many as its bound has its reply, or is lost.
+/// itself than its row allows, a read in the pass that it is in: at least one more is due. So a
+/// line that has had as many as its row allows has its reply, or is lost.
 pub fn open_lines_stay_below_their_bounds()
-    ensures under_way { (w : WorldView Standing) (sound : IsSoundWorld as_is w) (session slot line : ℕ) (asked : Asked) (most : ℕ)
-        → line_at session slot w.lives ≡ Some line → asked_by line sound.told.run ≡ Some asked → HasAtMost most (touched_by asked.command)
-        → StaysBelow (sound.told.homes asked.who.session) asked.command (bound_of asked.command most) (steps_of line sound.told.run) }
-    ensures open { (w : WorldView Standing) (sound : IsSoundWorld as_is w) (line : ℕ) (asked : Asked) (most : ℕ)
-        → asked_by line sound.told.run ≡ Some asked → has_ended line sound.told.run ≡ false → HasAtMost most (touched_by asked.command)
-        → StaysBelow (sound.told.homes asked.who.session) asked.command (bound_of asked.command most) (steps_of line sound.told.run) }
-    ensures at_bound { (w : WorldView Standing) (sound : IsSoundWorld as_is w) (line : ℕ) (asked : Asked) (most : ℕ)
-        → asked_by line sound.told.run ≡ Some asked → HasAtMost most (touched_by asked.command)
-        → (StaysBelow (sound.told.homes asked.who.session) asked.command (bound_of asked.command most) (steps_of line sound.told.run) → ⊥)
+    ensures under_way { (w : WorldView Standing) (sound : IsSoundWorld as_is w) (session slot line : ℕ) (asked : Asked) (pieces : ℕ)
+        → line_at session slot w.lives ≡ Some line → asked_by line sound.told.run ≡ Some asked → HasAtMost pieces (profile asked.command).extent
+        → StaysBelow (sound.told.homes asked.who.session) asked.command pieces (steps_of line sound.told.run) }
+    ensures open { (w : WorldView Standing) (sound : IsSoundWorld as_is w) (line : ℕ) (asked : Asked) (pieces : ℕ)
+        → asked_by line sound.told.run ≡ Some asked → has_ended line sound.told.run ≡ false → HasAtMost pieces (profile asked.command).extent
+        → StaysBelow (sound.told.homes asked.who.session) asked.command pieces (steps_of line sound.told.run) }
+    ensures at_bound { (w : WorldView Standing) (sound : IsSoundWorld as_is w) (line : ℕ) (asked : Asked) (pieces : ℕ)
+        → asked_by line sound.told.run ≡ Some asked → HasAtMost pieces (profile asked.command).extent
+        → (StaysBelow (sound.told.homes asked.who.session) asked.command pieces (steps_of line sound.told.run) → ⊥)
         → has_ended line sound.told.run ≡ true }
 {}
 
 /// A poll of the slot that a line is in either waits, or does a step of the line: an operation of
 /// its command itself, or on its way to the lock of its image; or it is refused before any. So with
 /// `open_lines_stay_below_their_bounds` a line has its reply after as many polls of its slot as its
-/// bound allows, other than those that wait and those on its way. What bounds the latter, but for
-/// those that ask again, is said by `ways_lead_to_locks` of `rbd_world`.
+/// row allows operations, other than those that wait and those on its way. What bounds the latter,
+/// but for those that ask again, is said by `ways_lead_to_locks` of `rbd_world`.
 pub fn polls_are_steps_of_lines()
     ensures { (w : WorldView Standing) (session slot line : ℕ) → IsSoundWorld as_is w → line_at session slot w.lives ≡ Some line
         → (happening as_is (event.Poll session slot) w ≡ Waited) ⊎ IsStepFor line (happening as_is (event.Poll session slot) w) }

@@ -39,6 +39,7 @@
 //! | any refused | no effect at all, unless the fence refuses a change when a part of it was done; what refuses it is said of its last answer by `rbd_meaning` |
 //! | any refused on its way to the lock | no effect at all; what refuses it is said as of a look under the lock that was answered as the way's last operation was |
 //! | any to a command that changes no image | no effect at all, also where its line is lost or under way |
+//! | any to a command that only shows | none of its operations has an effect, changes a record or is told to anybody |
 //!
 //! Which instance may change what doesn't depend on replies:
 //!
@@ -74,7 +75,7 @@
 //! | `specs/Worlds.antt` | so it is with each reply in a world's history, at its own entry; and that worlds go on by events |
 //! | `specs/Shown.antt` | that the headers which replies of a history show are in form |
 //! | `specs/Bounds.antt` | how many operations a line's command has at most, so far and in all |
-//! | `specs/Fenced.antt` | that an operation changed nothing, since its instance is fenced; and whose changes are |
+//! | `specs/Fenced.antt` | that an operation changed nothing, as a look, or since its instance is fenced; and whose changes are |
 //! | `specs/Logs.antt` | that the log of a site is an owned one, as `rbd_stands` has it |
 //! | `specs/Sent.antt` | that what comes behind a stop was sent, and comes once |
 //! | `specs/Watched.antt` | who watches, and what a notification leaves as it was |
@@ -90,7 +91,8 @@
 //! same at all places of the pass, since a header that is there stays until it is removed, and none
 //! comes in its place then; its generation never falls, and what leaves the generation leaves the
 //! header, but for its owner. Where no reply came, a walk of the command's plan led to where the
-//! line is or was lost (`IsLedTo` of `rbd_world`), and what the plan may ask for is known.
+//! line is or was lost (`IsLedTo` of `rbd_world`), and what it may ask for on its way is said by
+//! the row of its command (`profile` of `rbd_requests`).
 //!
 //! Which bytes a discard, a resize and a rollback changed depends on the header at each operation.
 //! That is the one that the command's look under the lock told, with its own changes since: the run

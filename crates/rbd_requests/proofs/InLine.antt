@@ -24,9 +24,9 @@ use Rattle.rbd_kinds.specs.declared.layout.Extent.{Extent}
 use Rattle.rbd_request.specs.Write.{put, write, write_pieces, write_refuses}
 use Rattle.rbd_zero.specs.Zero.{emptying, is_inside, is_whole, removing, setting, zero_all, zero_by, zeroing}
 use Rattle.rbd_requests.specs.InLine.{ChangesInLine, KeepsTo}
-use Rattle.rbd_requests.specs.Served.{IsPlanFor}
-use Rattle.rbd_requests.specs.Touched.{extent_of}
-use Rattle.rbd_requests.proofs.OnePlan.{only_discards, only_writes}
+use Rattle.rbd_requests.specs.EachRequest.{stands_at}
+use Rattle.rbd_requests.specs.Plans.{IsPlanFor}
+use Rattle.rbd_requests.specs.Profile.{between, extent_beside, profile}
 
 module _ (site : SiteId) (image : ℕ) where
   header_keeps : (turn : Option ℕ) (next : HeaderView → Plan) → ((h : HeaderView) → KeepsTo site image turn (next h)) → (a : Answer) → KeepsTo site image turn (on_header next a)
@@ -115,8 +115,8 @@ discard_changes home name e s is = record {
   keeps = λ image h turn. zero_keeps home image turn e h;
 }
 
-pub changes_in_line : (seat : Seat) (c : Command) (s : Standing) → IsPlanFor seat c s → IsSome (extent_of c) → ChangesInLine seat.home s
-changes_in_line seat (command.Write name at bytes) s is writes = write_changes seat.home name at bytes s (only_writes seat (command.Write name at bytes) s refl is)
-changes_in_line seat (command.Fill name at len byte) s is writes = write_changes seat.home name at (replicate len byte) s (only_writes seat (command.Fill name at len byte) s refl is)
-changes_in_line seat (command.Discard name at len) s is writes = discard_changes seat.home name (record { at = at; len = len }) s (only_discards seat (command.Discard name at len) s refl is)
-changes_in_line seat _ s is writes = absurd (true≢false (sym writes))
+pub changes_in_line : (seat : Seat) (c : Command) (s : Standing) → IsPlanFor seat c s → IsSome (extent_beside (profile c)) → ChangesInLine seat.home s
+changes_in_line seat (command.Write name at bytes) s is changes = write_changes seat.home name at bytes s (stands_at _ s is)
+changes_in_line seat (command.Fill name at len byte) s is changes = write_changes seat.home name at (replicate len byte) s (stands_at _ s is)
+changes_in_line seat (command.Discard name at len) s is changes = discard_changes seat.home name (between at len) s (stands_at _ s is)
+changes_in_line seat _ s is changes = absurd (true≢false (sym changes))

@@ -1,5 +1,4 @@
 pub mod Closed
-pub mod Counts
 pub mod Bounded
 pub mod Turns
 pub mod Begun
@@ -8,7 +7,14 @@ pub mod Told
 pub mod Looks
 pub mod LooksWell
 pub mod LooksOf
-pub mod OnePlan
+pub mod Plans
 pub mod LooksNone
 pub mod PlanSteps
 pub mod InLine
+pub mod Walks
+pub mod ReadsRemoves
+pub mod Changes
+pub mod FollowsAll
+pub mod Consequences
+pub mod Asking
+pub mod Wrong

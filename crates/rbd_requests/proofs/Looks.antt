@@ -1,7 +1,6 @@
 -- Where a request that isn't a read looks at a header, what isn't there and the fence end it.
-use Rattle.std.proofs.Common.{◌≡◌, ℕ, List, [], ◌∷◌, true, false, refl, sym, ◌∙◌, subst}
+use Rattle.std.proofs.Common.{◌≡◌, ℕ, List, [], ◌∷◌, true, false, sym, ◌∙◌, subst}
 use Rattle.rbd_commands.specs.declared.command.Command.{Command}
-use Rattle.rbd_commands.specs.declared.command.Command.TheVariants as command
 use Rattle.rbd_kinds.specs.declared.answer.Answer.{Answer}
 use Rattle.rbd_kinds.specs.declared.header_op.HeaderOp.TheVariants as header
 use Rattle.rbd_kinds.specs.declared.id.SiteId.{SiteId}
@@ -9,12 +8,12 @@ use Rattle.rbd_kinds.specs.declared.machine.Fed.{Fed}
 use Rattle.rbd_kinds.specs.declared.machine.Fed.TheVariants as fed
 use Rattle.rbd_kinds.specs.declared.operation.Op.TheVariants as op
 use Rattle.rbd_machine.specs.Path.{Answered, IsWalk}
-use Rattle.rbd_machine.specs.Plan.{Plan, Ask, Await, Note, Return, Goto, Standing, settled, without_labels}
+use Rattle.rbd_machine.specs.Plan.{Plan, Ask, Await, Note, Return, Goto, Standing, settled}
 use Rattle.rbd_machine.specs.Steps.{EndsIt, not_there}
 use Rattle.rbd_machine.specs.declared.reason.Reason.{Reason}
 use Rattle.rbd_machine.specs.declared.seat.Seat.{Seat}
 use Rattle.rbd_machine.proofs.Settled.{settled_goto}
-use Rattle.rbd_request.specs.Read.{is_read, IsReadOf}
+use Rattle.rbd_request.specs.Read.{is_read}
 use Rattle.rbd_request.specs.Write.{write_plan}
 use Rattle.rbd_admin.specs.Listing.{listing_plan}
 use Rattle.rbd_admin.specs.Snap.{snap_plan}
@@ -26,7 +25,8 @@ use Rattle.rbd_resize.specs.Rollback.{rollback_plan}
 use Rattle.rbd_requests.specs.Looking.{LooksOnce}
 use Rattle.rbd_requests.proofs.LooksWell.{LooksWell, once_of}
 use Rattle.rbd_requests.proofs.LooksOf.{at_close_plan, at_create, at_discard_plan, at_listing, at_remove_plan, at_resize_plan, at_rollback_plan, at_snap_plan, at_write_plan}
-use Rattle.rbd_requests.specs.Served.{IsPlanFor, Writes, Discards, Reads, Creates, Lists, Snaps, Resizes, Rollbacks, Removes, Closes}
+use Rattle.rbd_requests.specs.EachRequest.{HoldsOfEach, is_one_read, of_command}
+use Rattle.rbd_requests.specs.Plans.{IsPlanFor}
 
 -- ---- along a walk of a request without labels
 
@@ -46,34 +46,34 @@ at_end (f ∷ more) (Goto label) steps last well walk = absurd walk
 
 -- ---- all of them
 
-from_plan : (plan : Plan) (s : Standing) (feds : List Fed) (steps : List Answered) (last : Plan) → s ≡ without_labels plan → LooksWell plan → IsWalk s.labels s.plan feds steps last → LooksWell last
-from_plan plan s feds steps last is well walk = at_end feds plan steps last well (subst (λ (at : Standing). IsWalk at.labels at.plan feds steps last) is walk)
+module _ (seat : Seat) (feds : List Fed) (steps : List Answered) (last : Plan) where
+  abbrev LooksWellAtLast : Command → Standing → Type 0
+  LooksWellAtLast c s = is_read c ≡ false → IsWalk s.labels s.plan feds steps last → LooksWell last
 
-is_one_read : (home : SiteId) (c : Command) (s : Standing) → IsReadOf home c s → is_read c ≡ true
-is_one_read home (command.Read image snap at len) s is = refl
-is_one_read home _ s is = absurd is
+  each_looks_well : HoldsOfEach seat LooksWellAtLast
+  each_looks_well = record {
+    writes = λ c is other walk. at_end feds (write_plan seat.home c) steps last (at_write_plan seat.home c) walk;
+    discards = λ c is other walk. at_end feds (discard_plan seat.home c) steps last (at_discard_plan seat.home c) walk;
+    reads = λ c s is other walk. let no : false ≡ true = sym other ∙ is_one_read seat.home c s is in cc;
+    creates = λ c plan is other walk. at_end feds plan steps last (at_create seat.home c plan is) walk;
+    lists = λ c is other walk. at_end feds (listing_plan seat.home c) steps last (at_listing seat.home c) walk;
+    snaps = λ c is other walk. at_end feds (snap_plan seat.home c) steps last (at_snap_plan seat.home c) walk;
+    resizes = λ c is other walk. at_end feds (resize_plan seat.home c) steps last (at_resize_plan seat.home c) walk;
+    rollbacks = λ c is other walk. at_end feds (rollback_plan seat.home c) steps last (at_rollback_plan seat.home c) walk;
+    removes = λ c is other walk. at_end feds (remove_plan seat.home seat.session c) steps last (at_remove_plan seat.home seat.session c) walk;
+    closes = λ c is other walk. at_end feds (close_plan seat.home c) steps last (at_close_plan seat.home c) walk;
+  }
 
-looks_well : (seat : Seat) (c : Command) (s : Standing) (feds : List Fed) (steps : List Answered) (last : Plan)
-    → IsPlanFor seat c s → is_read c ≡ false → IsWalk s.labels s.plan feds steps last → LooksWell last
-looks_well seat c s feds steps last (Writes is at_plan) other walk = from_plan (write_plan seat.home c) s feds steps last at_plan (at_write_plan seat.home c) walk
-looks_well seat c s feds steps last (Discards is at_plan) other walk = from_plan (discard_plan seat.home c) s feds steps last at_plan (at_discard_plan seat.home c) walk
-looks_well seat c s feds steps last (Reads is) other walk = let no : false ≡ true = sym other ∙ is_one_read seat.home c s is in cc
-looks_well seat c s feds steps last (Creates is at_plan) other walk = from_plan s.plan s feds steps last at_plan (at_create seat.home c s.plan is) walk
-looks_well seat c s feds steps last (Lists is at_plan) other walk = from_plan (listing_plan seat.home c) s feds steps last at_plan (at_listing seat.home c) walk
-looks_well seat c s feds steps last (Snaps is at_plan) other walk = from_plan (snap_plan seat.home c) s feds steps last at_plan (at_snap_plan seat.home c) walk
-looks_well seat c s feds steps last (Resizes is at_plan) other walk = from_plan (resize_plan seat.home c) s feds steps last at_plan (at_resize_plan seat.home c) walk
-looks_well seat c s feds steps last (Rollbacks is at_plan) other walk = from_plan (rollback_plan seat.home c) s feds steps last at_plan (at_rollback_plan seat.home c) walk
-looks_well seat c s feds steps last (Removes is at_plan) other walk =
-    from_plan (remove_plan seat.home seat.session c) s feds steps last at_plan (at_remove_plan seat.home seat.session c) walk
-looks_well seat c s feds steps last (Closes is at_plan) other walk = from_plan (close_plan seat.home c) s feds steps last at_plan (at_close_plan seat.home c) walk
+  looks_well : (c : Command) (s : Standing) → IsPlanFor seat c s → is_read c ≡ false → IsWalk s.labels s.plan feds steps last → LooksWell last
+  looks_well c s is other walk = of_command seat LooksWellAtLast each_looks_well c s is other walk
 
 -- where a request that isn't a read looks at a header, what isn't there and the fence end it
 pub looks_refuse : (seat : Seat) (c : Command) (s : Standing) (feds : List Fed) (steps : List Answered) (site : SiteId) (why : Reason) (image : ℕ) (next : Answer → Plan) (a : Answer)
     → IsPlanFor seat c s → is_read c ≡ false → IsWalk s.labels s.plan feds steps (Ask site why (op.Header image header.Get) next)
     → EndsIt a → next a ≡ not_there a
-looks_refuse seat c s feds steps site why image next a is other walk ends = (looks_well seat c s feds steps (Ask site why (op.Header image header.Get) next) is other walk).0 a ends
+looks_refuse seat c s feds steps site why image next a is other walk ends = (looks_well seat feds steps (Ask site why (op.Header image header.Get) next) c s is other walk).0 a ends
 
 -- and behind its look it waits for the lock, or looks at none any more
 pub looks_once : (seat : Seat) (c : Command) (s : Standing) (feds : List Fed) (steps : List Answered) (last : Plan)
     → IsPlanFor seat c s → is_read c ≡ false → IsWalk s.labels s.plan feds steps last → LooksOnce last
-looks_once seat c s feds steps last is other walk = once_of last (looks_well seat c s feds steps last is other walk)
+looks_once seat c s feds steps last is other walk = once_of last (looks_well seat feds steps last c s is other walk)

@@ -1,5 +1,5 @@
 -- A change of an extent takes its turns at the objects of the extent.
-use Rattle.std.proofs.Common.{◌≡◌, ◌⊎◌, inl, inr, ℕ, List, replicate, true, Option, Some, refl, sym, subst, ap}
+use Rattle.std.proofs.Common.{◌≡◌, ℕ, List, replicate, Option, Some, refl, sym, subst, ap}
 use Rattle.std.specs.Prelude.{unwrap_or}
 use Rattle.std.proofs.lemmas.List.{length-replicate}
 use Rattle.rbd_kinds.specs.declared.sharing.Sharing.TheVariants as sharing
@@ -8,19 +8,20 @@ use Rattle.rbd_commands.specs.declared.command.Command.TheVariants as command
 use Rattle.rbd_kinds.specs.declared.id.SiteId.{SiteId}
 use Rattle.rbd_kinds.specs.declared.layout.Extent.{Extent}
 use Rattle.rbd_layout.specs.Pieces.{pieces_of}
-use Rattle.rbd_machine.specs.Plan.{Standing}
+use Rattle.rbd_machine.specs.Plan.{Plan, Standing}
 use Rattle.rbd_machine.specs.Turns.{AreTurns}
 use Rattle.rbd_machine.specs.declared.seat.Seat.{Seat}
 use Rattle.rbd_meaning.specs.Range.{extent_at}
 use Rattle.rbd_meaning.specs.Writes.{write_refuses}
 use Rattle.rbd_request.proofs.Turns.{turns_of_pieces}
-use Rattle.rbd_request.specs.Write.{is_write, put, write, write_plan}
+use Rattle.rbd_request.specs.Write.{put, write}
 use Rattle.rbd_discard.proofs.Turns as of_discard
-use Rattle.rbd_discard.specs.Discard.{is_discard, discard, discard_plan, zero}
-use Rattle.rbd_requests.proofs.OnePlan.{is_of_discards, is_of_writes, only_discards, only_writes}
+use Rattle.rbd_discard.specs.Discard.{discard, zero}
+use Rattle.rbd_requests.specs.EachRequest.{of_plan}
 use Rattle.rbd_requests.specs.OrderlyWrites.{objects_are}
-use Rattle.rbd_requests.specs.Served.{IsPlanFor}
-use Rattle.rbd_requests.specs.Touched.{extent_of, TakesTurns}
+use Rattle.rbd_requests.specs.Plans.{IsPlanFor, planned}
+use Rattle.rbd_requests.specs.Profile.{between, extent_beside, profile}
+use Rattle.rbd_requests.specs.Touched.{TakesTurns}
 
 write_takes_turns : (site : SiteId) (name : List ℕ) (from : ℕ) (bytes : List ℕ) → TakesTurns (extent_at from bytes) (write site name from bytes)
 write_takes_turns site name from bytes = record {
@@ -40,14 +41,10 @@ write_takes_turns site name from bytes = record {
 abbrev extent_in : (e : Extent) → Option Extent → Extent
 extent_in e o = unwrap_or o e
 
-write_plan_takes_turns : (site : SiteId) (c : Command) (e : Extent) → is_write c ≡ true → extent_of c ≡ Some e → TakesTurns e (write_plan site c)
-write_plan_takes_turns site (command.Write image from bytes) e is same =
-    subst (λ extent. TakesTurns extent (write site image from bytes)) (ap (extent_in e) same) (write_takes_turns site image from bytes)
-write_plan_takes_turns site (command.Fill image from len byte) e is same =
-    subst (λ extent. TakesTurns extent (write site image from (replicate len byte))) (ap (extent_in e) same)
-    (subst (λ n. TakesTurns (record { at = from; len = n }) (write site image from (replicate len byte))) (length-replicate len byte)
-    (write_takes_turns site image from (replicate len byte)))
-write_plan_takes_turns site _ e is same = cc
+fill_takes_turns : (site : SiteId) (name : List ℕ) (from len byte : ℕ) → TakesTurns (between from len) (write site name from (replicate len byte))
+fill_takes_turns site name from len byte =
+    subst (λ n. TakesTurns (record { at = from; len = n }) (write site name from (replicate len byte))) (length-replicate len byte)
+    (write_takes_turns site name from (replicate len byte))
 
 discard_takes_turns : (site : SiteId) (name : List ℕ) (e : Extent) → TakesTurns e (discard site name e)
 discard_takes_turns site name e = record {
@@ -61,23 +58,12 @@ discard_takes_turns site name e = record {
   turns = λ image h may. subst (AreTurns (zero site e image h)) (sym (objects_are e h may)) (of_discard.turns_of_pieces (pieces_of h.layout e) site image h);
 }
 
-discard_plan_takes_turns : (site : SiteId) (c : Command) (e : Extent) → is_discard c ≡ true → extent_of c ≡ Some e → TakesTurns e (discard_plan site c)
-discard_plan_takes_turns site (command.Discard image at len) e is same =
-    subst (λ extent. TakesTurns extent (discard site image (record { at = at; len = len }))) (ap (extent_in e) same) (discard_takes_turns site image (record { at = at; len = len }))
-discard_plan_takes_turns site _ e is same = cc
+at_plan : (plan : Plan) (s : Standing) (of e : Extent) → planned plan ≡ Some s → Some of ≡ Some e → TakesTurns of plan → TakesTurns e s.plan
+at_plan plan s of e is same turns =
+    of_plan (λ at. TakesTurns e at.plan) plan s is (subst (λ extent. TakesTurns extent plan) (ap (extent_in e) same) turns)
 
--- no other command has an extent
-none_other : (c : Command) (e : Extent) → extent_of c ≡ Some e → (is_write c ≡ true) ⊎ (is_discard c ≡ true)
-none_other (command.Write image from bytes) e same = inl refl
-none_other (command.Fill image from len byte) e same = inl refl
-none_other (command.Discard image at len) e same = inr refl
-none_other _ e same = cc
-
-pub command_takes_turns : (seat : Seat) (c : Command) (s : Standing) (e : Extent) → IsPlanFor seat c s → extent_of c ≡ Some e → TakesTurns e s.plan
-command_takes_turns seat c s e is same = go (none_other c e same)
-  where
-    go : (is_write c ≡ true) ⊎ (is_discard c ≡ true) → TakesTurns e s.plan
-    go (inl writes) =
-        subst (λ (at : Standing). TakesTurns e at.plan) (sym (only_writes seat c s (is_of_writes c writes) is)) (write_plan_takes_turns seat.home c e writes same)
-    go (inr discards) =
-        subst (λ (at : Standing). TakesTurns e at.plan) (sym (only_discards seat c s (is_of_discards c discards) is)) (discard_plan_takes_turns seat.home c e discards same)
+pub command_takes_turns : (seat : Seat) (c : Command) (s : Standing) (e : Extent) → IsPlanFor seat c s → extent_beside (profile c) ≡ Some e → TakesTurns e s.plan
+command_takes_turns seat (command.Write name from bytes) s e is same = at_plan _ s (extent_at from bytes) e is same (write_takes_turns seat.home name from bytes)
+command_takes_turns seat (command.Fill name from len byte) s e is same = at_plan _ s (between from len) e is same (fill_takes_turns seat.home name from len byte)
+command_takes_turns seat (command.Discard name from len) s e is same = at_plan _ s (between from len) e is same (discard_takes_turns seat.home name (between from len))
+command_takes_turns seat _ s e is same = cc

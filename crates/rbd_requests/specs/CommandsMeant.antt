@@ -1,5 +1,5 @@
 -- The replies to commands are meant: lemmas that the laws of an `impl` cite. They define nothing.
-use Rattle.std.proofs.Common.{◌≡◌, List, [], ◌∷◌, true, subst}
+use Rattle.std.proofs.Common.{◌≡◌, List, [], ◌∷◌, true}
 use Rattle.rbd_commands.specs.declared.command.Command.{Command}
 use Rattle.rbd_commands.specs.declared.command.Command.TheVariants as command
 use Rattle.rbd_kinds.specs.declared.answer.Answer.{Answer}
@@ -7,19 +7,15 @@ use Rattle.rbd_kinds.specs.declared.answer.Answer.TheVariants as answer
 use Rattle.rbd_kinds.specs.declared.machine.Fed.{Fed}
 use Rattle.rbd_kinds.specs.declared.reply.Reply.{Reply}
 use Rattle.rbd_machine.specs.Path.{Answered, IsWalk}
-use Rattle.rbd_machine.specs.Plan.{Plan, Standing, Goto, Return, without_labels}
+use Rattle.rbd_machine.specs.Plan.{Standing, Goto, Return}
 use Rattle.rbd_machine.specs.Refused.{AreGiven}
 use Rattle.rbd_machine.specs.Standalone.{TellAllStandalone, TellsStandalone}
 use Rattle.rbd_machine.specs.declared.seat.Seat.{Seat}
 use Rattle.rbd_meaning.specs.Meant.{IsMeantBy}
 use Rattle.rbd_meaning.specs.Parentless.{AreParentless, TellsNoParent}
 use Rattle.rbd_request.proofs.Meant.{write_plan_means, read_plan_means}
-use Rattle.rbd_request.specs.Write.{write_plan}
 use Rattle.rbd_admin.proofs.Meant.{create_means, listing_means, snap_means}
-use Rattle.rbd_admin.specs.Listing.{listing_plan}
-use Rattle.rbd_admin.specs.Snap.{snap_plan}
 use Rattle.rbd_close.proofs.Meant.{means as close_means}
-use Rattle.rbd_close.specs.Close.{close_plan}
 use Rattle.rbd_discard.proofs.Meant.{discard_means}
 use Rattle.rbd_discard.specs.Discard.{is_discard, discard_plan}
 use Rattle.rbd_remove.proofs.Meant.{remove_means_without}
@@ -28,7 +24,8 @@ use Rattle.rbd_remove.specs.Told.{AreJournalless, TellsNoJournal}
 use Rattle.rbd_resize.proofs.Means.{resize_means, rollback_means}
 use Rattle.rbd_resize.specs.Resize.{is_resize, resize_plan}
 use Rattle.rbd_resize.specs.Rollback.{is_rollback, rollback_plan}
-use Rattle.rbd_requests.specs.Served.{IsPlanFor, Writes, Discards, Reads, Creates, Lists, Snaps, Resizes, Rollbacks, Removes, Closes}
+use Rattle.rbd_requests.specs.EachRequest.{HoldsOfEach, of_command}
+use Rattle.rbd_requests.specs.Plans.{IsPlanFor}
 
 -- ---- images that stand alone have no parent, and no journal
 
@@ -67,25 +64,23 @@ module _ (seat : Seat) (feds : List Fed) (steps : List Answered) (r : Reply) (gi
   remove_plan_means (command.Remove image) is walk = remove_means_without seat.home seat.session image feds steps r given (journalless steps standalone) walk
   remove_plan_means _ is walk = cc
 
--- ---- all of them
+  -- ---- all of them
 
--- a walk of a request without labels is one of its plan
-walked : (plan : Plan) (s : Standing) (feds : List Fed) (steps : List Answered) (r : Reply) → s ≡ without_labels plan → IsWalk s.labels s.plan feds steps (Return r) → IsWalk Goto plan feds steps (Return r)
-walked plan s feds steps r is walk = subst (λ (at : Standing). IsWalk at.labels at.plan feds steps (Return r)) is walk
+  each_is_meant : HoldsOfEach seat (λ c s. IsWalk s.labels s.plan feds steps (Return r) → IsMeantBy seat c steps r)
+  each_is_meant = record {
+    writes = λ c is walk. write_plan_means seat c feds steps r is given walk;
+    discards = discard_plan_means;
+    reads = λ c s is walk. read_plan_means seat c s feds steps r is given walk;
+    creates = λ c plan is walk. create_means seat c plan feds steps r is given walk;
+    lists = λ c is walk. listing_means seat c feds steps r is given walk;
+    snaps = λ c is walk. snap_means seat c feds steps r is given walk;
+    resizes = resize_plan_means;
+    rollbacks = rollback_plan_means;
+    removes = remove_plan_means;
+    closes = λ c is walk. close_means seat c feds steps r is given walk;
+  }
 
 pub command_is_meant : (seat : Seat) (c : Command) (s : Standing) (feds : List Fed) (steps : List Answered) (r : Reply)
     → IsPlanFor seat c s → AreGiven steps → TellAllStandalone steps → IsWalk s.labels s.plan feds steps (Return r) → IsMeantBy seat c steps r
-command_is_meant seat c s feds steps r (Writes is at_plan) given standalone walk = write_plan_means seat c feds steps r is given (walked (write_plan seat.home c) s feds steps r at_plan walk)
-command_is_meant seat c s feds steps r (Discards is at_plan) given standalone walk =
-    discard_plan_means seat feds steps r given standalone c is (walked (discard_plan seat.home c) s feds steps r at_plan walk)
-command_is_meant seat c s feds steps r (Reads is) given standalone walk = read_plan_means seat c s feds steps r is given walk
-command_is_meant seat c s feds steps r (Creates is at_plan) given standalone walk = create_means seat c s.plan feds steps r is given (walked s.plan s feds steps r at_plan walk)
-command_is_meant seat c s feds steps r (Lists is at_plan) given standalone walk = listing_means seat c feds steps r is given (walked (listing_plan seat.home c) s feds steps r at_plan walk)
-command_is_meant seat c s feds steps r (Snaps is at_plan) given standalone walk = snap_means seat c feds steps r is given (walked (snap_plan seat.home c) s feds steps r at_plan walk)
-command_is_meant seat c s feds steps r (Resizes is at_plan) given standalone walk =
-    resize_plan_means seat feds steps r given standalone c is (walked (resize_plan seat.home c) s feds steps r at_plan walk)
-command_is_meant seat c s feds steps r (Rollbacks is at_plan) given standalone walk =
-    rollback_plan_means seat feds steps r given standalone c is (walked (rollback_plan seat.home c) s feds steps r at_plan walk)
-command_is_meant seat c s feds steps r (Removes is at_plan) given standalone walk =
-    remove_plan_means seat feds steps r given standalone c is (walked (remove_plan seat.home seat.session c) s feds steps r at_plan walk)
-command_is_meant seat c s feds steps r (Closes is at_plan) given standalone walk = close_means seat c feds steps r is given (walked (close_plan seat.home c) s feds steps r at_plan walk)
+command_is_meant seat c s feds steps r is given standalone walk =
+    of_command seat (λ (of : Command) (at : Standing). IsWalk at.labels at.plan feds steps (Return r) → IsMeantBy seat of steps r) (each_is_meant seat feds steps r given standalone) c s is walk

@@ -1,5 +1,10 @@
-pub mod Served
 pub mod Touched
+pub mod Profile
+pub mod Plans
+pub mod Follows
+pub mod Asking
+pub mod Limits
+pub mod EachRequest
 pub mod Session
 pub mod NoLooks
 pub mod Looking

@@ -31,7 +31,6 @@ use Rattle.rbd_admin.specs.Create.{IsCreate, IsCreatePlan, on_drawn, making, map
 use Rattle.rbd_admin.specs.Listing.{counting, listing_plan, measuring, on_names, on_renamed, show_header, show_used, showing}
 use Rattle.rbd_admin.proofs.Decided.{limits_or_not}
 use Rattle.rbd_requests.specs.OrderlyParts.{orderly_gather, orderly_on_bits, starts}
-use Rattle.rbd_requests.specs.Touched.{extent_of}
 
 -- ---- read
 
@@ -73,7 +72,7 @@ module _ (e : Option Extent) where
     labels = λ label asks. (orderly_pass site name snap extent, closed_pass site name snap extent);
   }
 
-pub orderly_read : (site : SiteId) (c : Command) (s : Standing) → IsReadOf site c s → IsOrderlyFrom (extent_of c) true beginning s
+pub orderly_read : (site : SiteId) (c : Command) (s : Standing) → IsReadOf site c s → IsOrderlyFrom None true beginning s
 orderly_read site (command.Read image snap from len) s is =
     subst (IsOrderlyFrom None true beginning) (sym is) (read_is_orderly None site image snap (record { at = from; len = len }))
 orderly_read site _ s is = absurd is
@@ -145,6 +144,6 @@ module _ (e : Option Extent) where
   orderly_listing site (command.Rename from to) = (refl, λ a can. orderly_on_renamed a)
   orderly_listing site _ = tt
 
-pub orderly_create : (site : SiteId) (c : Command) (plan : Plan) → IsCreatePlan site c plan → IsOrderly (extent_of c) starts true beginning plan
+pub orderly_create : (site : SiteId) (c : Command) (plan : Plan) → IsCreatePlan site c plan → IsOrderly None starts true beginning plan
 orderly_create site (command.Create image size shape) plan is = orderly_is_create None site image size shape plan is
 orderly_create site _ plan is = absurd is

@@ -3,8 +3,6 @@
 use Rattle.std.proofs.Common.{◌≡◌, ℕ, List, [], ◌∷◌, replicate, Bool, true, false, cond, Option, Some, None, refl, ap, sym, subst}
 use Rattle.std.proofs.lemmas.List.{length-replicate}
 use Rattle.rbd_kinds.specs.declared.sharing.Sharing.TheVariants as sharing
-use Rattle.rbd_commands.specs.declared.command.Command.{Command}
-use Rattle.rbd_commands.specs.declared.command.Command.TheVariants as command
 use Rattle.rbd_commands.specs.declared.refusal.Refusal.TheVariants as refusal
 use Rattle.rbd_kinds.specs.declared.header.HeaderView.{HeaderView}
 use Rattle.rbd_kinds.specs.declared.header.SnapContext.{SnapContext}
@@ -25,10 +23,9 @@ use Rattle.rbd_course.proofs.Steps.{own_course, place_at, orderly_on_done, order
 use Rattle.rbd_meaning.specs.Range.{extent_at, out_of_range}
 use Rattle.rbd_meaning.specs.Writes.{write_refuses}
 use Rattle.rbd_piece.specs.Write.{raising, writing}
-use Rattle.rbd_request.specs.Write.{is_write, put, write, write_pieces, write_plan}
-use Rattle.rbd_discard.specs.Discard.{is_discard, discard, discard_plan, zero, zero_pieces}
-use Rattle.rbd_requests.specs.OrderlyParts.{never_none, never_true, orderly_zero, starts}
-use Rattle.rbd_requests.specs.Touched.{extent_of}
+use Rattle.rbd_request.specs.Write.{put, write, write_pieces}
+use Rattle.rbd_discard.specs.Discard.{discard, zero, zero_pieces}
+use Rattle.rbd_requests.specs.OrderlyParts.{never_none, orderly_zero, starts}
 
 -- ---- the objects of its turns
 
@@ -72,17 +69,15 @@ orderly_put site from bytes image h may = (
       (objects_within h (extent_at from bytes)) (at_itself site image) (objects_are (extent_at from bytes) h may),
 )
 
-orderly_write : (site : SiteId) (name : List ℕ) (from : ℕ) (bytes : List ℕ) → IsOrderly (Some (extent_at from bytes)) starts true beginning (write site name from bytes)
+pub orderly_write : (site : SiteId) (name : List ℕ) (from : ℕ) (bytes : List ℕ) → IsOrderly (Some (extent_at from bytes)) starts true beginning (write site name from bytes)
 orderly_write site name from bytes =
     orderly_change (Some (extent_at from bytes)) starts site name sharing.Shared (write_refuses (extent_at from bytes)) (put site from bytes)
     (λ image h form may. orderly_put site from bytes image h may)
 
-pub orderly_write_plan : (site : SiteId) (c : Command) → is_write c ≡ true → IsOrderly (extent_of c) starts true beginning (write_plan site c)
-orderly_write_plan site (command.Write image from bytes) is = orderly_write site image from bytes
-orderly_write_plan site (command.Fill image from len byte) is =
-    subst (λ n. IsOrderly (Some (record { at = from; len = n })) starts true beginning (write site image from (replicate len byte)))
-    (length-replicate len byte) (orderly_write site image from (replicate len byte))
-orderly_write_plan site _ is = absurd (never_true is)
+pub orderly_fill : (site : SiteId) (name : List ℕ) (from len byte : ℕ) → IsOrderly (Some (record { at = from; len = len })) starts true beginning (write site name from (replicate len byte))
+orderly_fill site name from len byte =
+    subst (λ n. IsOrderly (Some (record { at = from; len = n })) starts true beginning (write site name from (replicate len byte)))
+    (length-replicate len byte) (orderly_write site name from (replicate len byte))
 
 -- ---- discard
 
@@ -99,13 +94,9 @@ orderly_zeros e (piece ∷ pieces) site image h fresh p turn objects in_line are
       false,
 )
 
-orderly_discard : (site : SiteId) (name : List ℕ) (e : Extent) → IsOrderly (Some e) starts true beginning (discard site name e)
+pub orderly_discard : (site : SiteId) (name : List ℕ) (e : Extent) → IsOrderly (Some e) starts true beginning (discard site name e)
 orderly_discard site name e =
     orderly_change (Some e) starts site name sharing.Discard (write_refuses e) (zero site e) (λ image h form may. (
       at_itself site image,
       orderly_zeros (Some e) (pieces_of h.layout e) site image h true (place_at false site image stage.Past) None (objects_within h e) (at_itself site image) (objects_are e h may),
     ))
-
-pub orderly_discard_plan : (site : SiteId) (c : Command) → is_discard c ≡ true → IsOrderly (extent_of c) starts true beginning (discard_plan site c)
-orderly_discard_plan site (command.Discard image at len) is = orderly_discard site image (record { at = at; len = len })
-orderly_discard_plan site _ is = absurd (never_true is)

@@ -1,16 +1,16 @@
 //! How the request of a command is made.
-ghost use Rattle.std.specs.Prelude.{◌≡◌, true, IfOk};
+ghost use Rattle.std.specs.Prelude.{◌≡◌, true, false, IfOk};
 ghost use Rattle.rbd_course.specs.Begun.{IsBegun};
 ghost use Rattle.rbd_admin.specs.Create.{is_create};
+ghost use Rattle.rbd_close.specs.Close.{is_close};
 ghost use Rattle.rbd_meaning.specs.Meant.{IsMeantBy};
 ghost use Rattle.rbd_requests.specs.CommandsLawful.{command_is_lawful};
 ghost use Rattle.rbd_requests.specs.CommandsMeant.{command_is_meant};
 ghost use Rattle.rbd_requests.specs.CommandsOrderly.{command_is_orderly};
-ghost use Rattle.rbd_requests.specs.Served.{is_built as is_one_built, IsPlanFor};
+ghost use Rattle.rbd_requests.specs.Plans.{is_built as is_one_built, IsPlanFor};
+ghost use Rattle.rbd_requests.specs.Profile.{changed_extent, joins_a_line, profile};
 ghost use Rattle.rbd_requests.specs.Session.{stands_of};
-ghost use Rattle.rbd_requests.specs.Touched.{extent_of};
 
-use crate::kind::{Kind, kind_of};
 use crate::request::SessionRequest;
 use rbd_admin::{CreateRequest, ListRequest, SnapRequest};
 use rbd_close::CloseRequest;
@@ -30,52 +30,40 @@ impl Request for SessionRequest {
 
     ghost stands_for = { IsPlanFor };
 
-    ghost extent_for = { extent_of };
+    ghost extent_for = { changed_extent };
 
     ghost means = { IsMeantBy };
 
     /// Only a `create` outside the limits is refused before any operation.
     fn begin(alloc: Global, seat: &Seat, command: Command) -> Result<Begun<Self>, NoMemory> {
         let home = seat.home;
-        match kind_of(&command) {
-            Kind::Write => {
+        match &command {
+            Command::Write { .. } | Command::Fill { .. } => {
                 let request = Boxed::new(alloc, write_request(alloc, home, command)?)?;
                 Ok(Begun::Asks(SessionRequest::Write(request)))
             }
-            Kind::Discard => {
+            Command::Discard { .. } => {
                 let request = Boxed::new(alloc, discard_request(alloc, home, command))?;
                 Ok(Begun::Asks(SessionRequest::Discard(request)))
             }
-            Kind::Read => {
-                let request = Boxed::new(alloc, ReadRequest::new(home, command))?;
-                Ok(Begun::Asks(SessionRequest::Read(request)))
-            }
-            Kind::Create => begin_create(alloc, seat, command),
-            Kind::List => {
-                let request = Boxed::new(alloc, ListRequest::new(home, command))?;
-                Ok(Begun::Asks(SessionRequest::List(request)))
-            }
-            Kind::Snap => {
+            Command::SnapCreate { .. } | Command::SnapRemove { .. } => {
                 let request = Boxed::new(alloc, SnapRequest::new(home, command))?;
                 Ok(Begun::Asks(SessionRequest::Snap(request)))
             }
-            Kind::Resize => {
+            Command::Resize { .. } => {
                 let request = Boxed::new(alloc, ResizeRequest::new(home, command))?;
                 Ok(Begun::Asks(SessionRequest::Resize(request)))
             }
-            Kind::Rollback => {
+            Command::SnapRollback { .. } => {
                 let request = Boxed::new(alloc, RollbackRequest::new(home, command))?;
                 Ok(Begun::Asks(SessionRequest::Rollback(request)))
             }
-            Kind::Remove => {
+            Command::Remove { .. } => {
                 let request = Boxed::new(alloc, RemoveRequest::new(seat.session, home, command))?;
                 Ok(Begun::Asks(SessionRequest::Remove(request)))
             }
-            Kind::Close => {
-                let request = Boxed::new(alloc, CloseRequest::new(home, command))?;
-                Ok(Begun::Asks(SessionRequest::Close(request)))
-            }
-            Kind::Unserved => unreachable!(),
+            Command::Close { .. } | Command::Quiesce { .. } => begin_close(alloc, seat, command),
+            _ => begin_look(alloc, seat, command),
         }
     }
 
@@ -105,7 +93,45 @@ impl Request for SessionRequest {
     ghost meant = { λ seat command s feds steps reply _ stands given standalone walk. command_is_meant seat command s feds steps reply stands given standalone walk };
 }
 
+/// The request of a command that joins no line.
+fn begin_look(
+    alloc: Global,
+    seat: &Seat,
+    command: Command,
+) -> Result<Begun<SessionRequest>, NoMemory>
+    requires built { is_one_built command ≡ true }
+    requires looks { joins_a_line (profile command) ≡ false }
+    ensures { IfOk result (IsBegun (IsPlanFor seat.now command) stands_of) }
+{
+    match &command {
+        Command::Read { .. } => {
+            let request = Boxed::new(alloc, ReadRequest::new(seat.home, command))?;
+            Ok(Begun::Asks(SessionRequest::Read(request)))
+        }
+        Command::Create { .. } => begin_create(alloc, seat, command),
+        Command::Resume { .. } | Command::Tell { .. } => begin_close(alloc, seat, command),
+        _ => {
+            let request = Boxed::new(alloc, ListRequest::new(seat.home, command))?;
+            Ok(Begun::Asks(SessionRequest::List(request)))
+        }
+    }
+}
+
+/// The request of a `close`, a `quiesce`, a `resume` or a `tell`.
+fn begin_close(
+    alloc: Global,
+    seat: &Seat,
+    command: Command,
+) -> Result<Begun<SessionRequest>, NoMemory>
+    requires { is_close command ≡ true }
+    ensures { IfOk result (IsBegun (IsPlanFor seat.now command) stands_of) }
+{
+    let request = Boxed::new(alloc, CloseRequest::new(seat.home, command))?;
+    Ok(Begun::Asks(SessionRequest::Close(request)))
+}
+
 /// The request of a `create`, or BadShape where its shape is outside the limits.
+#[tactic(auto, using(crate::proofs::Begun::create_is_refused, crate::proofs::Begun::create_is_planned))]
 fn begin_create(
     alloc: Global,
     seat: &Seat,

@@ -24,14 +24,9 @@ ghost use Rattle.rbd_meaning.specs.Meant.{IsMeantBy};
 ghost use Rattle.rbd_request.specs.Read.{is_read};
 ghost use Rattle.rbd_requests.specs.InLine.{ChangesInLine};
 ghost use Rattle.rbd_requests.specs.Looking.{LooksOnce};
-ghost use Rattle.rbd_requests.specs.Served.{is_built, HasOnePlan, IsPlanFor};
-ghost use Rattle.rbd_requests.specs.Touched.{bound_of, extent_of, is_bounded_by_extent, told_by, touched_by, AsksAtMost, HasAtMost, TakesTurns};
-
-/// A command that is served has one plan, and no other command has any.
-pub fn commands_have_one_plan()
-    ensures one { (seat : Seat) (command : Command) → is_built command ≡ true → HasOnePlan seat command }
-    ensures served { (seat : Seat) (command : Command) (s : Standing) → IsPlanFor seat command s → is_built command ≡ true }
-{}
+ghost use Rattle.rbd_requests.specs.Plans.{IsPlanFor};
+ghost use Rattle.rbd_requests.specs.Profile.{extent_beside, is_nothing, more_by, most_operations, profile};
+ghost use Rattle.rbd_requests.specs.Touched.{AsksAtMost, HasAtMost, TakesTurns};
 
 /// Each label that the request of a command goes to stands at an operation.
 pub fn commands_are_closed()
@@ -56,26 +51,27 @@ pub fn commands_are_meant()
 /// their turns at the objects that their look under the lock tells of their extent, and no other
 /// command takes any.
 pub fn commands_are_orderly()
-    ensures { (seat : Seat) (command : Command) (s : Standing) → IsPlanFor seat command s → IsOrderlyFrom (extent_of command) true beginning s }
+    ensures { (seat : Seat) (command : Command) (s : Standing) → IsPlanFor seat command s → IsOrderlyFrom (extent_beside (profile command)) true beginning s }
 {}
 
 /// The request of a command that changes an extent takes all the turns that its look under the lock
 /// tells, each once, before it is done.
 pub fn turns_are_those_of_the_extent()
-    ensures { (seat : Seat) (command : Command) (s : Standing) (e : Extent) → IsPlanFor seat command s → extent_of command ≡ Some e → TakesTurns e s.plan }
+    ensures { (seat : Seat) (command : Command) (s : Standing) (e : Extent) → IsPlanFor seat command s → extent_beside (profile command) ≡ Some e → TakesTurns e s.plan }
 {}
 
 /// The number of operations of a request is bounded by the number of objects that its extent
-/// touches. Each time that it begins again, as a read does, it has
+/// touches, as the row of its command says. Each time that it begins again, as a read does, it has
 /// as many once more. A resize, a rollback and an `rm` have beside these what they were told: a
 /// resize three for each object with bytes from the new size on, a rollback those too and four for
 /// each object of the snapshot, and an `rm` one for each object in use.
 pub fn commands_are_bounded()
     ensures pass { (seat : Seat) (command : Command) (s : Standing) (most : ℕ)
-        → IsPlanFor seat command s → is_bounded_by_extent command ≡ true → HasAtMost most (touched_by command) → AsksAtMost s.plan (bound_of command most) }
+        → IsPlanFor seat command s → is_nothing (profile command).told ≡ true → HasAtMost most (profile command).extent
+        → AsksAtMost s.plan (most_operations (profile command) most) }
     ensures all { (seat : Seat) (command : Command) (s : Standing) (most : ℕ) (feds : List Fed) (steps : List Answered) (last : Plan)
-        → IsPlanFor seat command s → HasAtMost most (touched_by command) → AreGiven steps → IsWalk s.labels s.plan feds steps last
-        → length steps ≤ (1 + jumps s.labels s.plan feds) * bound_of command most + told_by command steps }
+        → IsPlanFor seat command s → HasAtMost most (profile command).extent → AreGiven steps → IsWalk s.labels s.plan feds steps last
+        → length steps ≤ (1 + jumps s.labels s.plan feds) * most_operations (profile command) most + more_by (profile command).told steps }
 {}
 
 /// Where a request that isn't a read looks at a header, what isn't there and the fence end it.
@@ -95,5 +91,5 @@ pub fn commands_look_once()
 /// The request of a command that changes an extent goes beside others: it looks its image up first,
 /// joins the image's line, and behind that keeps to it, whatever header it is told.
 pub fn extents_change_in_line()
-    ensures { (seat : Seat) (command : Command) (s : Standing) → IsPlanFor seat command s → IsSome (extent_of command) → ChangesInLine seat.home s }
+    ensures { (seat : Seat) (command : Command) (s : Standing) → IsPlanFor seat command s → IsSome (extent_beside (profile command)) → ChangesInLine seat.home s }
 {}

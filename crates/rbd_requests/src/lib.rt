@@ -47,21 +47,55 @@
 //! - What a resize, a rollback and an `rm` do is bounded only by what they are told: how many
 //!   objects there are, the image's header says, and which of them are in use, the head's map.
 //!
+//! # Rows
+//!
+//! A command has a row (`profile`) and a plan (`plan_of`). The row says beside whom it goes in the
+//! line of its image, which bytes it is about, which event it notes, for which kinds of operation
+//! it asks, what it is answered, and how many operations it has.
+//!
+//! ```text
+//! command       joins    event        asks for, beside dir-find and header-get     operations
+//! write d 0 11  shared   write        map-set, data-write                          3, 2 a piece
+//! discard d ..  discard  discard      map-set, data-zero, data-empty, data-remove  3, 3 a piece
+//! snap create   alone    snap-create  map-get, map-put, header-snap-add            6
+//! close d       alone    none         lock-drop, notify, unwatch; no header-get    4
+//! info d        no line  none                                                      2
+//! ```
+//!
+//! A plan *follows* a row where it does what the row says, step by step. On its way it comes to five
+//! places at most: outside of the line, in it, behind its wait for the lock, with its event noted,
+//! and with its event applied.
+//!
+//! - It joins its line as the row says, once, and never leaves it before its end.
+//! - Who joins a line only looks before it has waited for the lock.
+//! - It notes the row's event behind that, and no other. What an event speaks of it changes only
+//!   while its event is noted, and it is done only once this counts as applied.
+//! - It asks for the row's kinds alone, and for no step of a way to a lock: ways are no part of
+//!   rows. A header that it makes is nobody's.
+//! - Where it is refused it may end anywhere.
+//!
 //! # Contracts
 //!
-//! `specs/Served.antt`: which commands are served (`is_built`), and where the request of one stands
-//! at first (`IsPlanFor`), of a session at its home site (`Seat` of `rbd_machine`).
-//! `specs/Touched.antt`: the extent that a command changes (`extent_of`) or is about
-//! (`touched_by`), what its turns are (`TakesTurns`), and how many operations it has (`bound_of`),
-//! beside those by what it is told (`told_by`). `specs/Session.antt`: where a [`SessionRequest`]
-//! stands (`stands_of`). [`SessionRequest`] meets
-//! [`Machine`](rbd_machine::Machine) and [`Request`](rbd_course::Request), the laws of the latter
-//! among it.
+//! | file | what it says |
+//! |---|---|
+//! | `specs/Profile.antt` | the row of each command (`profile`), and what is read off it |
+//! | `specs/Plans.antt` | the plan of each command (`plan_of`), where its request stands at first (`IsPlanFor`), of a session at its home site (`Seat` of `rbd_machine`), and which commands are served (`is_built`) |
+//! | `specs/Follows.antt` | a plan follows a row (`Follows`, `FollowsFrom`) |
+//! | `specs/Asking.antt` | a plan asks for nothing but some operations (`AsksOnly`) |
+//! | `specs/Touched.antt` | how many operations a plan has (`AsksAtMost`), and what the turns of an extent are (`TakesTurns`) |
+//! | `specs/Looking.antt` | where a request looks at a header (`LooksOnce`) |
+//! | `specs/InLine.antt` | how a change of an extent goes through its line (`ChangesInLine`) |
+//! | `specs/Session.antt` | where a [`SessionRequest`] stands (`stands_of`) |
+//!
+//! [`SessionRequest`] meets [`Machine`](rbd_machine::Machine) and [`Request`](rbd_course::Request),
+//! the laws of the latter among it.
 //!
 //! [`laws`] joins the laws of the commands' requests, one over all commands for each: their labels
 //! stand at operations, they are lawful from nothing known, they keep to their line, they take the
 //! turns of their extent and no others, each reply is meant, how many operations they have, and
-//! that but for a read each look at a header is ended by what isn't there and by the fence.
+//! that but for a read each look at a header is ended by what isn't there and by the fence. [`rows`]
+//! says that each request follows the row of its command, what of the definitions of the crates
+//! below a row says, and what follows from a row alone.
 //!
 //! The other files of `specs/` are lemmas that the laws of [`Request`](rbd_course::Request) cite.
 //! They define no word of a contract.
@@ -73,14 +107,22 @@
 //!
 //! # How it works
 //!
-//! Each call of [`SessionRequest`] is a `match` with one call an arm. `begin` asks once which
-//! request serves the command, and hands the command over to it whole.
+//! Each call of [`SessionRequest`] is a `match` with one call an arm. `begin` looks once which
+//! command it has, and hands it over whole to the request that serves it.
+//!
+//! What holds of each of the ten requests holds of each command (`specs/EachRequest.antt`), so a
+//! lemma over all commands is one line a request. Steps that many commands share follow any row that
+//! has their kinds (`proofs/Walks.antt`). While its event is noted a request may ask for each kind
+//! of its row, so a part of a request needs to know nothing else of it (`proofs/Changes.antt`). That
+//! a command follows its row is then a few lines, and all of them are put together in
+//! `proofs/FollowsAll.antt`.
 #![tactic(auto)]
 
 mod begin;
-mod kind;
 pub mod laws;
 mod request;
+pub mod rows;
+mod served;
 
-pub use kind::is_built;
 pub use request::SessionRequest;
+pub use served::is_built;

@@ -4,7 +4,7 @@ ghost use Rattle.rbd_requests.specs.Session.{stands_of, is_ready_of};
 use rbd_admin::{CreateRequest, ListRequest, SnapRequest};
 use rbd_close::CloseRequest;
 use rbd_discard::DiscardRequest;
-use rbd_kinds::{Event, Fed, NoMemory, Op, Turn, Want};
+use rbd_kinds::{Fed, NoMemory, Op, Turn, Want};
 use rbd_machine::{Boxed, Machine, Reason};
 use rbd_remove::RemoveRequest;
 use rbd_request::{ReadRequest, WriteRequest};
@@ -106,21 +106,6 @@ impl Machine for SessionRequest {
             SessionRequest::Rollback(request) => request.reason(),
             SessionRequest::Remove(request) => request.reason(),
             SessionRequest::Close(request) => request.reason(),
-        }
-    }
-
-    fn event(&self, alloc: Global) -> Result<Option<Event>, NoMemory> {
-        match self {
-            SessionRequest::Read(request) => request.event(alloc),
-            SessionRequest::Write(request) => request.event(alloc),
-            SessionRequest::Discard(request) => request.event(alloc),
-            SessionRequest::Create(request) => request.event(alloc),
-            SessionRequest::Snap(request) => request.event(alloc),
-            SessionRequest::List(request) => request.event(alloc),
-            SessionRequest::Resize(request) => request.event(alloc),
-            SessionRequest::Rollback(request) => request.event(alloc),
-            SessionRequest::Remove(request) => request.event(alloc),
-            SessionRequest::Close(request) => request.event(alloc),
         }
     }
 

@@ -44,7 +44,8 @@ use Rattle.rbd_session.specs.Session.{ComesToIn, held_in, is_look_at, kind_asked
 use Rattle.rbd_world.specs.Closes.{StandsFirst, StandsFirstIf, has_let_go, lets_go}
 use Rattle.rbd_world.specs.Run.{Asked, Happening, asked_by, steps_of}
 use Rattle.rbd_world.specs.Sound.{IsHeldRightly, IsUnderWay}
-use Rattle.rbd_world.proofs.Asking.{IsNoLook, TakesNoLock}
+use Rattle.rbd_requests.specs.Asking.{IsNoLook}
+use Rattle.rbd_requests.specs.Follows.{TakesNoLock}
 use Rattle.rbd_world.proofs.LetsGoFirst.{LetsGoFirst, blind_stays, led_first, lets_go_blind, runs_still}
 use Rattle.rbd_world.proofs.RefusedOnWay.{looks_at}
 use Rattle.rbd_world.proofs.StaysFirst.{no_way_beside}

@@ -30,9 +30,8 @@ use Rattle.rbd_session.specs.Advance.{ComesTo, GoesFurther, fed_by, track_of}
 use Rattle.rbd_session.specs.Lines.{LinesView, lines_of}
 use Rattle.rbd_session.specs.Session.{SessionView, ComesToIn, held_in, running_at, running_in, script_line}
 use Rattle.rbd_session.specs.Track.{Track, answered_by, ended_by, run}
-use Rattle.rbd_requests.specs.InLine.{IsAtTurn, KeepsTo}
+use Rattle.rbd_requests.specs.InLine.{IsAtTurn, KeepsTo, ChangesInLine}
 use Rattle.rbd_world.specs.Order.{tells_image, writes_object}
-use Rattle.rbd_requests.specs.InLine.{ChangesInLine}
 use Rattle.rbd_world.proofs.KeptAhead.{KeepsAhead, answer_keeps, end_keeps}
 
 -- ---- what is fed

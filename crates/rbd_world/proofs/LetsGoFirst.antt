@@ -5,6 +5,7 @@ use Rattle.std.proofs.lemmas.Bool.{true≢false}
 use Rattle.std.proofs.Math.Bool.{or-false}
 use Rattle.rbd_close.specs.Close.{close, joining, on_dropped, unwatching}
 use Rattle.rbd_commands.specs.declared.command.Command.{Command}
+use Rattle.rbd_commands.specs.declared.command.Command.TheVariants as command
 use Rattle.rbd_kinds.specs.declared.answer.Answer.{Answer}
 use Rattle.rbd_kinds.specs.declared.answer.Answer.TheVariants as answer
 use Rattle.rbd_kinds.specs.declared.header_op.HeaderOp.TheVariants as header
@@ -14,24 +15,38 @@ use Rattle.rbd_kinds.specs.declared.machine.Fed.{Fed}
 use Rattle.rbd_kinds.specs.declared.machine.Fed.TheVariants as fed
 use Rattle.rbd_kinds.specs.declared.operation.Op.{Op}
 use Rattle.rbd_kinds.specs.declared.operation.Op.TheVariants as op
+use Rattle.rbd_kinds.specs.declared.operation_kind.OpKind.{OpKind}
+use Rattle.rbd_kinds.specs.declared.operation_kind.OpKind.TheVariants as kind
 use Rattle.rbd_kinds.specs.Images.{is_at}
+use Rattle.rbd_kinds.specs.OperationKind.{kind_of}
 use Rattle.rbd_kinds.specs.declared.reply.Reply.TheVariants as reply
 use Rattle.rbd_machine.specs.Label.{Label}
 use Rattle.rbd_machine.specs.Path.{Answered, IsWalk}
 use Rattle.rbd_machine.specs.Plan.{Plan, Ask, Await, Note, Return, Goto, Standing, settled}
-use Rattle.rbd_machine.specs.Steps.{not_there, on_done, on_id}
 use Rattle.rbd_machine.specs.declared.seat.Seat.{Seat}
 use Rattle.rbd_owner.specs.Steps.{released_lock}
-use Rattle.rbd_requests.specs.Served.{IsPlanFor}
+use Rattle.rbd_requests.specs.Asking.{IsNoLook}
+use Rattle.rbd_requests.specs.Follows.{Follows, FollowsFrom, Noted, Outside, Progress, behind}
+use Rattle.rbd_requests.specs.Profile.{Profile, has_none_of, profile}
+use Rattle.rbd_requests.specs.EachRequest.{same_some}
+use Rattle.rbd_requests.proofs.Consequences.{is_none}
+use Rattle.rbd_requests.proofs.FollowsAll.{command_follows}
+use Rattle.rbd_requests.specs.Plans.{IsPlanFor}
+use Rattle.rbd_requests.proofs.PlanSteps.{at_done, at_id, at_not_there}
 use Rattle.rbd_session.specs.Track.{Track, answered_by, run}
 use Rattle.rbd_world.specs.Closes.{has_let_go, lets_go}
-use Rattle.rbd_world.proofs.Asking.{AsksOnly, IsClose, IsNoLook, LeavesAll, LeavesLocks, LeavesOrCloses, requests_leave_locks}
 
 -- ---- operations
 
--- who leaves locks alone lets none go
-leaves_lets_none : (there : SiteId) (o : Op) (a : Answer) (s : SiteId) (image : ℕ) → LeavesLocks o → lets_go there o a s image ≡ false
-leaves_lets_none there (op.Header on header.LockDrop) a s image leaves = absurd leaves
+-- kinds that let a lock go, or end a watch
+abbrev lets_some_go : OpKind → Bool
+lets_some_go kind.LockDrop = true
+lets_some_go kind.Unwatch = true
+lets_some_go k = false
+
+-- who leaves locks and watches alone lets none go
+leaves_lets_none : (there : SiteId) (o : Op) (a : Answer) (s : SiteId) (image : ℕ) → lets_some_go (kind_of o) ≡ false → lets_go there o a s image ≡ false
+leaves_lets_none there (op.Header on header.LockDrop) a s image leaves = absurd (true≢false leaves)
 leaves_lets_none there (op.Header on o) a s image leaves = refl
 leaves_lets_none there o a s image leaves = refl
 
@@ -60,32 +75,26 @@ module _ (s : SiteId) (image : ℕ) where
   LetsGoFirst gone (Return reply) = Unit {0}
   LetsGoFirst gone (Goto label) = gone ≡ false
 
-  -- ---- one that leaves locks alone
+  -- ---- who has no drop of a lock and no end of a watch in its row
 
-  leaves_watches : (there : SiteId) (o : Op) → LeavesLocks o → UnwatchesBehind false there o
-  leaves_watches there (op.Header on header.Unwatch) leaves = absurd leaves
+  leaves_watches : (there : SiteId) (o : Op) → lets_some_go (kind_of o) ≡ false → UnwatchesBehind false there o
+  leaves_watches there (op.Header on header.Unwatch) leaves = absurd (true≢false leaves)
   leaves_watches there (op.Header on o) leaves = tt
   leaves_watches there o leaves = tt
 
-  leaves_first : (plan : Plan) → AsksOnly LeavesLocks plan → LetsGoFirst false plan
-  leaves_first (Ask there why o next) only = (
-    (leaves_watches there o only.0, tt),
-    λ a. subst (λ b. LetsGoFirst (b || false) (next a)) (sym (leaves_lets_none there o a s image only.0)) (leaves_first (next a) (only.1 a)),
-  )
-  leaves_first (Await wait next) only = (refl, leaves_first next only)
-  leaves_first (Note site on event next) only = (refl, leaves_first next only)
-  leaves_first (Return reply) only = tt
-  leaves_first (Goto label) only = refl
+  module _ (p : Profile) (none : has_none_of lets_some_go p ≡ true) where
+    leaves_first : (at : Progress) (plan : Plan) → Follows p at plan → LetsGoFirst false plan
+    leaves_first at (Ask there why o next) follows =
+        let leaves = is_none lets_some_go p.kinds none (kind_of o) follows.0.kind in (
+          (leaves_watches there o leaves, tt),
+          λ a. subst (λ b. LetsGoFirst (b || false) (next a)) (sym (leaves_lets_none there o a s image leaves)) (leaves_first at (next a) (follows.1 a)),
+        )
+    leaves_first at (Await w next) follows = (refl, leaves_first (behind at w) next follows.1)
+    leaves_first at (Note site on event next) follows = (refl, leaves_first Noted next follows.2)
+    leaves_first at (Return reply) follows = tt
+    leaves_first at (Goto label) follows = refl
 
   -- ---- `close`
-
-  not_there_first : (gone : Bool) (a : Answer) → LetsGoFirst gone (not_there a)
-  not_there_first gone answer.Fenced = tt
-  not_there_first gone _ = tt
-
-  on_done_first : (gone : Bool) (next : Plan) → LetsGoFirst gone next → (a : Answer) → LetsGoFirst gone (on_done next a)
-  on_done_first gone next first answer.Done = first
-  on_done_first gone next first a = not_there_first gone a
 
   looks_before : (gone : Bool) (o : Op) → IsNoLook o → LooksBefore gone o
   looks_before true o none = none
@@ -93,24 +102,20 @@ module _ (s : SiteId) (image : ℕ) where
 
   module _ (site : SiteId) (on : ℕ) where
     unwatching_first : (gone : Bool) → (is_at site on s image ≡ true → gone ≡ true) → LetsGoFirst gone (unwatching site on)
-    unwatching_first gone behind = ((behind, looks_before gone (op.Header on header.Unwatch) tt), λ a. on_done_first gone (Return reply.Done) tt a)
+    unwatching_first gone freed = ((freed, looks_before gone (op.Header on header.Unwatch) tt), λ a. at_done (LetsGoFirst gone) (λ r. tt) (Return reply.Done) tt a)
 
     dropped_first : (a : Answer) → LetsGoFirst (lets_go site (op.Header on header.LockDrop) a s image || false) (on_dropped site on a)
     dropped_first answer.Done =
         let gone : Bool = is_at site on s image || false in
-        ((tt, looks_before gone (released_lock on) tt), λ a. on_done_first gone (unwatching site on) (unwatching_first gone (λ at. or-false (is_at site on s image) ∙ at)) a)
+        ((tt, looks_before gone (released_lock on) tt), λ a. at_done (LetsGoFirst gone) (λ r. tt) (unwatching site on) (unwatching_first gone (λ at. or-false (is_at site on s image) ∙ at)) a)
     dropped_first answer.Changed = unwatching_first (is_at site on s image || false) (λ at. or-false (is_at site on s image) ∙ at)
-    dropped_first a = not_there_first false a
+    dropped_first a = at_not_there (LetsGoFirst false) (λ r. tt) a
 
     joining_first : LetsGoFirst false (joining site on)
     joining_first = (refl, (refl, ((tt, tt), dropped_first)))
 
-  on_id_first : (site : SiteId) (a : Answer) → LetsGoFirst false (on_id (joining site) a)
-  on_id_first site (answer.Id on) = joining_first site on
-  on_id_first site a = not_there_first false a
-
   close_first : (site : SiteId) (name : List ℕ) → LetsGoFirst false (close site name)
-  close_first site name = ((tt, tt), on_id_first site)
+  close_first site name = ((tt, tt), λ a. at_id (LetsGoFirst false) (λ r. tt) (joining site) (joining_first site) a)
 
   -- ---- all commands
 
@@ -118,9 +123,14 @@ module _ (s : SiteId) (image : ℕ) where
     plan : LetsGoFirst false st.plan
     labels : (label : Label) → LetsGoFirst false (st.labels label)
 
-  command_first : (site : SiteId) (st : Standing) → LeavesOrCloses site st → GoesFirst st
-  command_first site st (LeavesAll leaves) = record { plan = leaves_first st.plan leaves.plan; labels = λ label. leaves_first (st.labels label) (leaves.labels label) }
-  command_first site st (IsClose name is) = subst GoesFirst (sym is) (record { plan = close_first site name; labels = λ label. refl })
+  row_first : (c : Command) (st : Standing) → has_none_of lets_some_go (profile c) ≡ true → FollowsFrom (profile c) st → GoesFirst st
+  row_first c st none from =
+      record { plan = leaves_first (profile c) none Outside st.plan from.plan; labels = λ label. leaves_first (profile c) none Outside (st.labels label) (from.labels label) }
+
+  command_first : (seat : Seat) (c : Command) (st : Standing) → IsPlanFor seat c st → GoesFirst st
+  command_first seat (command.Close name) st plan =
+      subst GoesFirst (same_some _ st plan) (record { plan = close_first seat.home name; labels = λ label. refl })
+  command_first seat c st plan = row_first c st refl (command_follows seat c st plan)
 
   -- ---- along a walk
 
@@ -157,7 +167,7 @@ module _ (s : SiteId) (image : ℕ) where
   pub led_first : (seat : Seat) (c : Command) (start : Standing) (feds : List Fed) (steps : List Answered) (last : Plan) → IsPlanFor seat c start → IsWalk start.labels start.plan feds steps last
       → LetsGoFirst (has_let_go s image steps) last
   led_first seat c start feds steps last plan walk =
-      let goes = command_first seat.home start (requests_leave_locks seat c start plan) in
+      let goes = command_first seat c start plan in
       subst (λ b. LetsGoFirst b last) (or-false (has_let_go s image steps)) (first_along start.labels goes.labels false start.plan feds steps last goes.plan walk)
 
   -- ---- once it has let go

@@ -1,6 +1,5 @@
 pub mod Acting
 pub mod Ahead
-pub mod Asking
 pub mod Alive
 pub mod Answered
 pub mod AtSites

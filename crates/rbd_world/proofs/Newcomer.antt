@@ -19,9 +19,9 @@ use Rattle.rbd_machine.specs.Plan.{Standing}
 use Rattle.rbd_machine.specs.Refused.{AreGiven}
 use Rattle.rbd_rely.specs.Beside.{AreBeside}
 use Rattle.rbd_requests.specs.CommandsLawful.{command_is_lawful}
-use Rattle.rbd_requests.specs.Served.{IsPlanFor, is_built}
-use Rattle.rbd_requests.specs.Touched.{extent_of}
-use Rattle.rbd_requests.proofs.OnePlan.{has_one_plan}
+use Rattle.rbd_requests.specs.Plans.{IsPlanFor, is_built}
+use Rattle.rbd_requests.specs.Profile.{changed_extent}
+use Rattle.rbd_requests.proofs.Plans.{has_plan}
 use Rattle.rbd_session.specs.declared.running.Occupant.{Occupant}
 use Rattle.rbd_session.specs.declared.running.Occupant.TheVariants as occupant
 use Rattle.rbd_session.specs.Lines.{LinesView, lines_of}
@@ -98,7 +98,7 @@ module _ {R : Type 0} (stands : R → Standing) (old new : WorldView R) (w : IsS
   -- ---- what its slot holds
 
   abbrev IsNew : Option (Occupant R) → Type 0
-  IsNew = IsNewcomer stands IsPlanFor extent_of seat line command
+  IsNew = IsNewcomer stands IsPlanFor changed_extent seat line command
 
   abbrev opened : (l : ℕ) → l ≡ line → IsOpen l (does_begin ∷ w.told.run)
   opened l same = record {
@@ -110,7 +110,7 @@ module _ {R : Type 0} (stands : R → Standing) (old new : WorldView R) (w : IsS
   holds_rightly : (o : Option (Occupant R)) → IsNew o → IsHeldRightly stands seat me (does_begin ∷ w.told.run) o
   holds_rightly None is = absurd is
   holds_rightly (Some (occupant.Refused number refusal)) (same, ends) =
-      let one = has_one_plan seat command built in
+      let one = has_plan seat command built in
       record {
         begun = opened number same;
         mine = refl;
@@ -167,7 +167,7 @@ module _ {R : Type 0} (stands : R → Standing) (old new : WorldView R) (w : IsS
   knows_in lines (Some (occupant.Refused number refusal)) is = knows_nothing
   knows_in lines (Some (occupant.Running r)) begins =
       subst (KnowsIn stands lowest (Some r) lines) (sym knows_nothing)
-      (newcomer_knows stands IsPlanFor extent_of (λ work. Unit {0}) (λ at work s served is. command_is_lawful at work s is) seat line lowest command r lines tt begins)
+      (newcomer_knows stands IsPlanFor changed_extent (λ work. Unit {0}) (λ at work s served is. command_is_lawful at work s is) seat line lowest command r lines tt begins)
 
   line_of_new : (o : Option (Occupant R)) (other : ℕ) → IsNew o → script_line o ≡ Some other → line ≡ other
   line_of_new None other is at_line = absurd is
@@ -187,8 +187,8 @@ module _ {R : Type 0} (stands : R → Standing) (old new : WorldView R) (w : IsS
 
     is_new : IsNew (held_in lowest d.session.slots)
     is_new =
-        subst (λ n. IsNewcomer stands IsPlanFor extent_of (seat_of_home n home) line command (held_in lowest d.session.slots)) living.whose
-        (subst (λ s. IsNewcomer stands IsPlanFor extent_of (seat_of_home c.session.instance.session s) line command (held_in lowest d.session.slots)) living.at_home begins.held)
+        subst (λ n. IsNewcomer stands IsPlanFor changed_extent (seat_of_home n home) line command (held_in lowest d.session.slots)) living.whose
+        (subst (λ s. IsNewcomer stands IsPlanFor changed_extent (seat_of_home c.session.instance.session s) line command (held_in lowest d.session.slots)) living.at_home begins.held)
 
     abbrev Where : (m x : ℕ) → Type 0
     Where m x = ((m ≡ session) × (x ≡ lowest)) ⊎ IsElsewhere session lowest m x

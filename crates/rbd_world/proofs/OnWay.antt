@@ -44,13 +44,14 @@ use Rattle.rbd_world.proofs.Quiet.{IsQuiet, quiet_did, underway_still, learned_s
 use Rattle.rbd_world.proofs.RefusedOnWay.{refused_on_way}
 use Rattle.rbd_world.proofs.Slots.{in_this_slot, not_open, open_back, other_slots}
 use Rattle.rbd_world.proofs.Closing.{gone_beside, let_go_runs, line_whose, takes_own}
-use Rattle.rbd_world.proofs.StaysFirst.{ended_may, stands_still}
+use Rattle.rbd_world.proofs.StaysFirst.{stands_still}
 use Rattle.rbd_world.proofs.Watching.{counts_fed, others_end_none, takes_behind_watch, way_ends_none, way_watched}
 use Rattle.rbd_world.proofs.Ways.{asks_next, way_acts, way_goes_on, way_refused}
 use Rattle.rbd_world.specs.Closes.{StandsFirst, StandsFirstIf, has_let_go}
 use Rattle.rbd_session.specs.Lines.{lines_of}
 use Rattle.rbd_session.specs.Track.{Lines}
 use Rattle.rbd_session.specs.Advance.{track_of}
+use Rattle.rbd_session.proofs.OwnLooksStay.{ended_may}
 use Rattle.rbd_line.specs.Line.{may_pass}
 use Rattle.rbd_owner.specs.Steps.{lock_take}
 

@@ -9,9 +9,9 @@ use Rattle.rbd_kinds.specs.declared.id.SiteId.{SiteId}
 use Rattle.rbd_line.specs.Line.{ahead, is_member}
 use Rattle.rbd_machine.specs.Plan.{Standing}
 use Rattle.rbd_machine.specs.declared.seat.Seat.{Seat}
-use Rattle.rbd_requests.specs.Served.{IsPlanFor}
+use Rattle.rbd_requests.specs.Plans.{IsPlanFor}
 use Rattle.rbd_requests.proofs.InLine.{changes_in_line}
-use Rattle.rbd_requests.specs.Touched.{extent_of}
+use Rattle.rbd_requests.specs.Profile.{changed_extent}
 use Rattle.rbd_session.specs.declared.running.Running.{Running}
 use Rattle.rbd_session.specs.Lines.{LinesView, lines_of}
 use Rattle.rbd_session.specs.Session.{SessionView, BeginsAt, IsSoundSession, running_at, running_in}
@@ -24,7 +24,7 @@ use Rattle.rbd_world.proofs.Changed.{same_or_other}
 use Rattle.rbd_world.proofs.FoundFirst.{found_has, never_found}
 
 module _ {R : Type 0} (stands : R → Standing) (seat : Seat) (who : Instance) (slot line : ℕ) (command : Command) (run : List Happening) (c d : SessionView R) (r : Running R)
-    (sound : IsSoundSession stands c) (free : running_at slot c ≡ None) (runs : running_at slot d ≡ Some r) (begins : BeginsAt stands IsPlanFor extent_of seat line command r)
+    (sound : IsSoundSession stands c) (free : running_at slot c ≡ None) (runs : running_at slot d ≡ Some r) (begins : BeginsAt stands IsPlanFor changed_extent seat line command r)
     (slots : AreSlotsBut slot c d) (lines : d.lines ≡ c.lines) (none : steps_of line run ≡ []) (asked : Asked) (asks : asked_by line run ≡ Some asked) (its : asked.command ≡ command)
     (old : IsInOrder stands seat.home who run c) where
   data Where (x : ℕ) (q : Running R) : Type 0 where
@@ -62,12 +62,12 @@ module _ {R : Type 0} (stands : R → Standing) (seat : Seat) (who : Instance) (
     past = λ x q is writes other writer s image number earlier written. past_of x q writes other writer s image number earlier written (where_is x q is);
   }
     where
-      extents_of : (x : ℕ) (q : Running R) (asked_then : Asked) → asked_by q.line run ≡ Some asked_then → Where x q → q.extent ≡ extent_of asked_then.command
+      extents_of : (x : ℕ) (q : Running R) (asked_then : Asked) → asked_by q.line run ≡ Some asked_then → Where x q → q.extent ≡ changed_extent asked_then.command
       extents_of x q asked_then asks_then (Other there) = old.extents x q there asked_then asks_then
       extents_of x q asked_then asks_then (Here at same) =
           let same_asked : asked ≡ asked_then =
           same_Some asked asked_then (sym asks ∙ sym (ap (λ (p : Running R). asked_by p.line run) same ∙ ap (λ l. asked_by l run) begins.is_line) ∙ asks_then) in
-          ap (λ (p : Running R). p.extent) same ∙ begins.extent ∙ ap extent_of (sym its ∙ ap (λ (a : Asked). a.command) same_asked)
+          ap (λ (p : Running R). p.extent) same ∙ begins.extent ∙ ap changed_extent (sym its ∙ ap (λ (a : Asked). a.command) same_asked)
 
       comes_of : (x : ℕ) (q : Running R) → IsSome q.extent → Where x q → (IsBeforeFinding stands seat.home run q) ⊎ (IsBehindFinding stands run q)
       comes_of x q writes (Other there) = old.comes x q there writes

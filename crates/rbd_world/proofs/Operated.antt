@@ -28,6 +28,7 @@ use Rattle.rbd_session.specs.declared.running.Running.{Running}
 use Rattle.rbd_session.specs.Advance.{track_of}
 use Rattle.rbd_session.specs.Session.{ComesToIn, OfRunning, going_in, held_in, of_going, op_asked, own_look_at, running_at, running_in, script_line}
 use Rattle.rbd_session.specs.Waits.{waits}
+use Rattle.rbd_session.proofs.OwnLooksStay.{feeding_may}
 use Rattle.rbd_site.specs.declared.done.DoneOp.TheVariants as done
 use Rattle.rbd_site.specs.Step.{answer_to}
 use Rattle.rbd_stands.specs.Effect.{effect_of}
@@ -51,7 +52,7 @@ use Rattle.rbd_world.proofs.Owes.{own_owes}
 use Rattle.rbd_world.proofs.Quiet.{IsQuiet, quiet_did}
 use Rattle.rbd_world.proofs.Slots.{in_this_slot, not_open, open_back, other_slots}
 use Rattle.rbd_world.proofs.Closing.{first_behind, ways_spared}
-use Rattle.rbd_world.proofs.StaysFirst.{drops_first, feeding_may, stands_still}
+use Rattle.rbd_world.proofs.StaysFirst.{drops_first, stands_still}
 use Rattle.rbd_world.proofs.Unowned.{lets_go_image, lets_go_there}
 use Rattle.rbd_world.proofs.Watching.{counts_fed, ends_own_is, others_end_none}
 use Rattle.rbd_world.proofs.Ways.{goes_on_itself, way_is_over}
@@ -210,7 +211,7 @@ module _ {R : Type 0} (stands : R → Standing) (old new : WorldView R) (w : IsS
         let here : t ≡ s = same_site_is t s (lets_go_there s o a t i lets) in
         let is : o ≡ lock_drop i = lets_go_image s o a i (subst (λ u. lets_go s o a u i ≡ true) here lets) in
         subst (λ u. StandsFirst slot (lines_of c.session.lines u i)) (sym here)
-        (drops_first stands c living.sound (known_in w.knows session) living.know slot s i o (sym (ap (op_by stands slot c.session) acts) ∙ wanted)
+        (drops_first stands c living.sound (known_in w.knows session) living.know slot s i (sym (ap (op_by stands slot c.session) acts) ∙ wanted ∙ ap (λ q. Some (s, q)) is)
         (subst (λ q. Permits (known_in w.knows session slot) s q) is (subst (λ m. Permits (known_to (known_in w.knows session slot) m) s o) acts (permits stands old new w session slot c there s o wanted))))
 
     first_then : (n : Option (Occupant R)) → ComesToIn stands slot c.session.lines (fed.Answer a) result r n d.session.lines → StandsFirstIf (does_it ∷ w.told.run) slot d.session.lines (running_in n)
@@ -226,7 +227,7 @@ module _ {R : Type 0} (stands : R → Standing) (old new : WorldView R) (w : IsS
     stays_first : (x : ℕ) → x ≢ slot → (t : SiteId) (i : ℕ) → StandsFirst x (lines_of c.session.lines t i) → StandsFirst x (lines_of d.session.lines t i)
     stays_first x apart t i first =
         stands_still x (lines_of c.session.lines t i) (lines_of d.session.lines t i) (became.others x apart t i)
-        (feeding_may x slot (λ same. apart (sym same)) stands c.session.lines d.session.lines (fed.Answer a) result r (held_in slot d.session.slots) comes t i) first
+        (feeding_may x slot (λ same. apart (sym same)) stands t i c.session.lines d.session.lines (fed.Answer a) result r (held_in slot d.session.slots) comes) first
 
     living_then : IsLiving stands home session (does_it ∷ w.told.run) (knows_now stands old new w session slot c there s o wanted (Itself r.line) result d became at_sites sound_then) d
     living_then =

@@ -22,7 +22,7 @@ use Rattle.rbd_machine.specs.Plan.{Plan, Ask, IsAsking, Standing}
 use Rattle.rbd_machine.specs.Steps.{on_id}
 use Rattle.rbd_machine.specs.Wait as wait
 use Rattle.rbd_machine.specs.declared.reason.Reason.{Reason}
-use Rattle.rbd_requests.specs.Touched.{extent_of}
+use Rattle.rbd_requests.specs.Profile.{changed_extent}
 use Rattle.rbd_kinds.specs.declared.image_at.ImageAt.{ImageAt}
 use Rattle.rbd_kinds.proofs.Images.{same_site_itself}
 use Rattle.rbd_session.specs.declared.running.Running.{Running}
@@ -441,7 +441,7 @@ module _ {R : Type 0} (stands : R → Standing) (homes : ℕ → SiteId) (home :
       past = λ x q is writes other writer t i n earlier written. past_then x q writes other writer t i n earlier (where_is x q is) written;
     }
       where
-        extents_then : (x : ℕ) (q : Running R) (asked : Asked) → asked_by q.line rn ≡ Some asked → Where x q → q.extent ≡ extent_of asked.command
+        extents_then : (x : ℕ) (q : Running R) (asked : Asked) → asked_by q.line rn ≡ Some asked → Where x q → q.extent ≡ changed_extent asked.command
         extents_then x q asked is (Other differ one) = old.extents x q one asked is
         extents_then x q asked is (Here same further) = further.extent ∙ old.extents slot r runs asked (sym (ap (λ l. asked_by l rn) further.line) ∙ is)
 

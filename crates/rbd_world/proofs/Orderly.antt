@@ -10,9 +10,8 @@ use Rattle.rbd_session.specs.Advance.{IsSameStand}
 use Rattle.rbd_session.specs.Lines.{lines_of}
 use Rattle.rbd_session.specs.Session.{SessionView, running_at}
 use Rattle.rbd_world.specs.InLine.{IsPastWithout}
-use Rattle.rbd_requests.specs.InLine.{KeepsTo}
+use Rattle.rbd_requests.specs.InLine.{KeepsTo, ChangesInLine}
 use Rattle.rbd_world.specs.Order.{IsBeforeFinding, IsBehindFinding, IsInOrder, IsWriterOf, found_before, has_found, has_written, writes_in}
-use Rattle.rbd_requests.specs.InLine.{ChangesInLine}
 use Rattle.rbd_world.specs.Run.{Happening, asked_by, or_asked, steps_in}
 use Rattle.rbd_world.specs.Sound.{IsDue, IsRight}
 use Rattle.rbd_world.proofs.FoundFirst.{finds_nothing, found_earlier, writes_nothing, wrote_was}

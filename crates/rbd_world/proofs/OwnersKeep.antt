@@ -30,7 +30,7 @@ use Rattle.rbd_world.specs.Run.{Doer, Itself, OnWay, House, AfterStop, Happening
 use Rattle.rbd_world.specs.Sound.{IsDone, IsDue, IsNextOf, IsOf, IsRight, RecallsBy}
 use Rattle.rbd_world.specs.Watched.{TakesBehindWatch, ends_it, ends_own, ends_watch, expires, has_watched, is_watch, keeps_watch, unwatches_by, watch_expired, watches_by}
 use Rattle.rbd_world.specs.Ways.{IsNextOfRelease}
-use Rattle.rbd_world.proofs.Asking.{TakesNoLock}
+use Rattle.rbd_requests.specs.Follows.{TakesNoLock}
 use Rattle.rbd_world.proofs.OwnersWatch.{Takes, owned_before, owner_at, owner_of}
 use Rattle.rbd_world.proofs.Runs.{done_of}
 use Rattle.rbd_world.proofs.Sent.{sent_rightly}

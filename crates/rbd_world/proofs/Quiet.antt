@@ -8,14 +8,14 @@ use Rattle.rbd_kinds.specs.declared.id.SiteId.{SiteId}
 use Rattle.rbd_kinds.specs.declared.notice.Notice.{Notice}
 use Rattle.rbd_kinds.specs.declared.operation.Op.{Op}
 use Rattle.rbd_kinds.specs.declared.reply.Reply.{Reply}
-use Rattle.rbd_known.specs.Calm.{is_change}
+use Rattle.rbd_requests.specs.Profile.{joins_a_line, profile}
 use Rattle.rbd_machine.specs.Knowledge.{Knowledge}
 use Rattle.rbd_machine.specs.Path.{IsWalk}
 use Rattle.rbd_machine.specs.Plan.{Standing}
 use Rattle.rbd_machine.specs.Refused.{AreGiven}
 use Rattle.rbd_machine.specs.Standalone.{TellAllStandalone}
 use Rattle.rbd_machine.specs.declared.seat.Seat.{Seat}
-use Rattle.rbd_requests.specs.Served.{IsPlanFor}
+use Rattle.rbd_requests.specs.Plans.{IsPlanFor}
 use Rattle.rbd_session.specs.declared.running.Occupant.{Occupant}
 use Rattle.rbd_session.specs.declared.running.Occupant.TheVariants as occupant
 use Rattle.rbd_session.specs.declared.running.Running.{Running}
@@ -114,7 +114,7 @@ module _ {R : Type 0} (stands : R → Standing) (seat : Seat) (who : Instance) (
     walk = subst (λ xs. IsWalk way.start.labels way.start.plan way.feds xs (stands r.request).plan) (sym steps) way.walk;
     given = subst AreGiven (sym steps) way.given;
     standalone = subst TellAllStandalone (sym steps) way.standalone;
-    calm = λ looks. way.calm (sym (ap (λ (a : Asked). is_change a.command) same) ∙ looks);
+    calm = λ looks. way.calm (sym (ap (λ (a : Asked). joins_a_line (profile a.command)) same) ∙ looks);
   }
 
   pub underway_on : (r : Running R) → IsQuiet r.line h → IsUnderWay stands seat who run r → IsUnderWay stands seat who (h ∷ run) r

@@ -14,10 +14,11 @@ use Rattle.rbd_kinds.specs.declared.journal_op.JournalOp.TheVariants as journal
 use Rattle.rbd_kinds.specs.declared.header_op.HeaderOp.TheVariants as header
 use Rattle.rbd_kinds.specs.declared.id.Instance.{Instance}
 use Rattle.rbd_kinds.specs.declared.id.SiteId.{SiteId}
+use Rattle.rbd_kinds.specs.declared.image_at.ImageAt.{ImageAt}
 use Rattle.rbd_kinds.specs.declared.machine.Fed.TheVariants as fed
 use Rattle.rbd_kinds.specs.declared.operation.Op.TheVariants as op
 use Rattle.rbd_kinds.specs.declared.reply.Reply.{Reply}
-use Rattle.rbd_known.specs.Calm.{is_change}
+use Rattle.rbd_requests.specs.Profile.{joins_a_line, profile}
 use Rattle.rbd_known.proofs.NoReads.{changes_are_no_reads}
 use Rattle.rbd_machine.specs.Answers.{CanGive, gives}
 use Rattle.rbd_machine.specs.Knowledge.{same_site}
@@ -27,6 +28,7 @@ use Rattle.rbd_machine.specs.Plan.{Plan, Ask, Await, Note, Return, Goto, Standin
 use Rattle.rbd_machine.specs.Refused.{IsGiven}
 use Rattle.rbd_machine.specs.Steps.{EndsIt, not_there}
 use Rattle.rbd_machine.specs.declared.reason.Reason.{Reason}
+use Rattle.rbd_machine.specs.declared.seat.Seat.{Seat}
 use Rattle.rbd_meaning.specs.Meant.{IsMeantBy}
 use Rattle.rbd_owner.specs.Acquire.{asking, fencing, op_at, op_of, rest_at}
 use Rattle.rbd_owner.specs.Steps.{is_among}
@@ -136,6 +138,15 @@ ends_alone answer.Absent ends = tt
 ends_alone answer.Fenced ends = tt
 ends_alone _ ends = absurd ends
 
+-- who has a place in a line is no read
+pub reads_not : {R : Type 0} (stands : R → Standing) (seat : Seat) (who : Instance) (run : List Happening) (r : Running R) (way : IsUnderWay stands seat who run r) (p : ImageAt) → r.place ≡ Some p
+    → is_read way.begun.asked.command ≡ false
+reads_not stands seat who run r way p place = by (joins_a_line (profile way.begun.asked.command)) refl
+  where
+    by : (b : Bool) → joins_a_line (profile way.begun.asked.command) ≡ b → is_read way.begun.asked.command ≡ false
+    by true is = changes_are_no_reads way.begun.asked.command is
+    by false is = absurd (none-some p (sym (way.calm is).1 ∙ place))
+
 module _ {R : Type 0} (stands : R → Standing) (homes : ℕ → SiteId) (session slot : ℕ) (run : List Happening) (me : Instance) (whose : me.session ≡ session) (c : SessionView R) (r : Running R)
     (runs : running_at slot c ≡ Some r) (way : IsUnderWay stands (seat_at homes session) me run r) (a : Acquire) (waiting : WaitsForLook stands slot a.site a.image c)
     (o : Operation) (site_is : o.site ≡ a.site) (can : CanGive (op_of a) o.answer) (reply : Reply) (ends : reply_on_way a o.answer ≡ Some reply) where
@@ -154,12 +165,8 @@ module _ {R : Type 0} (stands : R → Standing) (homes : ℕ → SiteId) (sessio
   look : LooksAt a.site (stands r.request).plan
   look = looks_at a.site (stands r.request).plan wants_look
 
-  reads_not : is_read command_is ≡ false
-  reads_not = by (is_change command_is) refl
-    where
-      by : (b : Bool) → is_change command_is ≡ b → is_read command_is ≡ false
-      by true is = changes_are_no_reads command_is is
-      by false is = absurd (none-some _ (sym (way.calm is).1 ∙ ap (λ (q : Running R). q.place) (sym same) ∙ waiting.place))
+  is_no_read : is_read command_is ≡ false
+  is_no_read = reads_not stands (seat_at homes session) me run r way _ (ap (λ (q : Running R). q.place) (sym same) ∙ waiting.place)
 
   session_is : way.begun.asked.who.session ≡ session
   session_is = ap (λ (i : Instance). i.session) way.mine ∙ whose
@@ -173,7 +180,7 @@ module _ {R : Type 0} (stands : R → Standing) (homes : ℕ → SiteId) (sessio
   ends_look : at_operation way.start.labels (look.next o.answer) ≡ Return reply
   ends_look =
       ends_there way.start.labels (look.next o.answer) reply
-      (looks_refuse (seat_at homes session) command_is way.start way.feds (steps_of r.line run) a.site look.why look.image look.next o.answer way.plan reads_not walks_there ended.tells ∙ ended.refuses)
+      (looks_refuse (seat_at homes session) command_is way.start way.feds (steps_of r.line run) a.site look.why look.image look.next o.answer way.plan is_no_read walks_there ended.tells ∙ ended.refuses)
 
   meant_there : IsMeantBy (seat_at homes session) command_is (steps_of r.line run ++ look_answered a.site look.image o.answer ∷ []) reply
   meant_there =

@@ -21,8 +21,8 @@ use Rattle.rbd_kinds.specs.declared.notice.Notice.{Notice}
 use Rattle.rbd_kinds.specs.declared.operation.Op.{Op}
 use Rattle.rbd_kinds.specs.declared.reply.Reply.{Reply}
 use Rattle.rbd_machine.specs.Plan.{Standing}
-use Rattle.rbd_requests.specs.Served.{IsPlanFor}
-use Rattle.rbd_requests.specs.Touched.{extent_of}
+use Rattle.rbd_requests.specs.Plans.{IsPlanFor}
+use Rattle.rbd_requests.specs.Profile.{changed_extent}
 use Rattle.rbd_session.specs.declared.running.Occupant.{Occupant}
 use Rattle.rbd_session.specs.declared.running.Occupant.TheVariants as occupant
 use Rattle.rbd_session.specs.declared.running.Running.{Running}
@@ -164,7 +164,7 @@ module _ {R : Type 0} (stands : R → Standing) where
   begins_seen : (line : ℕ) (c : Command) (old new : ClientView R) → BeginsIn stands line c old new → BeginsIn as_is line c (seen stands old) (seen stands new)
   begins_seen line c old new is = record {
     begins = record {
-      held = newcomer_seen stands IsPlanFor extent_of (seat_of old.session) line c old.session.lowest new.session.slots is.begins.held;
+      held = newcomer_seen stands IsPlanFor changed_extent (seat_of old.session) line c old.session.lowest new.session.slots is.begins.held;
       slots = slots_seen old.session.lowest old.session new.session is.begins.slots;
       lines = is.begins.lines;
       client = same_client_seen old.session new.session is.begins.client;

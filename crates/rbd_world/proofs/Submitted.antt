@@ -6,9 +6,9 @@ use Rattle.rbd_commands.specs.declared.command.Command.{Command}
 use Rattle.rbd_commands.specs.declared.quiescing.Quiescing.{Quiescing}
 use Rattle.rbd_commands.specs.Quiescing.{quiescing_of}
 use Rattle.rbd_requests.specs.declared.request.SessionRequest.{SessionRequest}
-use Rattle.rbd_requests.specs.Served.{IsPlanFor}
+use Rattle.rbd_requests.specs.Plans.{IsPlanFor}
 use Rattle.rbd_requests.specs.Session.{stands_of}
-use Rattle.rbd_requests.specs.Touched.{extent_of}
+use Rattle.rbd_requests.specs.Profile.{changed_extent}
 use Rattle.rbd_session.specs.Session.{IsNewcomer, held_in, seat_of}
 use Rattle.rbd_world.specs.declared.event.Event.TheVariants as event
 use Rattle.rbd_world.specs.Run.{Nothing, Began}
@@ -16,7 +16,7 @@ use Rattle.rbd_world.specs.Step.{Becomes, begins_of, submitted}
 
 -- a command that a client took begins in the world
 pub begins : (session line : ℕ) (c copy : Command) → copy ≡ c → (begun : Bool) → begun ≡ false → (old new : ClientView SessionRequest) → nat_lt 64 old.session.lowest ≡ false
-    → IsNewcomer stands_of IsPlanFor extent_of (seat_of old.session) line copy (held_in old.session.lowest new.session.slots)
+    → IsNewcomer stands_of IsPlanFor changed_extent (seat_of old.session) line copy (held_in old.session.lowest new.session.slots)
     → (q : Quiescing) → q ≡ quiescing_of c → state_in old.session.lowest new.slots ≡ newcomer q
     → ((slot : ℕ) → slot ≢ old.session.lowest → (held_in slot new.session.slots ≡ held_in slot old.session.slots) × (state_in slot new.slots ≡ state_in slot old.slots))
     → new.session.lines ≡ old.session.lines
@@ -26,7 +26,7 @@ begins session line c copy same begun first old new room held q q_is state other
     subst (λ b. Becomes stands_of (event.Submit session line c) (cond b Nothing (Began (begins_of old.session.instance line c) old.session.lowest)) old new) (sym (ap (λ f. f || nat_lt 64 old.session.lowest) first ∙ room))
     (record {
       begins = record {
-        held = subst (λ w. IsNewcomer stands_of IsPlanFor extent_of (seat_of old.session) line w (held_in old.session.lowest new.session.slots)) same held;
+        held = subst (λ w. IsNewcomer stands_of IsPlanFor changed_extent (seat_of old.session) line w (held_in old.session.lowest new.session.slots)) same held;
         slots = λ slot apart. (others slot apart).0;
         lines = lines;
         client = record { instance = rest.0; home = rest.1 };

@@ -1,6 +1,6 @@
 -- No command takes a lock by an operation of its own: that is done on a way to it. So whatever a
 -- slot wants takes one only behind a watch.
-use Rattle.std.proofs.Common.{◌≡◌, ℕ, List, [], ◌∷◌, Some, refl, sym, subst}
+use Rattle.std.proofs.Common.{◌≡◌, ℕ, List, Some, refl, subst}
 use Rattle.std.proofs.lemmas.Option.{none-some, same_Some}
 use Rattle.rbd_client.specs.declared.actor.Actor.{Actor}
 use Rattle.rbd_client.specs.declared.actor.Actor.TheVariants as actor
@@ -11,52 +11,34 @@ use Rattle.rbd_kinds.specs.declared.answer.Answer.{Answer}
 use Rattle.rbd_kinds.specs.declared.id.Instance.{Instance}
 use Rattle.rbd_kinds.specs.declared.id.SiteId.{SiteId}
 use Rattle.rbd_kinds.specs.declared.machine.Fed.{Fed}
-use Rattle.rbd_kinds.specs.declared.machine.Fed.TheVariants as fed
 use Rattle.rbd_kinds.specs.declared.operation.Op.{Op}
 use Rattle.rbd_known.proofs.Wanting.{Wants, wants}
-use Rattle.rbd_machine.specs.Label.{Label}
 use Rattle.rbd_machine.specs.Path.{Answered, IsWalk}
-use Rattle.rbd_machine.specs.Plan.{Plan, Ask, Await, Note, Return, Goto, Standing, settled}
+use Rattle.rbd_machine.specs.Plan.{Plan, Ask, Standing}
 use Rattle.rbd_machine.specs.declared.reason.Reason.{Reason}
 use Rattle.rbd_machine.specs.declared.seat.Seat.{Seat}
 use Rattle.rbd_owner.specs.Release.{release_op, release_op_at}
 use Rattle.rbd_owner.specs.declared.release.Release.{Release}
 use Rattle.rbd_owner.specs.declared.release.Stage.{Stage}
 use Rattle.rbd_owner.specs.declared.release.Stage.TheVariants as stage
-use Rattle.rbd_requests.specs.Served.{IsPlanFor}
+use Rattle.rbd_requests.specs.Follows.{TakesNoLock}
+use Rattle.rbd_requests.specs.Profile.{profile}
+use Rattle.rbd_requests.proofs.Consequences.{comes_to}
+use Rattle.rbd_requests.proofs.FollowsAll.{command_follows}
+use Rattle.rbd_requests.specs.Plans.{IsPlanFor}
 use Rattle.rbd_session.specs.Session.{held_in}
 use Rattle.rbd_world.specs.Run.{Happening}
 use Rattle.rbd_world.specs.Sound.{IsHeldRightly, IsUnderWay}
 use Rattle.rbd_world.specs.Watched.{CountsItsWatches, TakesBehindWatch}
-use Rattle.rbd_world.proofs.Asking.{AsksOnly, TakesNoLock, requests_take_no_lock}
 use Rattle.rbd_world.proofs.Watching.{takes_behind_watch, way_watched}
 
--- ---- along a walk
-
-module _ (May : Op → Type 0) (labels : Label → Plan) (there : (label : Label) → AsksOnly May (labels label)) where
-  only_settled : (plan : Plan) → AsksOnly May plan → AsksOnly May (settled labels plan)
-  only_settled (Goto label) only = there label
-  only_settled (Ask site why o next) only = only
-  only_settled (Await wait next) only = only
-  only_settled (Note site image event next) only = only
-  only_settled (Return reply) only = only
-
-  pub only_along : (plan : Plan) (feds : List Fed) (steps : List Answered) (last : Plan) → AsksOnly May plan → IsWalk labels plan feds steps last → AsksOnly May last
-  only_along plan [] steps last only walk = subst (AsksOnly May) (sym walk.1) only
-  only_along (Ask site why o next) (fed.Answer a ∷ more) steps last only walk = only_along (settled labels (next a)) more walk.0.rest last (only_settled (next a) (only.1 a)) walk.1
-  only_along (Ask site why o next) (fed.Passed ∷ more) steps last only walk = absurd walk
-  only_along (Await wait next) (fed.Passed ∷ more) steps last only walk = only_along (settled labels next) more steps last (only_settled next only) walk
-  only_along (Await wait next) (fed.Answer a ∷ more) steps last only walk = absurd walk
-  only_along (Note site image event next) (fed.Passed ∷ more) steps last only walk = only_along (settled labels next) more steps last (only_settled next only) walk
-  only_along (Note site image event next) (fed.Answer a ∷ more) steps last only walk = absurd walk
-  only_along (Return reply) (f ∷ more) steps last only walk = absurd walk
-  only_along (Goto label) (f ∷ more) steps last only walk = absurd walk
+-- ---- a request
 
 -- what a walk of a command asks for takes no lock
 pub walks_take_none : (seat : Seat) (c : Command) (start : Standing) (feds : List Fed) (steps : List Answered) (s : SiteId) (why : Reason) (o : Op) (next : Answer → Plan) → IsPlanFor seat c start
     → IsWalk start.labels start.plan feds steps (Ask s why o next) → TakesNoLock o
 walks_take_none seat c start feds steps s why o next plan walk =
-    let does = requests_take_no_lock seat c start plan in (only_along TakesNoLock start.labels does.labels start.plan feds steps (Ask s why o next) does.plan walk).0
+    (comes_to (profile c) start (command_follows seat c start plan) feds steps (Ask s why o next) walk).is.0.own
 
 pub none_behind_watch : (who : Instance) (s : SiteId) (o : Op) (run : List Happening) → TakesNoLock o → TakesBehindWatch who s o run
 none_behind_watch who s o run none image is = absurd (subst TakesNoLock is none)

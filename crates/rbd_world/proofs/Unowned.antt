@@ -23,12 +23,13 @@ use Rattle.rbd_kinds.proofs.Images.{at_itself, same_site_is, same_site_itself}
 use Rattle.rbd_kinds.proofs.Instances.{same_instance_itself}
 use Rattle.rbd_machine.specs.Path.{Answered, IsWalk}
 use Rattle.rbd_machine.specs.Plan.{Ask, Return}
-use Rattle.rbd_owner.specs.Acquire.{acquire, again, asking, breaking, fencing, lock_labels, on_broken, on_taken, on_watchers, taking}
+use Rattle.rbd_owner.specs.Acquire.{acquire, lock_labels}
 use Rattle.rbd_owner.specs.Release.{release_op, release_op_at}
-use Rattle.rbd_owner.specs.Steps.{is_among, lock_take}
+use Rattle.rbd_owner.specs.Steps.{lock_take}
 use Rattle.rbd_owner.specs.declared.release.Release.{Release}
 use Rattle.rbd_owner.specs.declared.release.Stage.{Stage}
 use Rattle.rbd_owner.specs.declared.release.Stage.TheVariants as stage
+use Rattle.rbd_owner.proofs.Ordered.{ordered_acquire, ordered_walk}
 use Rattle.rbd_site.specs.HeaderStep.{header_after, is_owner}
 use Rattle.rbd_site.specs.Records.{Records}
 use Rattle.rbd_site.specs.Step.{after, after_served, answer_served, answer_to, is_fenced}
@@ -38,12 +39,12 @@ use Rattle.rbd_world.specs.Run.{Asked, Doer, Itself, OnWay, House, AfterStop, Ha
 use Rattle.rbd_world.specs.Sound.{IsDone, IsNextOf, IsOf, IsOpen, IsRight, IsRunning, RecallsBy, has_ended}
 use Rattle.rbd_world.specs.Ways.{IsNextOfRelease}
 use Rattle.rbd_world.proofs.Alive.{open_is_running}
-use Rattle.rbd_world.proofs.Asking.{AsksOnly, TakesNoLock, only_not_there, only_on_done}
+use Rattle.rbd_requests.specs.Follows.{TakesNoLock}
 use Rattle.rbd_world.proofs.LetsGoFirst.{led_first}
 use Rattle.rbd_world.proofs.OwnersWatch.{Takes, none_taken, owned_before, owner_at, owner_of, takes_did}
 use Rattle.rbd_world.proofs.Runs.{done_of, unheard}
 use Rattle.rbd_world.proofs.Sent.{sent_rightly, sent_stopped}
-use Rattle.rbd_world.proofs.TakesNone.{only_along, release_takes_none, walks_take_none}
+use Rattle.rbd_world.proofs.TakesNone.{release_takes_none, walks_take_none}
 
 -- ---- a lock that was let go
 
@@ -213,38 +214,6 @@ abbrev pub EndsNoWatch : Op → Type 0
 EndsNoWatch (op.Header image header.Unwatch) = ⊥
 EndsNoWatch o = Unit {0}
 
-module _ (site : SiteId) (image : ℕ) where
-  broken_keeps : (a : Answer) → AsksOnly EndsNoWatch (on_broken a)
-  broken_keeps answer.Done = tt
-  broken_keeps answer.Changed = tt
-  broken_keeps a = only_not_there EndsNoWatch a
-
-  asked_keeps : AsksOnly EndsNoWatch (asking site image)
-  asked_keeps = (tt, λ a. only_on_done EndsNoWatch again tt a)
-
-  fencing_keeps : (owner : Instance) → AsksOnly EndsNoWatch (fencing site image owner)
-  fencing_keeps owner = (tt, λ a. only_on_done EndsNoWatch (breaking site image owner) (tt, broken_keeps) a)
-
-  watchers_keep : (owner : Instance) (a : Answer) → AsksOnly EndsNoWatch (on_watchers site image owner a)
-  watchers_keep owner (answer.Instances watchers) = by (is_among watchers owner)
-    where
-      by : (b : Bool) → AsksOnly EndsNoWatch (cond b (asking site image) (fencing site image owner))
-      by true = asked_keeps
-      by false = fencing_keeps owner
-  watchers_keep owner a = only_not_there EndsNoWatch a
-
-  taken_keeps : (a : Answer) → AsksOnly EndsNoWatch (on_taken site image (Return reply.Done) a)
-  taken_keeps answer.Done = tt
-  taken_keeps (answer.Held owner) = (tt, watchers_keep owner)
-  taken_keeps a = only_not_there EndsNoWatch a
-
-  taking_keeps : AsksOnly EndsNoWatch (taking site image (Return reply.Done))
-  taking_keeps = (tt, taken_keeps)
-
-  way_keeps : (watched : Bool) → AsksOnly EndsNoWatch (acquire site image watched (Return reply.Done))
-  way_keeps true = taking_keeps
-  way_keeps false = (tt, λ a. only_on_done EndsNoWatch (taking site image (Return reply.Done)) taking_keeps a)
-
 pub release_keeps_watch : (x : Release) → EndsNoWatch (release_op x)
 release_keeps_watch x = by x.stage
   where
@@ -267,10 +236,9 @@ unwatches_unowned homes o told run image right unwatches owns = by o.by done.nex
         open_unowned homes line o.site image run right.2 recalls.begun (first.0.0 (at_itself o.site image)) (owns ∙ ap Some (whose recalls.begun.asked recalls.begun.is))
     by (OnWay line) next recalls whose =
         let way = next.0.way in
-        let only =
-        only_along EndsNoWatch (lock_labels o.site next.0.image) (λ l. taking_keeps o.site next.0.image) (acquire o.site next.0.image way.watched (Return reply.Done)) way.feds (way_of line run)
-        (Ask o.site next.0.why o.op next.0.next) (way_keeps o.site next.0.image way.watched) way.walk in
-        subst EndsNoWatch unwatches only.0
+        let start = acquire o.site next.0.image way.watched (Return reply.Done) in
+        (ordered_walk o.site next.0.image way.feds [] start (way_of line run) (Ask o.site next.0.why (unwatch image) next.0.next) (ordered_acquire o.site next.0.image way.watched)
+        (subst (λ x. IsWalk (lock_labels o.site next.0.image) start way.feds (way_of line run) (Ask o.site next.0.why x next.0.next)) unwatches way.walk)).last_is.1.1
     by House next recalls whose = house (release_of o.instance run) next
       where
         house : (x : Option Release) → IsNextOfRelease x o.site o.op → ⊥

@@ -2,7 +2,7 @@
 -- is none of its own, where its way begins and goes on, and where it goes on itself.
 use Rattle.std.proofs.Common.{◌≡◌, ◌⊎◌, inl, inr, ℕ, ◌==◌, ◌||◌, cond, Bool, true, false, List, [], ◌∷◌, ◌++◌, Option, Some, None, is_some, refl, sym, ap, ◌∙◌, subst}
 use Rattle.std.proofs.lemmas.Bool.{true≢false}
-use Rattle.std.proofs.lemmas.Option.{none-some, same_Some}
+use Rattle.std.proofs.lemmas.Option.{same_Some}
 use Rattle.rbd_client.specs.declared.actor.Actor.TheVariants as actor
 use Rattle.rbd_client.specs.declared.slot_state.SlotState.{SlotState}
 use Rattle.rbd_client.specs.declared.slot_state.Way.{Way}
@@ -28,7 +28,6 @@ use Rattle.rbd_kinds.specs.declared.operation.Op.{Op}
 use Rattle.rbd_kinds.specs.declared.operation.Op.TheVariants as op
 use Rattle.rbd_kinds.specs.declared.reply.Reply.{Reply}
 use Rattle.rbd_kinds.specs.declared.reply.Reply.TheVariants as reply
-use Rattle.rbd_known.specs.Calm.{is_change}
 use Rattle.rbd_line.specs.Line.{member_of}
 use Rattle.rbd_locks.specs.declared.lock_state.LockState.{LockState}
 use Rattle.rbd_locks.specs.Locks.{state_at}
@@ -41,7 +40,6 @@ use Rattle.rbd_machine.specs.Wait as wait
 use Rattle.rbd_machine.specs.declared.reason.Reason.{Reason}
 use Rattle.rbd_machine.specs.declared.reason.Reason.TheVariants as reason
 use Rattle.rbd_owner.specs.Acquire.{acquire, begun, lock_labels, op_at, op_of, rest_at, rest_of_acquire}
-use Rattle.rbd_requests.specs.Looking.{is_read}
 use Rattle.rbd_owner.specs.Release.{release_op, release_op_at}
 use Rattle.rbd_owner.specs.declared.acquire.Acquire.{Acquire}
 use Rattle.rbd_owner.specs.declared.acquire.Stage.{Stage}
@@ -61,13 +59,11 @@ use Rattle.rbd_session.specs.Waits.{waits}
 use Rattle.rbd_world.specs.Run.{Happening, steps_of}
 use Rattle.rbd_world.specs.Sound.{IsUnderWay, KeepsToItsWay}
 use Rattle.rbd_world.specs.Ways.{AsksNext, GoesWith, IsOfRelease, IsOver, IsWayThere, TookTheLock, WasRefused}
-use Rattle.rbd_requests.specs.Looking.{LooksNoMore}
+use Rattle.rbd_requests.specs.Looking.{LooksNoMore, Holds, HoldsNext, IsLast, Looked}
 use Rattle.rbd_requests.proofs.Looks.{looks_once}
 use Rattle.rbd_requests.proofs.LooksNone.{none_at_operation}
-use Rattle.rbd_requests.specs.Looking.{Holds, HoldsNext, IsLast, Looked}
 use Rattle.rbd_world.proofs.Quiet.{IsQuiet, way_on}
-use Rattle.rbd_known.proofs.NoReads.{changes_are_no_reads}
-use Rattle.rbd_world.proofs.RefusedOnWay.{LooksAt, looks_at}
+use Rattle.rbd_world.proofs.RefusedOnWay.{LooksAt, looks_at, reads_not}
 use Rattle.rbd_world.proofs.Walks.{walk_append}
 
 abbrev end : Plan
@@ -256,13 +252,6 @@ module _ {R : Type 0} (stands : R → Standing) (slot : ℕ) (c : ClientView R) 
     walks_there : IsWalk under.start.labels under.start.plan under.feds (steps_of r.line run) (Ask site look.why (op.Header look.image header.Get) look.next)
     walks_there = subst (IsWalk under.start.labels under.start.plan under.feds (steps_of r.line run)) look.is under.walk
 
-    reads_not : is_read under.begun.asked.command ≡ false
-    reads_not = by (is_change under.begun.asked.command) refl
-      where
-        by : (b : Bool) → is_change under.begun.asked.command ≡ b → is_read under.begun.asked.command ≡ false
-        by true is = changes_are_no_reads under.begun.asked.command is
-        by false is = absurd (none-some _ (sym (under.calm is).1 ∙ place_is))
-
     waits_there : is_newcomer_at (course_of slot (track_of r c.session.lines)).place ≡ false
     waits_there =
         ap (λ p. is_newcomer_at (place_in p (member_of slot (line_in p (lines_of c.session.lines))))) place_is
@@ -271,7 +260,7 @@ module _ {R : Type 0} (stands : R → Standing) (slot : ℕ) (c : ClientView R) 
 
     looks_no_more : LooksNoMore (look.next a)
     looks_no_more = by ((looks_once seat under.begun.asked.command under.start under.feds (steps_of r.line run) (Ask site look.why (op.Header look.image header.Get) look.next) under.plan
-        reads_not walks_there a).0)
+        (reads_not stands seat who run r under _ place_is) walks_there a).0)
       where
         on : IsOnTrack slot r.extent true (stands r.request) (track_of r c.session.lines)
         on = sound.session.runs slot r runs

@@ -14,7 +14,7 @@ use Rattle.rbd_line.specs.Line.{ahead, is_member}
 use Rattle.rbd_machine.specs.Knowledge.{same_site}
 use Rattle.rbd_machine.specs.Plan.{Goto, Standing}
 use Rattle.rbd_requests.specs.InLine.{ChangesInLine, KeepsTo}
-use Rattle.rbd_requests.specs.Touched.{extent_of}
+use Rattle.rbd_requests.specs.Profile.{changed_extent}
 use Rattle.rbd_session.specs.declared.running.Running.{Running}
 use Rattle.rbd_session.specs.Lines.{lines_of}
 use Rattle.rbd_session.specs.Session.{SessionView, running_at}
@@ -65,7 +65,7 @@ pub record IsWriterOf (who : Instance) (line : ℕ) (run : List Happening) : Typ
   pub asked : Asked
   pub is : asked_by line run ≡ Some asked
   pub mine : asked.who ≡ who
-  pub writes : IsSome (extent_of asked.command)
+  pub writes : IsSome (changed_extent asked.command)
 
 -- The line has found the image, and no other write of its instance that found it later has written
 -- the object.
@@ -113,7 +113,7 @@ pub record IsBehindFinding {R : Type 0} (stands : R → Standing) (run : List Ha
 -- Of the writes in a line, who found the image earlier stands ahead; and where another that found
 -- it later has written an object, whether it has ended or not, this one has no ticket for it.
 pub record IsInOrder {R : Type 0} (stands : R → Standing) (home : SiteId) (who : Instance) (run : List Happening) (c : SessionView R) : Type 0 where
-  pub extents : (x : ℕ) (r : Running R) → running_at x c ≡ Some r → (asked : Asked) → asked_by r.line run ≡ Some asked → r.extent ≡ extent_of asked.command
+  pub extents : (x : ℕ) (r : Running R) → running_at x c ≡ Some r → (asked : Asked) → asked_by r.line run ≡ Some asked → r.extent ≡ changed_extent asked.command
   pub comes : (x : ℕ) (r : Running R) → running_at x c ≡ Some r → IsSome r.extent → (IsBeforeFinding stands home run r) ⊎ (IsBehindFinding stands run r)
   pub in_line : (x y : ℕ) (r q : Running R) → running_at x c ≡ Some r → running_at y c ≡ Some q → IsSome r.extent → IsSome q.extent
       → (s : SiteId) (image : ℕ) → found_before r.line q.line s image run ≡ true

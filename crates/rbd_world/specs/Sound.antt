@@ -19,7 +19,8 @@ use Rattle.rbd_kinds.specs.declared.notice.Notice.{Notice}
 use Rattle.rbd_kinds.specs.declared.operation.Op.{Op}
 use Rattle.rbd_kinds.specs.declared.operation.Op.TheVariants as op
 use Rattle.rbd_kinds.specs.declared.reply.Reply.{Reply}
-use Rattle.rbd_known.specs.Calm.{IsCalmRequest, is_change}
+use Rattle.rbd_known.specs.Calm.{IsCalmRequest}
+use Rattle.rbd_requests.specs.Profile.{joins_a_line, profile}
 use Rattle.rbd_known.specs.Knowing.{AllKnow}
 use Rattle.rbd_machine.specs.Knowledge.{Knowledge, is_drawn, nothing_known}
 use Rattle.rbd_machine.specs.Path.{Answered, IsWalk}
@@ -35,7 +36,7 @@ use Rattle.rbd_owner.specs.Steps.{lock_take}
 use Rattle.rbd_rely.specs.Beside.{AreBeside, MayAct}
 use Rattle.rbd_rely.specs.Locks.{KnowsByLock}
 use Rattle.rbd_rely.specs.Truth.{AreMapped, IsTrueAt, AreStandalone}
-use Rattle.rbd_requests.specs.Served.{IsPlanFor}
+use Rattle.rbd_requests.specs.Plans.{IsPlanFor}
 use Rattle.rbd_session.specs.declared.running.Occupant.{Occupant}
 use Rattle.rbd_session.specs.declared.running.Occupant.TheVariants as occupant
 use Rattle.rbd_session.specs.declared.running.Running.{Running}
@@ -320,7 +321,7 @@ pub record IsUnderWay {R : Type 0} (stands : R → Standing) (seat : Seat) (who 
   pub walk : IsWalk start.labels start.plan feds (steps_of r.line run) (stands r.request).plan
   pub given : AreGiven (steps_of r.line run)
   pub standalone : TellAllStandalone (steps_of r.line run)
-  pub calm : is_change begun.asked.command ≡ false → IsCalmRequest (stands r.request) × (r.place ≡ None)
+  pub calm : joins_a_line (profile begun.asked.command) ≡ false → IsCalmRequest (stands r.request) × (r.place ≡ None)
 
 -- a command that is refused before any operation
 pub record IsRefusedAtOnce (seat : Seat) (who : Instance) (run : List Happening) (line : ℕ) (refusal : Refusal) : Type 0 where

@@ -32,8 +32,8 @@ use Rattle.rbd_owner.specs.declared.acquire.Acquire.{Acquire}
 use Rattle.rbd_owner.specs.declared.release.Release.{Release}
 use Rattle.rbd_owner.specs.Release.{release_op}
 use Rattle.rbd_rely.specs.Truth.{changed_by}
-use Rattle.rbd_requests.specs.Served.{IsPlanFor, is_built}
-use Rattle.rbd_requests.specs.Touched.{extent_of}
+use Rattle.rbd_requests.specs.Plans.{IsPlanFor, is_built}
+use Rattle.rbd_requests.specs.Profile.{changed_extent}
 use Rattle.rbd_session.specs.declared.running.Occupant.{Occupant}
 use Rattle.rbd_session.specs.declared.running.Occupant.TheVariants as occupant
 use Rattle.rbd_session.specs.declared.running.Running.{Running}
@@ -278,7 +278,7 @@ pub record IsFresh {R : Type 0} (stands : R → Standing) (who : Instance) (home
 module _ {R : Type 0} (stands : R → Standing) where
   -- the lowest free slot has the command's request, at its beginning
   pub record Begins (line : ℕ) (c : Command) (old new : SessionView R) : Type 0 where
-    pub held : IsNewcomer stands IsPlanFor extent_of (seat_of old) line c (held_in old.lowest new.slots)
+    pub held : IsNewcomer stands IsPlanFor changed_extent (seat_of old) line c (held_in old.lowest new.slots)
     pub slots : AreSlotsBut old.lowest old new
     pub lines : new.lines ≡ old.lines
     pub client : IsSameClient old new

@@ -2,7 +2,7 @@
 ghost use Rattle.std.specs.Prelude.{◌≡◌, ◌+◌, ◌≤◌, ℕ, true, Some, IfOk, OnOk, OnErr};
 ghost use Rattle.std.specs.Vec.{vec_capacity, vec_len};
 ghost use Rattle.rbd_client.specs.Sound.{IsSoundClient};
-ghost use Rattle.rbd_requests.specs.Served.{is_built};
+ghost use Rattle.rbd_requests.specs.Plans.{is_built};
 ghost use Rattle.rbd_requests.specs.Session.{stands_of};
 ghost use Rattle.rbd_world.specs.Begun.{has_line};
 ghost use Rattle.rbd_world.specs.Noted.{is_start, noted_by};
