@@ -90,9 +90,19 @@ def is_own(said, path, crate):
     return said.startswith("no proof") and len(of_calls) < len(reasons) and is_covered
 
 
+def is_lemma(name, crate):
+    """Whether a declaration of a crate's specs/ is a lemma: a definition has one of antt's words for
+    these in front of it."""
+    module, _, word = name.rpartition(".")
+    file = Path(crate.folder, "specs", *module.split(".")).with_suffix(".antt")
+    return file.is_file() and bool(re.search(rf"^ *(?:pub )?{re.escape(word)} :", file.read_text(), re.M))
+
+
 def stands_on_own(said, path, crate):
     """Whether one of the declarations that aren't admitted, on which a function is said to stand, is
     its own or a lemma's."""
+    if any(is_lemma(it, crate) for it in re.findall(rf"`Rattle\.{crate.name}\.specs\.([^`]+)`", said)):
+        return True
     named = [f"{it}." for it in re.findall(r"`Rattle\.\w+\.proofs\.([^`]+)`", said)]
     own = path.replace("fn::", "").replace("::", ".") + "."
     others = tuple(it.replace("::", ".") + "." for it in calls_in(crate.folder))
