@@ -5,8 +5,8 @@ use Rattle.rbd_kinds.specs.declared.answer.Answer.{Answer}
 use Rattle.rbd_kinds.specs.declared.answer.Answer.TheVariants as answer
 use Rattle.rbd_kinds.specs.declared.header.HeaderView.{HeaderView}
 use Rattle.rbd_kinds.specs.declared.id.SiteId.{SiteId}
-use Rattle.rbd_kinds.specs.declared.journal.Event.{Event}
-use Rattle.rbd_machine.specs.Approach.{rest_of, owning_at}
+use Rattle.rbd_kinds.specs.declared.journal.JournalEvent.{JournalEvent}
+use Rattle.rbd_machine.specs.Approach.{rest_of, under_lock_at}
 use Rattle.rbd_machine.specs.Plan.{Plan, Note}
 use Rattle.rbd_machine.specs.Steps.{applied}
 use Rattle.rbd_change.specs.declared.request.ChangeRequest.{ChangeRequest}
@@ -18,9 +18,9 @@ IsApproaching (stage.Approaching way) = Unit {0}
 IsApproaching _ = ⊥
 
 -- the image, where it approaches and is at its look under the lock
-abbrev pub owning_in : {P : Type 0} → Stage P → Option ℕ
-owning_in (stage.Approaching way) = owning_at way.stage
-owning_in _ = None
+abbrev pub under_lock_in : {P : Type 0} → Stage P → Option ℕ
+under_lock_in (stage.Approaching way) = under_lock_at way.stage
+under_lock_in _ = None
 
 -- what is left of a part, where there is one
 abbrev pub rest_of_some : {P : Type 0} → (rest : P → (next : Plan) → Plan) → Option P → (next : Plan) → Plan
@@ -28,7 +28,7 @@ rest_of_some rest None next = next
 rest_of_some rest (Some part) next = rest part next
 
 -- By what a change refuses, its event, the plan from its event on, and what is left of its part.
-module _ {C P : Type 0} (refuses : C → HeaderView → Option Refusal) (noted : C → Event)
+module _ {C P : Type 0} (refuses : C → HeaderView → Option Refusal) (noted : C → JournalEvent)
     (does : C → SiteId → (image : ℕ) → HeaderView → Plan) (rest : P → (next : Plan) → Plan) where
   -- its event is noted, then its part is done, and then the event counts as applied
   abbrev pub noting : ChangeRequest C P → (image : ℕ) → Plan
@@ -48,7 +48,7 @@ module _ {C P : Type 0} (refuses : C → HeaderView → Option Refusal) (noted :
 
   abbrev pub HasPart : ChangeRequest C P → HeaderView → Type 0
   HasPart r h = (image : ℕ)
-      → owning_in r.stage ≡ Some image → refuses r.change h ≡ None → noting r image ≡ does r.change r.site image h
+      → under_lock_in r.stage ≡ Some image → refuses r.change h ≡ None → noting r image ≡ does r.change r.site image h
 
   abbrev pub IsReadyAt : (is_ready : P → Answer → Type 0) → Stage P → ChangeRequest C P → Answer → Type 0
   IsReadyAt is_ready (stage.Approaching way) r (answer.Header h) = HasPart r h

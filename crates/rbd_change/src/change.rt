@@ -3,12 +3,12 @@ ghost use Rattle.std.specs.Prelude.{◌≡◌, ℕ, Bool, true, None, IfOk};
 ghost use Rattle.rbd_commands.specs.declared.command.Command.{Command};
 ghost use Rattle.rbd_kinds.specs.declared.header.HeaderView.{HeaderView};
 ghost use Rattle.rbd_kinds.specs.declared.id.SiteId.{SiteId};
-ghost use Rattle.rbd_kinds.specs.declared.journal.Event.{Event};
+ghost use Rattle.rbd_kinds.specs.declared.journal.JournalEvent.{JournalEvent};
 ghost use Rattle.rbd_kinds.specs.Form.{IsHeaderInForm};
 ghost use Rattle.rbd_machine.specs.Plan.{Plan, Note};
-ghost use Rattle.rbd_machine.specs.Steps.{applied, change};
+ghost use Rattle.rbd_machine.specs.Steps.{applied, change_plan};
 
-use crate::part::Part;
+use crate::part::ChangePart;
 use rbd_kinds::{Command, HeaderView, ImageId, Name, NoMemory, Sharing, SiteId};
 use rbd_machine::Refuses;
 use std::alloc::Global;
@@ -17,7 +17,7 @@ use std::alloc::Global;
 /// the event that it notes, and the part that it does behind that event.
 pub trait Change: Refuses + Drop {
     /// What is done behind the event.
-    type Part: Part;
+    type Part: ChangePart;
 
     /// The commands that ask for it.
     ghost serves: { Command → Bool };
@@ -26,7 +26,7 @@ pub trait Change: Refuses + Drop {
     ghost plan: { SiteId → Command → Plan };
 
     /// Its event.
-    ghost noted: { Self → Event };
+    ghost noted: { Self → JournalEvent };
 
     /// The plan from its event on, by the header of its look under the lock.
     ghost does: { Self → SiteId → (image : ℕ) → HeaderView → Plan };
@@ -35,7 +35,7 @@ pub trait Change: Refuses + Drop {
     fn from_command(command: Command) -> (Name, Self)
         requires { serves command ≡ true }
         ensures { (site : SiteId)
-            → change site result.0 Sharing.Alone (Self.refuses result.1) (does result.1 site) ≡ plan site command };
+            → change_plan site result.0 Sharing.Alone (Self.refuses result.1) (does result.1 site) ≡ plan site command };
 
     /// What is done behind the event, by a header that it doesn't refuse.
     fn part(

@@ -2,13 +2,13 @@
 ghost use Rattle.std.specs.Prelude.{◌≡◌, ℕ, None, IfOk};
 ghost use Rattle.rbd_kinds.specs.declared.header.HeaderView.{HeaderView};
 ghost use Rattle.rbd_kinds.specs.declared.id.SiteId.{SiteId};
-ghost use Rattle.rbd_kinds.specs.declared.journal.Event.{Event};
+ghost use Rattle.rbd_kinds.specs.declared.journal.JournalEvent.{JournalEvent};
 ghost use Rattle.rbd_kinds.specs.Form.{IsHeaderInForm};
 ghost use Rattle.rbd_machine.specs.Plan.{Plan, Note};
 ghost use Rattle.rbd_machine.specs.Steps.{applied};
 ghost use Rattle.rbd_change.specs.Extent.{in_turn};
 
-use crate::piece::Piece;
+use crate::piece::ChangePiece;
 use rbd_kinds::{HeaderView, ImageId, NoMemory, SiteId};
 use rbd_machine::Refuses;
 use std::alloc::Global;
@@ -18,10 +18,10 @@ use std::collections::VecDeque;
 /// looks ([`Refuses`]), the event that it notes, and the pieces that it does behind that event.
 pub trait ExtentChange: Refuses + Drop {
     /// What is done to one object.
-    type Piece: Piece;
+    type Piece: ChangePiece;
 
     /// Its event.
-    ghost noted: { Self → Event };
+    ghost noted: { Self → JournalEvent };
 
     /// The plan from its event on, by the header of its look under the lock.
     ghost does: { Self → SiteId → (image : ℕ) → HeaderView → Plan };

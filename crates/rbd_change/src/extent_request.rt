@@ -6,12 +6,12 @@ ghost use Rattle.rbd_machine.specs.Plan.{GoesOn, Goto, plan_after, without_label
 ghost use Rattle.rbd_machine.specs.Ready.{IsReadyFor};
 ghost use Rattle.rbd_machine.specs.Steps as steps;
 ghost use Rattle.rbd_machine.specs.Steps.{applied};
-ghost use Rattle.rbd_change.specs.Extent.{in_turn, rest_of_extent, owning_in, IsApproaching, IsReady};
+ghost use Rattle.rbd_change.specs.Extent.{in_turn, rest_of_extent, under_lock_in, IsApproaching, IsReady};
 
 use crate::extent::ExtentChange;
-use crate::part::Part;
-use crate::piece::Piece;
-use rbd_kinds::{Answer, Fed, ImageId, Name, NoMemory, Op, Reply, Sharing, SiteId, Turn, Want};
+use crate::part::ChangePart;
+use crate::piece::ChangePiece;
+use rbd_kinds::{Answer, Fed, Flow, ImageId, Name, NoMemory, Op, Reply, Sharing, SiteId, Want};
 use rbd_machine::{Approach, Machine, Progress, Reason};
 use std::alloc::Global;
 use std::collections::VecDeque;
@@ -63,7 +63,7 @@ impl<C: ExtentChange> ExtentRequest<C, C::Piece> {
     /// memory.
     pub fn new(alloc: Global, home: SiteId, image: Name, sharing: Sharing, change: C) -> Self
         ensures { rest_of_extent C.refuses C.noted C.does C.Piece.rest C.Piece.number result
-            ≡ steps.change home image sharing (C.refuses change) (C.does change home) }
+            ≡ steps.change_plan home image sharing (C.refuses change) (C.does change home) }
     {
         ExtentRequest {
             site: home,
@@ -74,11 +74,11 @@ impl<C: ExtentChange> ExtentRequest<C, C::Piece> {
     }
 
     /// The image, where it approaches and is at its look under the lock.
-    fn owning(&self) -> Option<ImageId>
-        ensures { result ≡ owning_in self.now.stage }
+    fn under_lock(&self) -> Option<ImageId>
+        ensures { result ≡ under_lock_in self.now.stage }
     {
         match &self.stage {
-            Stage::Approaching(way) => way.owning(),
+            Stage::Approaching(way) => way.under_lock(),
             _ => None,
         }
     }
@@ -93,7 +93,7 @@ impl<C: ExtentChange> ExtentRequest<C, C::Piece> {
         ensures ready { OnOk result
             (IsReady C.refuses C.noted C.does C.Piece.rest C.Piece.number C.Piece.is_ready self.new answer.now) }
     {
-        let Some(image) = self.owning() else {
+        let Some(image) = self.under_lock() else {
             return Ok(());
         };
         let Answer::Header(header) = answer else {
@@ -124,7 +124,7 @@ impl<C: ExtentChange> ExtentRequest<C, C::Piece> {
     }
 
     /// Goes on with its way to its look under the lock, and from there.
-    fn approach(&mut self, fed: &Fed) -> Turn
+    fn approach(&mut self, fed: &Fed) -> Flow
         requires at { IsApproaching self.old.stage }
         requires can { CanBeFed (rest_of_extent C.refuses C.noted C.does C.Piece.rest C.Piece.number self.old) fed.now }
         requires ready { IsReadyFor
@@ -138,17 +138,17 @@ impl<C: ExtentChange> ExtentRequest<C, C::Piece> {
             unreachable!()
         };
         match way.feed(&self.change, fed) {
-            Progress::More => Turn::More,
-            Progress::Refused(refusal) => Turn::Done(Reply::Refused(refusal)),
+            Progress::More => Flow::More,
+            Progress::Refused(refusal) => Flow::Done(Reply::Refused(refusal)),
             Progress::Ended(image) => {
                 self.go_to(Stage::Noting(image));
-                Turn::More
+                Flow::More
             }
         }
     }
 
     /// Goes on with the next piece, whose turn comes first, or behind the last.
-    fn next_piece(&mut self, image: ImageId) -> Turn
+    fn next_piece(&mut self, image: ImageId) -> Flow
         ensures { GoesOn Goto
             (in_turn C.Piece.rest C.Piece.number self.old.pieces.items (applied self.old.site image))
             result
@@ -165,7 +165,7 @@ impl<C: ExtentChange> ExtentRequest<C, C::Piece> {
             }
             None => self.go_to(Stage::Applying(image)),
         }
-        Turn::More
+        Flow::More
     }
 }
 
@@ -229,7 +229,7 @@ impl<C: ExtentChange> Machine for ExtentRequest<C, C::Piece> {
         }
     }
 
-    fn feed(&mut self, fed: &Fed) -> Turn {
+    fn feed(&mut self, fed: &Fed) -> Flow {
         match &mut self.stage {
             Stage::Approaching(_) => self.approach(fed),
             Stage::Noting(image) => {
@@ -243,21 +243,21 @@ impl<C: ExtentChange> Machine for ExtentRequest<C, C::Piece> {
             } => {
                 if !*has_turn {
                     *has_turn = true;
-                    return Turn::More;
+                    return Flow::More;
                 }
                 let Fed::Answer(answer) = fed else {
                     unreachable!()
                 };
                 match piece.feed(answer) {
-                    Progress::More => Turn::More,
+                    Progress::More => Flow::More,
                     Progress::Ended(()) => {
                         let image = *image;
                         self.next_piece(image)
                     }
-                    Progress::Refused(refusal) => Turn::Done(Reply::Refused(refusal)),
+                    Progress::Refused(refusal) => Flow::Done(Reply::Refused(refusal)),
                 }
             }
-            Stage::Applying(_) => Turn::Done(Reply::Done),
+            Stage::Applying(_) => Flow::Done(Reply::Done),
         }
     }
 }

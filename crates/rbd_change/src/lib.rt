@@ -3,7 +3,7 @@
 //! request changes is a type that says why it is refused, its event, and what is done behind it.
 //!
 //! ```text
-//! pub type ResizeRequest = ChangeRequest<SizeChange, NewSize>;     // in `rbd_resize`
+//! pub type ResizeRequest = ChangeRequest<SizeChange, NewSize>;     // in `rbd_image`
 //!
 //! let mut request = ResizeRequest::new(SiteId::A, resize);         // of the image `disk`
 //! request.wants()                   // an operation at site A, of the kind dir-find
@@ -20,7 +20,7 @@
 //! request.wants()                   // that the event counts as applied
 //! request.feed(&Fed::Passed)        // Done(Reply::Done)
 //!
-//! pub type WriteRequest = ExtentRequest<WriteChange, WriteTurn>;   // in `rbd_request`
+//! pub type WriteRequest = ExtentRequest<WriteChange, WriteTurn>;   // in `rbd_data`
 //!
 //! // the same up to its event, but that it joins the line beside others, and `ready` makes all of
 //! // its pieces; then of each piece
@@ -59,7 +59,7 @@
 //!
 //! # Contracts
 //!
-//! [`Change`], [`ExtentChange`], [`Part`] and [`Piece`] are traits. A change says what it `does`
+//! [`Change`], [`ExtentChange`], [`ChangePart`] and [`ChangePiece`] are traits. A change says what it `does`
 //! from its look under the lock on: the event, the part or the pieces, and that the event counts as
 //! applied. From that each machine shows once for all its changes that a request stands where its
 //! plan begins ([`ChangeRequest::new`], [`ExtentRequest::new`]), and keeps to it
@@ -75,12 +75,12 @@
 //! | `plan` | [`Change`] | the plan of such a command at a site |
 //! | `noted` | [`Change`], [`ExtentChange`] | its event |
 //! | `does` | [`Change`], [`ExtentChange`] | the plan from its event on, by the header of its look under the lock |
-//! | `rest` | [`Part`] | what is left of a part, with what comes next |
-//! | `tells` | [`Part`] | the answers by which it can go on |
-//! | `is_ready` | [`Part`] | it has the memory that an answer needs |
-//! | law `asks` | [`Part`] | at each stage it wants an operation, as a step of the request's own |
-//! | law `told` | [`Part`] | each answer that its operation can be given tells it how to go on |
-//! | `number` | [`Piece`] | the number of its object |
+//! | `rest` | [`ChangePart`] | what is left of a part, with what comes next |
+//! | `tells` | [`ChangePart`] | the answers by which it can go on |
+//! | `is_ready` | [`ChangePart`] | it has the memory that an answer needs |
+//! | law `asks` | [`ChangePart`] | at each stage it wants an operation, as a step of the request's own |
+//! | law `told` | [`ChangePart`] | each answer that its operation can be given tells it how to go on |
+//! | `number` | [`ChangePiece`] | the number of its object |
 //!
 //! `specs/Request.antt` has what is left of a request that is alone (`rest_of_change`), and for
 //! which answers it has the memory (`IsReady`), and `specs/Extent.antt` the same of one beside
@@ -113,6 +113,6 @@ mod request;
 pub use change::Change;
 pub use extent::ExtentChange;
 pub use extent_request::ExtentRequest;
-pub use part::Part;
-pub use piece::Piece;
+pub use part::ChangePart;
+pub use piece::ChangePiece;
 pub use request::ChangeRequest;

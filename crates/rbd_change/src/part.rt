@@ -13,7 +13,7 @@ use std::alloc::Global;
 
 /// What a change does behind its event, one operation after another. Its clauses hold for every
 /// plan that comes next, so whoever holds it goes on with its own.
-pub trait Part: Drop {
+pub trait ChangePart: Drop {
     /// What is left of it, with what comes next.
     ghost rest: { Self → (next : Plan) → Plan };
 

@@ -5,11 +5,11 @@ ghost use Rattle.rbd_machine.specs.Answers.{CanBeFed};
 ghost use Rattle.rbd_machine.specs.Plan.{GoesOn, Goto, plan_after, without_labels};
 ghost use Rattle.rbd_machine.specs.Ready.{IsReadyFor};
 ghost use Rattle.rbd_machine.specs.Steps.{applied};
-ghost use Rattle.rbd_change.specs.Request.{rest_of_change, rest_of_some, owning_in, IsApproaching, IsReady};
+ghost use Rattle.rbd_change.specs.Request.{rest_of_change, rest_of_some, under_lock_in, IsApproaching, IsReady};
 
 use crate::change::Change;
-use crate::part::Part;
-use rbd_kinds::{Answer, Command, Fed, ImageId, NoMemory, Op, Reply, Sharing, SiteId, Turn, Want};
+use crate::part::ChangePart;
+use rbd_kinds::{Answer, Command, Fed, Flow, ImageId, NoMemory, Op, Reply, Sharing, SiteId, Want};
 use rbd_machine::{Approach, Machine, Progress, Reason};
 use std::alloc::Global;
 use std::mem::replace;
@@ -64,11 +64,11 @@ impl<C: Change> ChangeRequest<C, C::Part> {
     }
 
     /// The image, where it approaches and is at its look under the lock.
-    fn owning(&self) -> Option<ImageId>
-        ensures { result ≡ owning_in self.now.stage }
+    fn under_lock(&self) -> Option<ImageId>
+        ensures { result ≡ under_lock_in self.now.stage }
     {
         match &self.stage {
-            Stage::Approaching(way) => way.owning(),
+            Stage::Approaching(way) => way.under_lock(),
             _ => None,
         }
     }
@@ -82,7 +82,7 @@ impl<C: Change> ChangeRequest<C, C::Part> {
             ≡ rest_of_change C.refuses C.noted C.does C.Part.rest self.old }
         ensures ready { OnOk result (IsReady C.refuses C.noted C.does C.Part.rest C.Part.is_ready self.new answer.now) }
     {
-        let Some(image) = self.owning() else {
+        let Some(image) = self.under_lock() else {
             return Ok(());
         };
         let Answer::Header(header) = answer else {
@@ -113,7 +113,7 @@ impl<C: Change> ChangeRequest<C, C::Part> {
     }
 
     /// Goes on with its way to its look under the lock, and from there.
-    fn approach(&mut self, fed: &Fed) -> Turn
+    fn approach(&mut self, fed: &Fed) -> Flow
         requires at { IsApproaching self.old.stage }
         requires can { CanBeFed (rest_of_change C.refuses C.noted C.does C.Part.rest self.old) fed.now }
         requires ready { IsReadyFor (IsReady C.refuses C.noted C.does C.Part.rest C.Part.is_ready self.old) fed.now }
@@ -124,17 +124,17 @@ impl<C: Change> ChangeRequest<C, C::Part> {
             unreachable!()
         };
         match way.feed(&self.change, fed) {
-            Progress::More => Turn::More,
-            Progress::Refused(refusal) => Turn::Done(Reply::Refused(refusal)),
+            Progress::More => Flow::More,
+            Progress::Refused(refusal) => Flow::Done(Reply::Refused(refusal)),
             Progress::Ended(image) => {
                 self.go_to(Stage::Noting(image));
-                Turn::More
+                Flow::More
             }
         }
     }
 
     /// Goes on behind its event, with the part that its look under the lock made.
-    fn begin_part(&mut self, image: ImageId) -> Turn
+    fn begin_part(&mut self, image: ImageId) -> Flow
         ensures { GoesOn Goto (rest_of_some C.Part.rest self.old.part (applied self.old.site image)) result
             (without_labels (rest_of_change C.refuses C.noted C.does C.Part.rest self.new)) }
     {
@@ -142,7 +142,7 @@ impl<C: Change> ChangeRequest<C, C::Part> {
             Some(part) => self.go_to(Stage::Acting(image, part)),
             None => self.go_to(Stage::Applying(image)),
         }
-        Turn::More
+        Flow::More
     }
 }
 
@@ -191,7 +191,7 @@ impl<C: Change> Machine for ChangeRequest<C, C::Part> {
         }
     }
 
-    fn feed(&mut self, fed: &Fed) -> Turn {
+    fn feed(&mut self, fed: &Fed) -> Flow {
         match &mut self.stage {
             Stage::Approaching(_) => self.approach(fed),
             Stage::Noting(image) => {
@@ -203,16 +203,16 @@ impl<C: Change> Machine for ChangeRequest<C, C::Part> {
                     unreachable!()
                 };
                 match part.feed(answer) {
-                    Progress::More => Turn::More,
+                    Progress::More => Flow::More,
                     Progress::Ended(()) => {
                         let image = *image;
                         self.go_to(Stage::Applying(image));
-                        Turn::More
+                        Flow::More
                     }
-                    Progress::Refused(refusal) => Turn::Done(Reply::Refused(refusal)),
+                    Progress::Refused(refusal) => Flow::Done(Reply::Refused(refusal)),
                 }
             }
-            Stage::Applying(_) => Turn::Done(Reply::Done),
+            Stage::Applying(_) => Flow::Done(Reply::Done),
         }
     }
 }

@@ -7,30 +7,30 @@ use Rattle.rbd_client.specs.declared.actor.Actor.{Actor}
 use Rattle.rbd_client.specs.declared.actor.Actor.TheVariants as actor
 use Rattle.rbd_client.specs.declared.slot_state.Way.{Way}
 use Rattle.rbd_client.specs.declared.slot_state.Way.TheVariants as way
-use Rattle.rbd_client.specs.Actor.{actor_at, actor_at_look, actor_by, actor_on, any_taken, due_release, may_release, releasing}
-use Rattle.rbd_client.specs.Client.{ClientView, state_in}
+use Rattle.rbd_client.specs.Actor.{actor_at, actor_at_look, actor_by, actor_on, any_taken, due_release, may_release, release_actor}
+use Rattle.rbd_client.specs.Client.{ClientView, slot_state}
 use Rattle.rbd_client.specs.Feeding.{AreStatesAlike, CanGet, IsClientAlike, IsReadiedFor, IsReadyBy, StaysUnlessRequest}
 use Rattle.rbd_client.specs.Sound.{IsOwned, IsSoundClient, IsTelling, IsWellOnWay, WaitsForLook}
 use Rattle.rbd_kinds.specs.declared.answer.Answer.{Answer}
 use Rattle.rbd_kinds.specs.declared.id.SiteId.{SiteId}
 use Rattle.rbd_kinds.specs.declared.machine.Fed.{Fed}
 use Rattle.rbd_kinds.specs.declared.operation_kind.OpKind.{OpKind}
-use Rattle.rbd_line.specs.Line.{Member, any_past, member_of}
+use Rattle.rbd_queue.specs.Line.{Member, any_past, member_of}
 use Rattle.rbd_kinds.specs.declared.image_at.ImageAt.{ImageAt}
-use Rattle.rbd_locks.specs.declared.lock_state.LockState.{LockState}
-use Rattle.rbd_locks.specs.Locks.{LocksView, IsSoundLocks, state_at}
+use Rattle.rbd_lock.specs.declared.lock_state.LockState.{LockState}
+use Rattle.rbd_lock.specs.Locks.{LocksView, IsSoundLocks, lock_state_at}
 use Rattle.rbd_machine.specs.Plan.{Standing}
-use Rattle.rbd_session.specs.declared.running.Occupant.{Occupant}
-use Rattle.rbd_session.specs.declared.running.Occupant.TheVariants as occupant
-use Rattle.rbd_session.specs.declared.running.Running.{Running}
-use Rattle.rbd_session.specs.Advance.{track_of, IsSameStand}
-use Rattle.rbd_session.specs.Lines.{LinesView, lines_of}
-use Rattle.rbd_session.specs.Session.{SessionView, IsAlike, IsAlikeIn, IsReadied, IsSoundSession, going_in, held_in, is_look_at, kind_asked, own_look_at, own_look_in, own_look_of, running_at, running_in}
-use Rattle.rbd_session.specs.Track.{Lines}
-use Rattle.rbd_session.specs.Waits.{waits, waits_at}
-use Rattle.rbd_session.proofs.Readied.{same_track}
+use Rattle.rbd_slots.specs.declared.running.Occupant.{Occupant}
+use Rattle.rbd_slots.specs.declared.running.Occupant.TheVariants as occupant
+use Rattle.rbd_slots.specs.declared.running.Running.{Running}
+use Rattle.rbd_slots.specs.Advance.{track_of, IsSameStand}
+use Rattle.rbd_slots.specs.Lines.{LinesView, lines_of}
+use Rattle.rbd_slots.specs.Session.{SessionView, IsAlike, IsAlikeIn, IsReadied, IsSoundSession, going_in, held_in, is_look_at, kind_asked, look_under_lock_at, look_under_lock_in, look_under_lock_of, running_at, running_in}
+use Rattle.rbd_slots.specs.Track.{Lines}
+use Rattle.rbd_slots.specs.Waits.{waits, waits_at}
+use Rattle.rbd_slots.proofs.Readied.{same_track}
 
-look_by : (slot : ℕ) (wanted : Option (SiteId × OpKind)) (place : Option ImageAt) (old new : LinesView) → lines_of new ≡ lines_of old → own_look_of slot wanted place new ≡ own_look_of slot wanted place old
+look_by : (slot : ℕ) (wanted : Option (SiteId × OpKind)) (place : Option ImageAt) (old new : LinesView) → lines_of new ≡ lines_of old → look_under_lock_of slot wanted place new ≡ look_under_lock_of slot wanted place old
 look_by slot wanted None old new lines = refl
 look_by slot wanted (Some p) old new lines =
     ap (λ (ls : Lines). cond (is_look_at p.site wanted && waits_at (option_map (λ (m : Member). m.stage) (member_of slot (ls p.site p.image)))) (Some p) None) lines
@@ -69,30 +69,30 @@ module _ {R : Type 0} (stands : R → Standing) where
       go None n same at = sym same ∙ at
 
   look_running : (slot : ℕ) (r q : Running R) (old new : LinesView) → IsSameStand stands r q → lines_of new ≡ lines_of old
-      → own_look_in stands slot new (going_in slot (Some (occupant.Running q)) new) ≡ own_look_in stands slot old (going_in slot (Some (occupant.Running r)) old)
+      → look_under_lock_in stands slot new (going_in slot (Some (occupant.Running q)) new) ≡ look_under_lock_in stands slot old (going_in slot (Some (occupant.Running r)) old)
   look_running slot r q old new same lines =
-      ap (λ b. own_look_in stands slot new (cond b None (Some q))) (ap (waits slot) (same_track stands r q old new same lines))
+      ap (λ b. look_under_lock_in stands slot new (cond b None (Some q))) (ap (waits slot) (same_track stands r q old new same lines))
       ∙ by (waits slot (track_of r old))
     where
-      at : own_look_of slot (kind_asked (stands q.request).plan) q.place new ≡ own_look_of slot (kind_asked (stands r.request).plan) r.place old
+      at : look_under_lock_of slot (kind_asked (stands q.request).plan) q.place new ≡ look_under_lock_of slot (kind_asked (stands r.request).plan) r.place old
       at =
-          ap (λ k. own_look_of slot k q.place new) (same_wants r q same)
-          ∙ ap (λ p. own_look_of slot (kind_asked (stands r.request).plan) p new) same.place
+          ap (λ k. look_under_lock_of slot k q.place new) (same_wants r q same)
+          ∙ ap (λ p. look_under_lock_of slot (kind_asked (stands r.request).plan) p new) same.place
           ∙ look_by slot (kind_asked (stands r.request).plan) r.place old new lines
 
-      by : (b : Bool) → own_look_in stands slot new (cond b None (Some q)) ≡ own_look_in stands slot old (cond b None (Some r))
+      by : (b : Bool) → look_under_lock_in stands slot new (cond b None (Some q)) ≡ look_under_lock_in stands slot old (cond b None (Some r))
       by true = refl
       by false = at
 
-  pub look_alike : (slot : ℕ) (old new : SessionView R) → IsAlike stands old new → own_look_at stands slot new ≡ own_look_at stands slot old
+  pub look_alike : (slot : ℕ) (old new : SessionView R) → IsAlike stands old new → look_under_lock_at stands slot new ≡ look_under_lock_at stands slot old
   look_alike slot old new alike = go (held_in slot old.slots) (held_in slot new.slots) (alike.slots slot)
     where
-      none_of : (o : Option (Occupant R)) → running_in o ≡ None → (lines : LinesView) → own_look_in stands slot lines (going_in slot o lines) ≡ None
+      none_of : (o : Option (Occupant R)) → running_in o ≡ None → (lines : LinesView) → look_under_lock_in stands slot lines (going_in slot o lines) ≡ None
       none_of None is lines = refl
       none_of (Some (occupant.Refused line x)) is lines = refl
       none_of (Some (occupant.Running r)) is lines = absurd (none-some r (sym is))
 
-      go : (o n : Option (Occupant R)) → IsAlikeIn stands o n → own_look_in stands slot new.lines (going_in slot n new.lines) ≡ own_look_in stands slot old.lines (going_in slot o old.lines)
+      go : (o n : Option (Occupant R)) → IsAlikeIn stands o n → look_under_lock_in stands slot new.lines (going_in slot n new.lines) ≡ look_under_lock_in stands slot old.lines (going_in slot o old.lines)
       go (Some (occupant.Running p)) (Some (occupant.Running q)) same = look_running slot p q old.lines new.lines same alike.lines
       go (Some (occupant.Running p)) (Some (occupant.Refused line x)) same = absurd (none-some p (ap running_in same))
       go (Some (occupant.Running p)) None same = absurd (none-some p (ap running_in same))
@@ -113,8 +113,8 @@ module _ {R : Type 0} (stands : R → Standing) where
   may_alike : (old new : ClientView R) → IsClientAlike stands old new → (p : ImageAt) → may_release new p ≡ may_release old p
   may_alike old new alike p =
       ap (λ (s : LockState). not s.quiesced && (not (any_past (lines_of new.session.lines p.site p.image)) && not (any_taken p.site p.image new.slots))) (alike.locks p.site p.image)
-      ∙ ap (λ (ls : Lines). not (state_at p.site p.image old.locks).quiesced && (not (any_past (ls p.site p.image)) && not (any_taken p.site p.image new.slots))) alike.session.lines
-      ∙ ap (λ slots. not (state_at p.site p.image old.locks).quiesced && (not (any_past (lines_of old.session.lines p.site p.image)) && not (any_taken p.site p.image slots))) alike.slots
+      ∙ ap (λ (ls : Lines). not (lock_state_at p.site p.image old.locks).quiesced && (not (any_past (ls p.site p.image)) && not (any_taken p.site p.image new.slots))) alike.session.lines
+      ∙ ap (λ slots. not (lock_state_at p.site p.image old.locks).quiesced && (not (any_past (lines_of old.session.lines p.site p.image)) && not (any_taken p.site p.image slots))) alike.slots
 
   find_by : (f g : ImageAt → Bool) (ps : List ImageAt) → ((p : ImageAt) → f p ≡ g p) → find f ps ≡ find g ps
   find_by f g [] same = refl
@@ -126,13 +126,13 @@ module _ {R : Type 0} (stands : R → Standing) where
   pub actor_alike : (slot : ℕ) (old new : ClientView R) → IsClientAlike stands old new → actor_at stands slot new ≡ actor_at stands slot old
   actor_alike slot old new alike = by (slot == 0)
     where
-      by : (b : Bool) → cond b (releasing new.release (due_release new)) (actor_on (state_in slot new.slots).way (own_look_at stands slot new.session) new.locks)
-          ≡ cond b (releasing old.release (due_release old)) (actor_on (state_in slot old.slots).way (own_look_at stands slot old.session) old.locks)
-      by true = ap (λ r. releasing r (due_release new)) alike.release ∙ ap (releasing old.release) (due_alike old new alike)
+      by : (b : Bool) → cond b (release_actor new.release (due_release new)) (actor_on (slot_state slot new.slots).way (look_under_lock_at stands slot new.session) new.locks)
+          ≡ cond b (release_actor old.release (due_release old)) (actor_on (slot_state slot old.slots).way (look_under_lock_at stands slot old.session) old.locks)
+      by true = ap (λ r. release_actor r (due_release new)) alike.release ∙ ap (release_actor old.release) (due_alike old new alike)
       by false =
-          ap (λ slots. actor_on (state_in slot slots).way (own_look_at stands slot new.session) new.locks) alike.slots
-          ∙ ap (λ look. actor_on (state_in slot old.slots).way look new.locks) (look_alike slot old.session new.session alike.session)
-          ∙ on_alike (state_in slot old.slots).way (own_look_at stands slot old.session) old.locks new.locks alike.locks
+          ap (λ slots. actor_on (slot_state slot slots).way (look_under_lock_at stands slot new.session) new.locks) alike.slots
+          ∙ ap (λ look. actor_on (slot_state slot old.slots).way look new.locks) (look_alike slot old.session new.session alike.session)
+          ∙ on_alike (slot_state slot old.slots).way (look_under_lock_at stands slot old.session) old.locks new.locks alike.locks
 
   -- ---- what holds of it
 
@@ -158,8 +158,8 @@ module _ {R : Type 0} (stands : R → Standing) where
     session = session;
     locks = locks;
     slots = ap length alike.slots ∙ sound.slots;
-    free = λ slot none. ap (state_in slot) alike.slots ∙ sound.free slot (free_alike slot old.session new.session alike.session none);
-    ways = λ slot. subst (λ slots. IsWellOnWay stands slot (state_in slot slots).way new.session new.locks) (sym alike.slots) (way_there slot (state_in slot old.slots).way (sound.ways slot));
+    free = λ slot none. ap (slot_state slot) alike.slots ∙ sound.free slot (free_alike slot old.session new.session alike.session none);
+    ways = λ slot. subst (λ slots. IsWellOnWay stands slot (slot_state slot slots).way new.session new.locks) (sym alike.slots) (way_there slot (slot_state slot old.slots).way (sound.ways slot));
     telling = subst IsTelling (sym alike.release) sound.telling;
   }
     where

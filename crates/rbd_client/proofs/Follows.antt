@@ -7,33 +7,32 @@ use Rattle.std.proofs.lemmas.Option.{none-some, same_Some}
 use Rattle.rbd_client.specs.declared.actor.Actor.{Actor}
 use Rattle.rbd_client.specs.declared.actor.Actor.TheVariants as actor
 use Rattle.rbd_client.specs.declared.slot_state.Way.TheVariants as way
-use Rattle.rbd_client.specs.Actor.{actor_at, actor_on, any_taken, due_release, is_at_rest, kind_by, kind_wanted, may_release, op_by, op_wanted, releasing}
+use Rattle.rbd_client.specs.Actor.{actor_at, actor_on, any_taken, due_release, is_at_rest, kind_by, kind_wanted, may_release, op_by, op_wanted, release_actor}
 use Rattle.rbd_client.specs.Feeding.{DropsAtRest, IsAtRest, IsFedBy}
 use Rattle.rbd_client.proofs.Owning.{ends_by, keeps_owned, relied_lasts, relies}
 use Rattle.rbd_kinds.specs.declared.machine.Fed.{Fed}
 use Rattle.rbd_kinds.specs.declared.operation.Op.{Op}
 use Rattle.rbd_kinds.specs.declared.reply.Reply.{Reply}
-use Rattle.rbd_line.specs.Line.{any_past}
-use Rattle.rbd_owner.specs.Acquire.{op_of}
-use Rattle.rbd_owner.specs.Release.{release_op}
-use Rattle.rbd_client.specs.Client.{ClientView, state_in}
+use Rattle.rbd_queue.specs.Line.{any_past}
+use Rattle.rbd_lock.specs.Acquire.{op_of, begun_way}
+use Rattle.rbd_lock.specs.Release.{release_op}
+use Rattle.rbd_client.specs.Client.{ClientView, slot_state}
 use Rattle.rbd_client.specs.Laws.{DropsALock, IsHeldBack, removes_header}
 use Rattle.rbd_client.specs.Sound.{IsOwned, IsSoundClient, IsTelling}
 use Rattle.rbd_client.proofs.OnWay.{found_may, is_telling, release_rests, released_at_zero, way_rests}
 use Rattle.rbd_commands.specs.declared.quiescing.Quiescing.TheVariants as quiescing
 use Rattle.rbd_kinds.specs.declared.id.SiteId.{SiteId}
 use Rattle.rbd_kinds.specs.declared.image_at.ImageAt.{ImageAt}
-use Rattle.rbd_locks.specs.declared.lock_state.LockState.{LockState}
-use Rattle.rbd_locks.specs.Locks.{state_at}
+use Rattle.rbd_lock.specs.declared.lock_state.LockState.{LockState}
+use Rattle.rbd_lock.specs.Locks.{lock_state_at}
 use Rattle.rbd_kinds.specs.Images.{is_at}
 use Rattle.rbd_kinds.proofs.Images.{at_itself}
-use Rattle.rbd_locks.specs.Places.{is_among}
+use Rattle.rbd_lock.specs.Places.{is_among}
 use Rattle.rbd_machine.specs.Plan.{Standing}
-use Rattle.rbd_owner.specs.Acquire.{begun}
-use Rattle.rbd_owner.specs.declared.release.Release.{Release}
-use Rattle.rbd_session.specs.Lines.{lines_of}
-use Rattle.rbd_session.specs.Session.{held_in, own_look_at, running_in}
-use Rattle.rbd_session.proofs.OwnLooks.{at_own_look}
+use Rattle.rbd_lock.specs.declared.release.Release.{Release}
+use Rattle.rbd_slots.specs.Lines.{lines_of}
+use Rattle.rbd_slots.specs.Session.{held_in, look_under_lock_at, running_in}
+use Rattle.rbd_slots.proofs.LooksUnderLock.{at_look_under_lock}
 
 module _ {R : Type 0} (stands : R → Standing) where
   -- ---- a lock lasts while somebody relies on it
@@ -71,25 +70,25 @@ module _ {R : Type 0} (stands : R → Standing) where
 
   -- ---- held back
 
-  pub held_back : (c : ClientView R) (slot : ℕ) (p : ImageAt) → IsSoundClient stands c → own_look_at stands slot c.session ≡ Some p → (state_in slot c.slots).way ≡ way.Unbegun
+  pub held_back : (c : ClientView R) (slot : ℕ) (p : ImageAt) → IsSoundClient stands c → look_under_lock_at stands slot c.session ≡ Some p → (slot_state slot c.slots).way ≡ way.Unbegun
       → IsHeldBack p.site p.image c.locks → kind_wanted stands slot c ≡ None
   held_back c slot p sound at unbegun held = by (slot == 0) refl
     where
       s : LockState
-      s = state_at p.site p.image c.locks
+      s = lock_state_at p.site p.image c.locks
 
-      nobody : actor_on (state_in slot c.slots).way (own_look_at stands slot c.session) c.locks ≡ actor.Nobody
+      nobody : actor_on (slot_state slot c.slots).way (look_under_lock_at stands slot c.session) c.locks ≡ actor.Nobody
       nobody =
-          ap (λ w. actor_on w (own_look_at stands slot c.session) c.locks) unbegun
+          ap (λ w. actor_on w (look_under_lock_at stands slot c.session) c.locks) unbegun
           ∙ ap (λ look. actor_on way.Unbegun look c.locks) at
-          ∙ ap (λ b. cond b actor.Nobody (cond s.owned actor.Request (actor.Way (begun p.site p.image s.watched)))) held
+          ∙ ap (λ b. cond b actor.Nobody (cond s.owned actor.Request (actor.Way (begun_way p.site p.image s.watched)))) held
 
       none_at_zero : slot ≡ 0 → ⊥
       none_at_zero is =
-          none-some (at_own_look stands c.session slot p at).running
-          (sym (ap running_in (ap (λ k. held_in k c.session.slots) is ∙ sound.session.zero)) ∙ (at_own_look stands c.session slot p at).runs)
+          none-some (at_look_under_lock stands c.session slot p at).running
+          (sym (ap running_in (ap (λ k. held_in k c.session.slots) is ∙ sound.session.zero)) ∙ (at_look_under_lock stands c.session slot p at).runs)
 
-      by : (b : Bool) → (slot == 0) ≡ b → kind_by stands slot c.session (cond b (releasing c.release (due_release c)) (actor_on (state_in slot c.slots).way (own_look_at stands slot c.session) c.locks)) ≡ None
+      by : (b : Bool) → (slot == 0) ≡ b → kind_by stands slot c.session (cond b (release_actor c.release (due_release c)) (actor_on (slot_state slot c.slots).way (look_under_lock_at stands slot c.session) c.locks)) ≡ None
       by true is = absurd (none_at_zero (eqb-true slot 0 is))
       by false is = ap (kind_by stands slot c.session) nobody
 
@@ -97,7 +96,7 @@ module _ {R : Type 0} (stands : R → Standing) where
 
   pub record MayBegin (c : ClientView R) (r : Release) : Type 0 where
     pub asked : IsTrue (is_among r.site r.image c.locks.asked)
-    pub open_again : IsFalse (state_at r.site r.image c.locks).quiesced
+    pub open_again : IsFalse (lock_state_at r.site r.image c.locks).quiesced
     pub rest : is_at_rest r.site r.image c ≡ true
 
   found_among : (f : ImageAt → Bool) (ps : List ImageAt) (p : ImageAt) → find f ps ≡ Some p → is_among p.site p.image ps ≡ true
@@ -125,16 +124,16 @@ module _ {R : Type 0} (stands : R → Standing) where
   pub release_begins : (c : ClientView R) (r : Release) → IsSoundClient stands c → actor_at stands 0 c ≡ actor.Release r → DropsALock r → MayBegin c r
   release_begins c r sound acts drops = by c.release (due_release c) refl sound.telling acts
     where
-      by : (o : Option Release) (due : Option ImageAt) → due_release c ≡ due → IsTelling o → releasing o due ≡ actor.Release r → MayBegin c r
+      by : (o : Option Release) (due : Option ImageAt) → due_release c ≡ due → IsTelling o → release_actor o due ≡ actor.Release r → MayBegin c r
       by (Some q) due at tells is =
           let same : q ≡ r = ap (release_or r) is in
           absurd (true≢false (sym (ap is_telling tells) ∙ ap (λ (x : Release). is_telling x.stage) same ∙ ap is_telling drops))
       by None (Some p) at tells is =
           let same = ap (release_or r) is in
-          let parts = and_parts (not (state_at p.site p.image c.locks).quiesced) (is_at_rest p.site p.image c) (found_may stands (may_release c) c.locks.asked p at) in
+          let parts = and_parts (not (lock_state_at p.site p.image c.locks).quiesced) (is_at_rest p.site p.image c) (found_may stands (may_release c) c.locks.asked p at) in
           subst (MayBegin c) same (record {
             asked = found_among (may_release c) c.locks.asked p at;
-            open_again = not_true (state_at p.site p.image c.locks).quiesced parts.0;
+            open_again = not_true (lock_state_at p.site p.image c.locks).quiesced parts.0;
             rest = parts.1;
           })
       by None None at tells is = absurd (true≢false (sym (ap is_release is)))

@@ -4,8 +4,8 @@ use Rattle.std.proofs.Math.Bool.{and-true}
 use Rattle.rbd_client.specs.declared.slot_state.SlotState.{SlotState}
 use Rattle.rbd_client.specs.declared.slot_state.Way.{Way}
 use Rattle.rbd_client.specs.declared.slot_state.Way.TheVariants as way
-use Rattle.rbd_client.specs.Actor.{any_taken, has_taken, is_at_rest}
-use Rattle.rbd_client.specs.Client.{ClientView, state_in}
+use Rattle.rbd_client.specs.Actor.{any_taken, way_has_taken, is_at_rest}
+use Rattle.rbd_client.specs.Client.{ClientView, slot_state}
 use Rattle.rbd_client.specs.Feeding.{comings_of, quiesced_by, resumes, CountsAll, IsAtRest}
 use Rattle.rbd_client.specs.Laws.{removes_header}
 use Rattle.rbd_client.specs.Sound.{IsOwned}
@@ -21,16 +21,16 @@ use Rattle.rbd_kinds.specs.declared.machine.Fed.{Fed}
 use Rattle.rbd_kinds.specs.declared.machine.Fed.TheVariants as fed
 use Rattle.rbd_kinds.specs.declared.operation.Op.{Op}
 use Rattle.rbd_kinds.specs.declared.operation.Op.TheVariants as op
-use Rattle.rbd_line.specs.Line.{any_past}
+use Rattle.rbd_queue.specs.Line.{any_past}
 use Rattle.rbd_kinds.specs.declared.image_at.ImageAt.{ImageAt}
-use Rattle.rbd_locks.specs.declared.lock_state.LockState.{LockState}
-use Rattle.rbd_locks.specs.Comings.{after_all}
-use Rattle.rbd_locks.specs.Locks.{LocksView, counted, state_at}
+use Rattle.rbd_lock.specs.declared.lock_state.LockState.{LockState}
+use Rattle.rbd_lock.specs.Comings.{after_all}
+use Rattle.rbd_lock.specs.Locks.{LocksView, counted, lock_state_at}
 use Rattle.rbd_kinds.specs.Images.{is_at}
 use Rattle.rbd_kinds.proofs.Images.{at_itself}
-use Rattle.rbd_locks.specs.States.{answered, quieted, resumed}
-use Rattle.rbd_locks.proofs.Keys.{where_same}
-use Rattle.rbd_session.specs.Lines.{lines_of}
+use Rattle.rbd_lock.specs.States.{answered, quieted, resumed}
+use Rattle.rbd_lock.proofs.Keys.{where_same}
+use Rattle.rbd_slots.specs.Lines.{lines_of}
 
 -- ---- one image
 
@@ -90,19 +90,19 @@ owned_behind q look site o fed.Passed there image s stays owned = owned
 pub keeps_owned : (q : Quiescing) (look : Option ImageAt) (site : SiteId) (o : Op) (f : Fed) (old new : LocksView) → CountsAll (comings_of q look site o f) old new
     → (there : SiteId) (image : ℕ) → ends_by site o f there image ≡ false → IsOwned there image old → IsOwned there image new
 keeps_owned q look site o f old new counts there image stays owned =
-    ap (λ (s : LockState). s.owned) (counts there image) ∙ owned_behind q look site o f there image (state_at there image old) stays owned
+    ap (λ (s : LockState). s.owned) (counts there image) ∙ owned_behind q look site o f there image (lock_state_at there image old) stays owned
 
 -- ---- a lock on which somebody relies lasts
 
-pub taken_at : (slot : ℕ) (slots : List SlotState) (p : ImageAt) → (state_in slot slots).way ≡ way.Taken p → any_taken p.site p.image slots ≡ true
+pub taken_at : (slot : ℕ) (slots : List SlotState) (p : ImageAt) → (slot_state slot slots).way ≡ way.Taken p → any_taken p.site p.image slots ≡ true
 taken_at slot [] p is = absurd (true≢false (sym (ap is_taken is)))
   where
     is_taken : Way → Bool
     is_taken (way.Taken q) = true
     is_taken w = false
 taken_at zero (s ∷ slots) p is =
-    ap (λ b. b || any_taken p.site p.image slots) (ap (has_taken p.site p.image) is ∙ at_itself p.site p.image)
-taken_at (suc slot) (s ∷ slots) p is = or_true (has_taken p.site p.image s.way) (taken_at slot slots p is)
+    ap (λ b. b || any_taken p.site p.image slots) (ap (way_has_taken p.site p.image) is ∙ at_itself p.site p.image)
+taken_at (suc slot) (s ∷ slots) p is = or_true (way_has_taken p.site p.image s.way) (taken_at slot slots p is)
   where
     or_true : (b : Bool) → any_taken p.site p.image slots ≡ true → (b || any_taken p.site p.image slots) ≡ true
     or_true true is = refl

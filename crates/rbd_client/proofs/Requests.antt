@@ -7,14 +7,14 @@ use Rattle.rbd_client.specs.declared.actor.Actor.TheVariants as actor
 use Rattle.rbd_client.specs.declared.slot_state.SlotState.{SlotState}
 use Rattle.rbd_client.specs.declared.slot_state.Way.{Way}
 use Rattle.rbd_client.specs.declared.slot_state.Way.TheVariants as way
-use Rattle.rbd_client.specs.Actor.{actor_at, actor_by, actor_on, due_release, releasing}
-use Rattle.rbd_client.specs.Client.{ClientView, state_in}
+use Rattle.rbd_client.specs.Actor.{actor_at, actor_by, actor_on, due_release, release_actor}
+use Rattle.rbd_client.specs.Client.{ClientView, slot_state}
 use Rattle.rbd_client.specs.Feeding.{comings_of, state_behind, CountsAll, IsAtRest}
 use Rattle.rbd_client.specs.Sound.{IsOwned, IsSoundClient, IsTelling, IsWellOnWay, WaitsForLook}
 use Rattle.rbd_client.proofs.Kept.{sound_behind, LeavesSlots}
 use Rattle.rbd_client.proofs.Owning.{ends}
 use Rattle.rbd_kinds.specs.declared.answer.Answer.TheVariants as answer
-use Rattle.rbd_course.specs.declared.stage.Stage.{Stage}
+use Rattle.rbd_machine.specs.declared.stage.Stage.{Stage}
 use Rattle.rbd_kinds.specs.declared.answer.Answer.{Answer}
 use Rattle.rbd_kinds.specs.declared.header_op.HeaderOp.TheVariants as header
 use Rattle.rbd_kinds.specs.declared.id.SiteId.{SiteId}
@@ -23,22 +23,22 @@ use Rattle.rbd_kinds.specs.declared.operation.Op.{Op}
 use Rattle.rbd_kinds.specs.declared.operation.Op.TheVariants as op
 use Rattle.rbd_kinds.specs.declared.reply.Reply.{Reply}
 use Rattle.rbd_kinds.specs.OperationKind.{kind_of}
-use Rattle.rbd_line.specs.Line.{Member, member_of}
+use Rattle.rbd_queue.specs.Line.{Member, member_of}
 use Rattle.rbd_kinds.specs.declared.image_at.ImageAt.{ImageAt}
-use Rattle.rbd_locks.specs.declared.lock_state.LockState.{LockState}
-use Rattle.rbd_locks.specs.Locks.{LocksView, IsSoundLocks, state_at}
+use Rattle.rbd_lock.specs.declared.lock_state.LockState.{LockState}
+use Rattle.rbd_lock.specs.Locks.{LocksView, IsSoundLocks, lock_state_at}
 use Rattle.rbd_machine.specs.Plan.{Plan, Ask, Await, Note, Return, Goto, Standing}
-use Rattle.rbd_owner.specs.Acquire.{begun}
-use Rattle.rbd_owner.specs.declared.release.Release.{Release}
-use Rattle.rbd_session.specs.declared.running.Occupant.{Occupant}
-use Rattle.rbd_session.specs.declared.running.Occupant.TheVariants as occupant
-use Rattle.rbd_session.specs.declared.running.Running.{Running}
-use Rattle.rbd_session.specs.Advance.{track_of, IsFedWell}
-use Rattle.rbd_session.specs.Lines.{lines_of}
-use Rattle.rbd_session.specs.Session.{SessionView, ComesToIn, IsAtOwnLook, IsFed, IsReadied, IsSoundSession, OfRunning, going_in, held_in, is_look_at, kind_asked, op_asked, op_at, of_going, own_look_at, own_look_in, own_look_of, running_in}
-use Rattle.rbd_session.specs.Waits.{waits, waits_at}
-use Rattle.rbd_session.proofs.OwnLooks.{at_own_look}
-use Rattle.rbd_session.proofs.OwnLooksStay.{stays_behind_feeding}
+use Rattle.rbd_lock.specs.Acquire.{begun_way}
+use Rattle.rbd_lock.specs.declared.release.Release.{Release}
+use Rattle.rbd_slots.specs.declared.running.Occupant.{Occupant}
+use Rattle.rbd_slots.specs.declared.running.Occupant.TheVariants as occupant
+use Rattle.rbd_slots.specs.declared.running.Running.{Running}
+use Rattle.rbd_slots.specs.Advance.{track_of, IsFedWell}
+use Rattle.rbd_slots.specs.Lines.{lines_of}
+use Rattle.rbd_slots.specs.Session.{SessionView, ComesToIn, IsAtLookUnderLock, IsFed, IsReadied, IsSoundSession, OfRunning, going_in, held_in, is_look_at, kind_asked, op_asked, op_at, of_going, look_under_lock_at, look_under_lock_in, look_under_lock_of, running_in}
+use Rattle.rbd_slots.specs.Waits.{waits, waits_at}
+use Rattle.rbd_slots.proofs.LooksUnderLock.{at_look_under_lock}
+use Rattle.rbd_slots.proofs.LooksUnderLockStay.{stays_behind_feeding}
 
 -- ---- who acts
 
@@ -47,7 +47,7 @@ abbrev pub is_request : Actor → Bool
 is_request actor.Request = true
 is_request x = false
 
-releases_nothing_else : (r : Option Release) (due : Option ImageAt) → is_request (releasing r due) ≡ false
+releases_nothing_else : (r : Option Release) (due : Option ImageAt) → is_request (release_actor r due) ≡ false
 releases_nothing_else (Some r) due = refl
 releases_nothing_else None (Some p) = refl
 releases_nothing_else None None = refl
@@ -55,7 +55,7 @@ releases_nothing_else None None = refl
 owned_where_it_acts : (s : LockState) (site : SiteId) (image : ℕ) → is_request (actor_by s site image) ≡ true → s.owned ≡ true
 owned_where_it_acts s site image = go (s.quiesced || s.asked) s.owned
   where
-    go : (held owned : Bool) → is_request (cond held actor.Nobody (cond owned actor.Request (actor.Way (begun site image s.watched)))) ≡ true → owned ≡ true
+    go : (held owned : Bool) → is_request (cond held actor.Nobody (cond owned actor.Request (actor.Way (begun_way site image s.watched)))) ≡ true → owned ≡ true
     go true owned is = absurd (true≢false (sym is))
     go false true is = refl
     go false false is = absurd (true≢false (sym is))
@@ -63,53 +63,53 @@ owned_where_it_acts s site image = go (s.quiesced || s.asked) s.owned
 module _ {R : Type 0} (stands : R → Standing) where
   -- who acts at a slot acts by the way of the request in it
   pub acts_by_way : (slot : ℕ) (c : ClientView R) → actor_at stands slot c ≡ actor.Request
-      → is_request (actor_on (state_in slot c.slots).way (own_look_at stands slot c.session) c.locks) ≡ true
+      → is_request (actor_on (slot_state slot c.slots).way (look_under_lock_at stands slot c.session) c.locks) ≡ true
   acts_by_way slot c acts = go (slot == 0) (ap is_request acts)
     where
-      go : (b : Bool) → is_request (cond b (releasing c.release (due_release c)) (actor_on (state_in slot c.slots).way (own_look_at stands slot c.session) c.locks)) ≡ true
-          → is_request (actor_on (state_in slot c.slots).way (own_look_at stands slot c.session) c.locks) ≡ true
+      go : (b : Bool) → is_request (cond b (release_actor c.release (due_release c)) (actor_on (slot_state slot c.slots).way (look_under_lock_at stands slot c.session) c.locks)) ≡ true
+          → is_request (actor_on (slot_state slot c.slots).way (look_under_lock_at stands slot c.session) c.locks) ≡ true
       go true is = absurd (true≢false (sym is ∙ releases_nothing_else c.release (due_release c)))
       go false is = is
 
   -- two images at whose look under the lock one request waits are one
-  one_place : (slot : ℕ) (site : SiteId) (image : ℕ) (p : ImageAt) (s : SessionView R) → WaitsForLook stands slot site image s → IsAtOwnLook slot p s → record { site = site; image = image } ≡ p
+  one_place : (slot : ℕ) (site : SiteId) (image : ℕ) (p : ImageAt) (s : SessionView R) → WaitsForLook stands slot site image s → IsAtLookUnderLock slot p s → record { site = site; image = image } ≡ p
   one_place slot site image p s w look =
       let same : w.request ≡ look.running = same_Some w.request look.running (sym w.runs ∙ look.runs) in
       same_Some (record { site = site; image = image }) p (sym w.place ∙ ap (λ (r : Running R). r.place) same ∙ look.place)
 
   -- A request at its look under the lock acts only where the lock counts as owned.
-  pub request_owns : (slot : ℕ) (c : ClientView R) → IsSoundClient stands c → actor_at stands slot c ≡ actor.Request → (p : ImageAt) → own_look_at stands slot c.session ≡ Some p
+  pub request_owns : (slot : ℕ) (c : ClientView R) → IsSoundClient stands c → actor_at stands slot c ≡ actor.Request → (p : ImageAt) → look_under_lock_at stands slot c.session ≡ Some p
       → IsOwned p.site p.image c.locks
-  request_owns slot c sound acts p at = go (state_in slot c.slots).way (sound.ways slot) (subst (λ look. is_request (actor_on (state_in slot c.slots).way look c.locks) ≡ true) at (acts_by_way slot c acts))
+  request_owns slot c sound acts p at = go (slot_state slot c.slots).way (sound.ways slot) (subst (λ look. is_request (actor_on (slot_state slot c.slots).way look c.locks) ≡ true) at (acts_by_way slot c acts))
     where
       go : (w : Way) → IsWellOnWay stands slot w c.session c.locks → is_request (actor_on w (Some p) c.locks) ≡ true → IsOwned p.site p.image c.locks
-      go way.Unbegun well is = owned_where_it_acts (state_at p.site p.image c.locks) p.site p.image is
+      go way.Unbegun well is = owned_where_it_acts (lock_state_at p.site p.image c.locks) p.site p.image is
       go (way.On a) well is = absurd (true≢false (sym is))
       go (way.Taken q) well is =
-          subst (λ (x : ImageAt). IsOwned x.site x.image c.locks) (one_place slot q.site q.image p c.session well.0 (at_own_look stands c.session slot p at)) well.1
+          subst (λ (x : ImageAt). IsOwned x.site x.image c.locks) (one_place slot q.site q.image p c.session well.0 (at_look_under_lock stands c.session slot p at)) well.1
 
   -- ---- a request that waits for its look under the lock, and may go on, stands there
 
   pub stands_at_look : (slot : ℕ) (site : SiteId) (image : ℕ) (s : SessionView R) → WaitsForLook stands slot site image s → OfRunning (λ r. waits slot (track_of r s.lines) ≡ false) (held_in slot s.slots)
-      → own_look_at stands slot s ≡ Some (record { site = site; image = image })
+      → look_under_lock_at stands slot s ≡ Some (record { site = site; image = image })
   stands_at_look slot site image s w goes = by (held_in slot s.slots) w.runs goes
     where
       here : Option ImageAt
       here = Some (record { site = site; image = image })
 
-      placed : own_look_of slot (kind_asked (stands w.request.request).plan) w.request.place s.lines ≡ here
+      placed : look_under_lock_of slot (kind_asked (stands w.request.request).plan) w.request.place s.lines ≡ here
       placed =
-          ap (λ p. own_look_of slot (kind_asked (stands w.request.request).plan) p s.lines) w.place
+          ap (λ p. look_under_lock_of slot (kind_asked (stands w.request.request).plan) p s.lines) w.place
           ∙ ap (λ b. cond (b && waits_at (option_map (λ (m : Member). m.stage) (member_of slot (lines_of s.lines site image)))) here None) w.wants
           ∙ ap (λ o. cond (waits_at (option_map (λ (m : Member). m.stage) o)) here None) w.found
           ∙ ap (λ (g : Stage). cond (waits_at (Some g)) here None) w.waits
 
-      by : (o : Option (Occupant R)) → running_in o ≡ Some w.request → OfRunning (λ r. waits slot (track_of r s.lines) ≡ false) o → own_look_in stands slot s.lines (going_in slot o s.lines) ≡ here
+      by : (o : Option (Occupant R)) → running_in o ≡ Some w.request → OfRunning (λ r. waits slot (track_of r s.lines) ≡ false) o → look_under_lock_in stands slot s.lines (going_in slot o s.lines) ≡ here
       by None is goes = absurd (none-some w.request is)
       by (Some (occupant.Refused line x)) is goes = absurd (none-some w.request is)
       by (Some (occupant.Running r)) is goes =
-          ap (λ b. own_look_in stands slot s.lines (cond b None (Some r))) goes
-          ∙ ap (λ (q : Running R). own_look_of slot (kind_asked (stands q.request).plan) q.place s.lines) (same_Some r w.request is)
+          ap (λ b. look_under_lock_in stands slot s.lines (cond b None (Some r))) goes
+          ∙ ap (λ (q : Running R). look_under_lock_of slot (kind_asked (stands q.request).plan) q.place s.lines) (same_Some r w.request is)
           ∙ placed
 
   -- ---- the operation of a look under the lock ends no lock
@@ -127,7 +127,7 @@ module _ {R : Type 0} (stands : R → Standing) where
   asked_kind (Return r) site o is = absurd (none-some (site, o) is)
   asked_kind (Goto l) site o is = absurd (none-some (site, o) is)
 
-  pub look_ends_nothing : (slot : ℕ) (site : SiteId) (o : Op) (s : SessionView R) (p : ImageAt) → own_look_at stands slot s ≡ Some p → op_at stands slot s ≡ Some (site, o)
+  pub look_ends_nothing : (slot : ℕ) (site : SiteId) (o : Op) (s : SessionView R) (p : ImageAt) → look_under_lock_at stands slot s ≡ Some p → op_at stands slot s ≡ Some (site, o)
       → (a : Answer) (there : SiteId) (image : ℕ) → ends site o a there image ≡ false
   look_ends_nothing slot site o s p at wanted a there image = by (going_in slot (held_in slot s.slots) s.lines) at wanted
     where
@@ -138,11 +138,11 @@ module _ {R : Type 0} (stands : R → Standing) where
           go true is = refl
           go false is = absurd (none-some p is)
 
-      by : (g : Option (Running R)) → own_look_in stands slot s.lines g ≡ Some p → of_going stands op_asked g ≡ Some (site, o) → ends site o a there image ≡ false
+      by : (g : Option (Running R)) → look_under_lock_in stands slot s.lines g ≡ Some p → of_going stands op_asked g ≡ Some (site, o) → ends site o a there image ≡ false
       by None at wanted = absurd (none-some p at)
       by (Some r) at wanted = go r.place at
         where
-          go : (place : Option ImageAt) → own_look_of slot (kind_asked (stands r.request).plan) place s.lines ≡ Some p → ends site o a there image ≡ false
+          go : (place : Option ImageAt) → look_under_lock_of slot (kind_asked (stands r.request).plan) place s.lines ≡ Some p → ends site o a there image ≡ false
           go None at = absurd (none-some p at)
           go (Some q) at =
               look_ends_none q.site site o a there image
@@ -170,32 +170,32 @@ module _ {R : Type 0} (stands : R → Standing) where
 
     -- the way of a request that acts is over behind its answer, or was never begun
     way_over : (slot : ℕ) (f : Fed) (c : ClientView R) → IsSoundClient stands c → actor_at stands slot c ≡ actor.Request → IsReadied stands is_ready slot f c.session
-        → (t : SessionView R) (locks : LocksView) (ended : Bool) → IsWellOnWay stands slot (state_behind ended (is_some (own_look_at stands slot c.session)) (state_in slot c.slots)).way t locks
+        → (t : SessionView R) (locks : LocksView) (ended : Bool) → IsWellOnWay stands slot (state_behind ended (is_some (look_under_lock_at stands slot c.session)) (slot_state slot c.slots)).way t locks
     way_over slot f c sound acts ready t locks true = tt
-    way_over slot f c sound acts ready t locks false = go (own_look_at stands slot c.session) refl
+    way_over slot f c sound acts ready t locks false = go (look_under_lock_at stands slot c.session) refl
       where
-        unlooked : own_look_at stands slot c.session ≡ None → (w : Way) → (state_in slot c.slots).way ≡ w → IsWellOnWay stands slot w t locks
+        unlooked : look_under_lock_at stands slot c.session ≡ None → (w : Way) → (slot_state slot c.slots).way ≡ w → IsWellOnWay stands slot w t locks
         unlooked none way.Unbegun is = tt
         unlooked none (way.On a) is =
-            absurd (true≢false (sym (acts_by_way slot c acts) ∙ ap (λ w. is_request (actor_on w (own_look_at stands slot c.session) c.locks)) is))
+            absurd (true≢false (sym (acts_by_way slot c acts) ∙ ap (λ w. is_request (actor_on w (look_under_lock_at stands slot c.session) c.locks)) is))
         unlooked none (way.Taken p) is =
             absurd (none-some (record { site = p.site; image = p.image }) (
             sym none ∙ stands_at_look slot p.site p.image c.session (subst (λ w. IsWellOnWay stands slot w c.session c.locks) is (sound.ways slot)).0 (goes_on slot f c.session ready)))
 
-        go : (look : Option ImageAt) → own_look_at stands slot c.session ≡ look → IsWellOnWay stands slot (cond (is_some look) (record { way = way.Unbegun; quiescing = (state_in slot c.slots).quiescing }) (state_in slot c.slots)).way t locks
+        go : (look : Option ImageAt) → look_under_lock_at stands slot c.session ≡ look → IsWellOnWay stands slot (cond (is_some look) (record { way = way.Unbegun; quiescing = (slot_state slot c.slots).quiescing }) (slot_state slot c.slots)).way t locks
         go (Some p) at = tt
-        go None at = unlooked at (state_in slot c.slots).way refl
+        go None at = unlooked at (slot_state slot c.slots).way refl
 
     pub request_sound : (slot : ℕ) (site : SiteId) (o : Op) (f : Fed) (result : Option Reply) (old new : ClientView R)
         → IsSoundClient stands old → IsSoundSession stands new.session → IsSoundLocks new.locks → actor_at stands slot old ≡ actor.Request → IsReadied stands is_ready slot f old.session
         → op_at stands slot old.session ≡ Some (site, o)
         → IsFed stands slot f result old.session new.session → LeavesSlots stands slot old new → length new.slots ≡ 65 → new.release ≡ old.release
-        → CountsAll (comings_of (state_in slot old.slots).quiescing (own_look_at stands slot old.session) site o f) old.locks new.locks → IsAtRest site o old
-        → state_in slot new.slots ≡ state_behind (is_some result) (is_some (own_look_at stands slot old.session)) (state_in slot old.slots)
+        → CountsAll (comings_of (slot_state slot old.slots).quiescing (look_under_lock_at stands slot old.session) site o f) old.locks new.locks → IsAtRest site o old
+        → slot_state slot new.slots ≡ state_behind (is_some result) (is_some (look_under_lock_at stands slot old.session)) (slot_state slot old.slots)
         → IsSoundClient stands new
     request_sound slot site o f result old new sound session locks acts ready wanted is_fed leaves slots release counts rest state =
-        sound_behind stands slot site o f (state_in slot old.slots).quiescing (own_look_at stands slot old.session) old new sound session locks leaves slots
+        sound_behind stands slot site o f (slot_state slot old.slots).quiescing (look_under_lock_at stands slot old.session) old new sound session locks leaves slots
         (subst IsTelling (sym release) sound.telling) counts rest
-        (λ none. state ∙ ap (λ b. state_behind b (is_some (own_look_at stands slot old.session)) (state_in slot old.slots)) (fed_free slot f result old.session new.session is_fed none))
+        (λ none. state ∙ ap (λ b. state_behind b (is_some (look_under_lock_at stands slot old.session)) (slot_state slot old.slots)) (fed_free slot f result old.session new.session is_fed none))
         (subst (λ (s : SlotState). IsWellOnWay stands slot s.way new.session new.locks) (sym state) (way_over slot f old sound acts ready new.session new.locks (is_some result)))
         (λ k differ p at. stays_behind_feeding stands old.session new.session k slot p sound.session differ (leaves.held k differ) at f result is_fed leaves.lines)

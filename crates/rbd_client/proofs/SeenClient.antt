@@ -6,8 +6,8 @@ use Rattle.rbd_client.specs.declared.actor.Actor.{Actor}
 use Rattle.rbd_client.specs.declared.actor.Actor.TheVariants as actor
 use Rattle.rbd_client.specs.declared.slot_state.Way.{Way}
 use Rattle.rbd_client.specs.declared.slot_state.Way.TheVariants as way
-use Rattle.rbd_client.specs.Actor.{actor_at, actor_on, due_release, kind_by, kind_wanted, op_by, op_wanted, releasing}
-use Rattle.rbd_client.specs.Client.{ClientView, state_in}
+use Rattle.rbd_client.specs.Actor.{actor_at, actor_on, due_release, kind_by, kind_wanted, op_by, op_wanted, release_actor}
+use Rattle.rbd_client.specs.Client.{ClientView, slot_state}
 use Rattle.rbd_client.specs.Feeding.{CountsAll, DropsAtRest, GoesItsWay, IsAtRest, IsClientAlike, IsFedBy, IsGivenUp, ReleaseIsFed, RequestIsFed, WayIsFed, comings_of, state_behind}
 use Rattle.rbd_client.specs.Seen.{as_is, seen, seen_running, seen_session}
 use Rattle.rbd_client.specs.Sound.{IsSoundClient, IsWellOnWay, WaitsForLook}
@@ -17,22 +17,22 @@ use Rattle.rbd_kinds.specs.declared.machine.Fed.{Fed}
 use Rattle.rbd_kinds.specs.declared.operation.Op.{Op}
 use Rattle.rbd_kinds.specs.declared.operation.Op.TheVariants as op
 use Rattle.rbd_kinds.specs.declared.reply.Reply.{Reply}
-use Rattle.rbd_locks.specs.Locks.{LocksView}
+use Rattle.rbd_lock.specs.Locks.{LocksView}
 use Rattle.rbd_machine.specs.Plan.{Standing}
-use Rattle.rbd_owner.specs.declared.acquire.Acquire.{Acquire}
-use Rattle.rbd_owner.specs.declared.release.Release.{Release}
-use Rattle.rbd_session.specs.declared.running.Running.{Running}
-use Rattle.rbd_session.specs.Advance.{track_of}
-use Rattle.rbd_session.specs.Lines.{lines_of}
-use Rattle.rbd_session.specs.Session.{SessionView, is_look_at, kind_asked, running_at}
-use Rattle.rbd_session.specs.Track.{ended_by}
+use Rattle.rbd_lock.specs.declared.acquire.Acquire.{Acquire}
+use Rattle.rbd_lock.specs.declared.release.Release.{Release}
+use Rattle.rbd_slots.specs.declared.running.Running.{Running}
+use Rattle.rbd_slots.specs.Advance.{track_of}
+use Rattle.rbd_slots.specs.Lines.{lines_of}
+use Rattle.rbd_slots.specs.Session.{SessionView, is_look_at, kind_asked, running_at}
+use Rattle.rbd_slots.specs.Track.{ended_by}
 use Rattle.rbd_client.proofs.SeenSession.{fed_seen, free_slot_seen, free_slot_unseen, kind_seen, look_seen, op_seen, running_seen, running_unseen, session_alike_seen, session_sound_seen, session_sound_unseen, something_unseen}
 
 module _ {R : Type 0} (stands : R → Standing) where
   -- ---- who acts, and what is wanted
 
   pub actor_seen : (slot : ℕ) (c : ClientView R) → actor_at as_is slot (seen stands c) ≡ actor_at stands slot c
-  actor_seen slot c = ap (λ look. if slot == 0 then releasing c.release (due_release c) else actor_on (state_in slot c.slots).way look c.locks) (look_seen stands slot c.session)
+  actor_seen slot c = ap (λ look. if slot == 0 then release_actor c.release (due_release c) else actor_on (slot_state slot c.slots).way look c.locks) (look_seen stands slot c.session)
 
   kind_by_seen : (slot : ℕ) (s : SessionView R) (who : Actor) → kind_by as_is slot (seen_session stands s) who ≡ kind_by stands slot s who
   kind_by_seen slot s actor.Nobody = refl
@@ -92,7 +92,7 @@ module _ {R : Type 0} (stands : R → Standing) where
     locks = sound.locks;
     slots = sound.slots;
     free = λ slot free. sound.free slot (free_slot_unseen stands slot c.session.slots free);
-    ways = λ slot. way_seen slot (state_in slot c.slots).way c.session c.locks (sound.ways slot);
+    ways = λ slot. way_seen slot (slot_state slot c.slots).way c.session c.locks (sound.ways slot);
     telling = sound.telling;
   }
 
@@ -122,7 +122,7 @@ module _ {R : Type 0} (stands : R → Standing) where
     locks = sound.locks;
     slots = sound.slots;
     free = λ slot free. sound.free slot (free_slot_seen stands slot c.session.slots free);
-    ways = λ slot. way_unseen slot (state_in slot c.slots).way c.session c.locks (sound.ways slot);
+    ways = λ slot. way_unseen slot (slot_state slot c.slots).way c.session c.locks (sound.ways slot);
     telling = sound.telling;
   }
 
@@ -157,8 +157,8 @@ module _ {R : Type 0} (stands : R → Standing) where
       → RequestIsFed stands slot site o f result old new → RequestIsFed as_is slot site o f result (seen stands old) (seen stands new)
   request_fed_seen slot site o f result old new is = record {
     fed = fed_seen stands slot f result old.session new.session is.fed;
-    counts = subst (λ look. CountsAll (comings_of (state_in slot old.slots).quiescing look site o f) old.locks new.locks) (sym (look_seen stands slot old.session)) is.counts;
-    state = subst (λ look. state_in slot new.slots ≡ state_behind (is_some result) (is_some look) (state_in slot old.slots)) (sym (look_seen stands slot old.session)) is.state;
+    counts = subst (λ look. CountsAll (comings_of (slot_state slot old.slots).quiescing look site o f) old.locks new.locks) (sym (look_seen stands slot old.session)) is.counts;
+    state = subst (λ look. slot_state slot new.slots ≡ state_behind (is_some result) (is_some look) (slot_state slot old.slots)) (sym (look_seen stands slot old.session)) is.state;
     release = is.release;
   }
 

@@ -13,15 +13,15 @@ use Rattle.rbd_machine.specs.Label.{Label}
 use Rattle.rbd_machine.specs.Path.{at_operation}
 use Rattle.rbd_machine.specs.Plan.{Plan, Ask, Await, Note, Return, Goto, Standing, IsAsking, plan_after}
 use Rattle.rbd_machine.specs.declared.seat.Seat.{Seat}
-use Rattle.rbd_session.specs.declared.running.Occupant.{Occupant}
-use Rattle.rbd_session.specs.declared.running.Occupant.TheVariants as occupant
-use Rattle.rbd_session.specs.declared.running.Running.{Running}
-use Rattle.rbd_session.specs.Advance.{ComesTo, GoesFurther, IsSameStand, fed_by, track_of}
-use Rattle.rbd_session.specs.Lines.{LinesView}
-use Rattle.rbd_session.specs.OnTrack.{IsOnTrack}
-use Rattle.rbd_session.specs.Session.{SessionView, BeginsAt, ComesToIn, IsAlike, IsAlikeIn, IsFed, IsLowest, IsNewcomer, IsSoundSession, OfRunning, going_in, held_in, kind_asked, kind_at, of_going, op_asked, op_at, own_look_at, own_look_in, refusal_in, running_at, running_in, script_line}
-use Rattle.rbd_session.specs.Track.{Track, run}
-use Rattle.rbd_session.specs.Waits.{waits}
+use Rattle.rbd_slots.specs.declared.running.Occupant.{Occupant}
+use Rattle.rbd_slots.specs.declared.running.Occupant.TheVariants as occupant
+use Rattle.rbd_slots.specs.declared.running.Running.{Running}
+use Rattle.rbd_slots.specs.Advance.{AdvancesTo, GoesFurther, IsSameStand, fed_by, track_of}
+use Rattle.rbd_slots.specs.Lines.{LinesView}
+use Rattle.rbd_slots.specs.OnTrack.{IsOnTrack}
+use Rattle.rbd_slots.specs.Session.{SessionView, BeginsAt, ComesToIn, IsAlike, IsAlikeIn, IsFed, IsLowest, IsNewcomer, IsSoundSession, OfRunning, going_in, held_in, kind_asked, kind_at, of_going, op_asked, op_at, look_under_lock_at, look_under_lock_in, refusal_in, running_at, running_in, script_line}
+use Rattle.rbd_slots.specs.Track.{Track, run}
+use Rattle.rbd_slots.specs.Waits.{waits}
 
 -- ---- what is there
 
@@ -116,14 +116,14 @@ module _ {R : Type 0} (stands : R → Standing) where
   pub op_seen : (slot : ℕ) (s : SessionView R) → op_at as_is slot (seen_session stands s) ≡ op_at stands slot s
   op_seen slot s = asked_seen op_asked slot s
 
-  look_of_seen : (slot : ℕ) (lines : LinesView) (o : Option (Running R)) → own_look_in as_is slot lines (option_map (seen_running stands) o) ≡ own_look_in stands slot lines o
+  look_of_seen : (slot : ℕ) (lines : LinesView) (o : Option (Running R)) → look_under_lock_in as_is slot lines (option_map (seen_running stands) o) ≡ look_under_lock_in stands slot lines o
   look_of_seen slot lines None = refl
   look_of_seen slot lines (Some r) = refl
 
-  pub look_seen : (slot : ℕ) (s : SessionView R) → own_look_at as_is slot (seen_session stands s) ≡ own_look_at stands slot s
+  pub look_seen : (slot : ℕ) (s : SessionView R) → look_under_lock_at as_is slot (seen_session stands s) ≡ look_under_lock_at stands slot s
   look_seen slot s =
-      ap (λ (o : Option (Occupant Standing)). own_look_in as_is slot s.lines (going_in slot o s.lines)) (held_seen slot s.slots)
-      ∙ ap (own_look_in as_is slot s.lines) (going_seen slot (held_in slot s.slots) s.lines)
+      ap (λ (o : Option (Occupant Standing)). look_under_lock_in as_is slot s.lines (going_in slot o s.lines)) (held_seen slot s.slots)
+      ∙ ap (look_under_lock_in as_is slot s.lines) (going_seen slot (held_in slot s.slots) s.lines)
       ∙ look_of_seen slot s.lines (going_in slot (held_in slot s.slots) s.lines)
 
   -- ---- a sound session
@@ -231,7 +231,7 @@ module _ {R : Type 0} (stands : R → Standing) where
   }
 
   comes_seen : (slot : ℕ) (labels : Label → Plan) (plan : Plan) (t : Track) (result : Option Reply) (r q : Running R) (lines : LinesView)
-      → ComesTo stands slot labels plan t result r q lines → ComesTo as_is slot labels plan t result (seen_running stands r) (seen_running stands q) lines
+      → AdvancesTo stands slot labels plan t result r q lines → AdvancesTo as_is slot labels plan t result (seen_running stands r) (seen_running stands q) lines
   comes_seen slot labels (Return reply) t result r q lines comes = comes
   comes_seen slot labels (Ask site why o next) t result r q lines comes = further_seen slot (record { labels = labels; plan = Ask site why o next }) t result r q lines comes
   comes_seen slot labels (Await w next) t result r q lines comes = further_seen slot (record { labels = labels; plan = Await w next }) t result r q lines comes

@@ -12,25 +12,25 @@ use Rattle.rbd_kinds.specs.declared.id.SiteId.{SiteId}
 use Rattle.rbd_kinds.specs.declared.machine.Fed.TheVariants as fed
 use Rattle.rbd_kinds.specs.declared.operation.Op.{Op}
 use Rattle.rbd_kinds.specs.declared.operation.Op.TheVariants as op
-use Rattle.rbd_line.specs.Line.{any_past}
+use Rattle.rbd_queue.specs.Line.{any_past}
 use Rattle.rbd_machine.specs.Answers.{CanBeFed, CanGive}
 use Rattle.rbd_machine.specs.Plan.{Plan, Ask, Await, Note, Return, Goto, Standing}
-use Rattle.rbd_owner.specs.Acquire.{op_at as way_op, rest_at as way_rest}
-use Rattle.rbd_owner.specs.declared.acquire.Stage.{Stage as WayStage}
-use Rattle.rbd_owner.specs.declared.acquire.Stage.TheVariants as way_stage
+use Rattle.rbd_lock.specs.Acquire.{op_at_stage as way_op, rest_at as way_rest}
+use Rattle.rbd_lock.specs.declared.acquire.Stage.{Stage as WayStage}
+use Rattle.rbd_lock.specs.declared.acquire.Stage.TheVariants as way_stage
 use Rattle.rbd_kinds.specs.declared.reply.Reply.TheVariants as reply
-use Rattle.rbd_owner.specs.declared.release.Stage.{Stage as ReleaseStage}
-use Rattle.rbd_owner.specs.declared.release.Stage.TheVariants as release_stage
-use Rattle.rbd_owner.specs.Release.{release_op_at, rest_at as release_rest}
-use Rattle.rbd_session.specs.declared.running.Occupant.{Occupant}
-use Rattle.rbd_session.specs.declared.running.Occupant.TheVariants as occupant
-use Rattle.rbd_session.specs.declared.running.Running.{Running}
-use Rattle.rbd_session.specs.Advance.{track_of, IsSameStand}
-use Rattle.rbd_session.specs.Lines.{LinesView, lines_of}
-use Rattle.rbd_session.specs.Session.{SessionView, IsAlike, IsAlikeIn, IsAnswered, OfRunning, going_in, held_in, of_going, op_asked, op_at, running_in}
-use Rattle.rbd_session.specs.Track.{Lines}
-use Rattle.rbd_session.specs.Waits.{waits}
-use Rattle.rbd_session.proofs.Readied.{same_track}
+use Rattle.rbd_lock.specs.declared.release.Stage.{Stage as ReleaseStage}
+use Rattle.rbd_lock.specs.declared.release.Stage.TheVariants as release_stage
+use Rattle.rbd_lock.specs.Release.{release_op_at, rest_at as release_rest}
+use Rattle.rbd_slots.specs.declared.running.Occupant.{Occupant}
+use Rattle.rbd_slots.specs.declared.running.Occupant.TheVariants as occupant
+use Rattle.rbd_slots.specs.declared.running.Running.{Running}
+use Rattle.rbd_slots.specs.Advance.{track_of, IsSameStand}
+use Rattle.rbd_slots.specs.Lines.{LinesView, lines_of}
+use Rattle.rbd_slots.specs.Session.{SessionView, IsAlike, IsAlikeIn, IsAnswered, OfRunning, going_in, held_in, of_going, op_asked, op_at, running_in}
+use Rattle.rbd_slots.specs.Track.{Lines}
+use Rattle.rbd_slots.specs.Waits.{waits}
+use Rattle.rbd_slots.proofs.Readied.{same_track}
 use Rattle.rbd_client.proofs.Alike.{actor_alike}
 
 -- ---- what it can be fed

@@ -7,70 +7,71 @@ use Rattle.rbd_client.specs.declared.actor.Actor.TheVariants as actor
 use Rattle.rbd_client.specs.declared.slot_state.SlotState.{SlotState}
 use Rattle.rbd_client.specs.declared.slot_state.Way.{Way}
 use Rattle.rbd_client.specs.declared.slot_state.Way.TheVariants as way
-use Rattle.rbd_client.specs.Client.{ClientView, state_in}
+use Rattle.rbd_client.specs.Client.{ClientView, slot_state}
 use Rattle.rbd_kinds.specs.declared.id.SiteId.{SiteId}
 use Rattle.rbd_kinds.specs.declared.operation.Op.{Op}
 use Rattle.rbd_kinds.specs.declared.operation_kind.OpKind.{OpKind}
 use Rattle.rbd_kinds.specs.OperationKind.{kind_of}
-use Rattle.rbd_line.specs.Line.{any_past}
+use Rattle.rbd_queue.specs.Line.{any_past}
 use Rattle.rbd_kinds.specs.declared.image_at.ImageAt.{ImageAt}
-use Rattle.rbd_locks.specs.declared.lock_state.LockState.{LockState}
-use Rattle.rbd_locks.specs.Locks.{LocksView, state_at}
+use Rattle.rbd_lock.specs.declared.lock_state.LockState.{LockState}
+use Rattle.rbd_lock.specs.Locks.{LocksView, lock_state_at}
 use Rattle.rbd_kinds.specs.Images.{is_at}
 use Rattle.rbd_machine.specs.Plan.{Standing}
-use Rattle.rbd_owner.specs.Acquire.{begun, op_of}
-use Rattle.rbd_owner.specs.declared.release.Release.{Release}
-use Rattle.rbd_owner.specs.Release.{begun_release, release_op}
-use Rattle.rbd_session.specs.Lines.{lines_of}
-use Rattle.rbd_session.specs.Session.{SessionView, kind_at, op_at, own_look_at}
+use Rattle.rbd_lock.specs.Acquire.{begun_way, op_of}
+use Rattle.rbd_lock.specs.declared.release.Release.{Release}
+use Rattle.rbd_lock.specs.Release.{begun_release, release_op}
+use Rattle.rbd_slots.specs.Lines.{lines_of}
+use Rattle.rbd_slots.specs.Session.{SessionView, kind_at, op_at, look_under_lock_at}
 
 -- ---- a request at its look under the lock
 
--- It goes on where the lock is the session's, and else by the way to it. A quiesce holds it back,
--- and so does another one that wants the lock.
+-- A request that stands at its look under the lock acts where the lock is the session's, and else
+-- its way to the lock does. A quiesce holds it back, and so does another session that wants the
+-- lock.
 abbrev pub actor_by : LockState → SiteId → (image : ℕ) → Actor
 actor_by s site image =
     if s.quiesced || s.asked then actor.Nobody
-    else if s.owned then actor.Request else actor.Way (begun site image s.watched)
+    else if s.owned then actor.Request else actor.Way (begun_way site image s.watched)
 
 abbrev pub actor_at_look : Option ImageAt → LocksView → Actor
 actor_at_look None locks = actor.Request
-actor_at_look (Some p) locks = actor_by (state_at p.site p.image locks) p.site p.image
+actor_at_look (Some p) locks = actor_by (lock_state_at p.site p.image locks) p.site p.image
 
--- One that is on its way goes on there, and one that has taken the lock itself isn't held back any
--- more.
+-- A request that is on its way goes on there. One that has taken the lock itself isn't held back
+-- any more.
 abbrev pub actor_on : Way → Option ImageAt → LocksView → Actor
 actor_on way.Unbegun look locks = actor_at_look look locks
 actor_on (way.On a) look locks = actor.Way a
 actor_on (way.Taken p) look locks = actor.Request
 
--- the operation that is wanted is a step on its request's way to the lock
+-- whether the slot's next operation is a step on its request's way to the lock
 abbrev pub is_acquiring : Actor → Bool
 is_acquiring (actor.Way a) = true
 is_acquiring _ = false
 
 -- ---- a release
 
-abbrev pub has_taken : SiteId → (image : ℕ) → Way → Bool
-has_taken site image (way.Taken p) = is_at site image p.site p.image
-has_taken site image w = false
+abbrev pub way_has_taken : SiteId → (image : ℕ) → Way → Bool
+way_has_taken site image (way.Taken p) = is_at site image p.site p.image
+way_has_taken site image w = false
 
 abbrev pub any_taken : SiteId → (image : ℕ) → List SlotState → Bool
-any_taken site image slots = list_any (λ (s : SlotState). has_taken site image s.way) slots
+any_taken site image slots = list_any (λ (s : SlotState). way_has_taken site image s.way) slots
 
 -- a release that has begun goes on
-abbrev pub releasing : Option Release → (due : Option ImageAt) → Actor
-releasing (Some r) due = actor.Release r
-releasing None (Some p) = actor.Release (begun_release p.site p.image)
-releasing None None = actor.Nobody
+abbrev pub release_actor : Option Release → (due : Option ImageAt) → Actor
+release_actor (Some r) due = actor.Release r
+release_actor None (Some p) = actor.Release (begun_release p.site p.image)
+release_actor None None = actor.Nobody
 
 module _ {R : Type 0} where
-  -- no request of the image is past its look under the lock, or has taken the lock itself
+  -- whether no request of the image is past its look under the lock, or has taken the lock itself
   abbrev pub is_at_rest : SiteId → (image : ℕ) → ClientView R → Bool
   is_at_rest site image c = not (any_past (lines_of c.session.lines site image)) && not (any_taken site image c.slots)
 
   abbrev pub may_release : ClientView R → ImageAt → Bool
-  may_release c p = not (state_at p.site p.image c.locks).quiesced && is_at_rest p.site p.image c
+  may_release c p = not (lock_state_at p.site p.image c.locks).quiesced && is_at_rest p.site p.image c
 
   -- of the images that were asked for, in order, the first whose lock may be let go
   abbrev pub due_release : ClientView R → Option ImageAt
@@ -80,8 +81,8 @@ module _ {R : Type 0} where
 
   abbrev pub actor_at : (stands : R → Standing) → (slot : ℕ) → ClientView R → Actor
   actor_at stands slot c =
-      if slot == 0 then releasing c.release (due_release c)
-      else actor_on (state_in slot c.slots).way (own_look_at stands slot c.session) c.locks
+      if slot == 0 then release_actor c.release (due_release c)
+      else actor_on (slot_state slot c.slots).way (look_under_lock_at stands slot c.session) c.locks
 
   -- ---- what it wants
 
@@ -97,8 +98,8 @@ module _ {R : Type 0} where
   op_by stands slot s (actor.Way a) = Some (a.site, op_of a)
   op_by stands slot s (actor.Release r) = Some (r.site, release_op r)
 
-  -- None where the slot is free, waits, or holds a request that is refused before any operation,
-  -- and nowhere else. Slot 0 waits where nothing is to be let go.
+  -- None exactly where the slot is free, waits, or holds a request that is refused before any
+  -- operation. Slot 0 waits where nothing is to be let go.
   abbrev pub kind_wanted : (stands : R → Standing) → (slot : ℕ) → ClientView R → Option (SiteId × OpKind)
   kind_wanted stands slot c = kind_by stands slot c.session (actor_at stands slot c)
 

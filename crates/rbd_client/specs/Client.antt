@@ -7,9 +7,9 @@ use Rattle.rbd_commands.specs.declared.quiescing.Quiescing.TheVariants as quiesc
 use Rattle.rbd_kinds.specs.declared.notice.Notice.{Notice}
 use Rattle.rbd_kinds.specs.declared.notice.NoticeKind.{NoticeKind}
 use Rattle.rbd_kinds.specs.declared.notice.NoticeKind.TheVariants as notice
-use Rattle.rbd_locks.specs.Locks.{LocksView}
-use Rattle.rbd_owner.specs.declared.release.Release.{Release}
-use Rattle.rbd_session.specs.Session.{SessionView}
+use Rattle.rbd_lock.specs.Locks.{LocksView}
+use Rattle.rbd_lock.specs.declared.release.Release.{Release}
+use Rattle.rbd_slots.specs.Session.{SessionView}
 
 -- its session, what it counts of the locks, what it keeps of each slot beside its session, the
 -- release that it is in the middle of, and what it was told by others
@@ -20,18 +20,18 @@ pub record ClientView (R : Type 0) : Type 0 where
   pub release : Option Release
   pub heard : List Notice
 
--- of each request at first, by what it does to a quiesce of its image
+-- The state of a slot whose request has just begun, by what that does to a quiesce of its image.
 abbrev pub newcomer : Quiescing → SlotState
 newcomer q = record { way = way.Unbegun; quiescing = q }
 
--- of a slot that is free
-abbrev pub blank : SlotState
-blank = newcomer quiescing.Leaves
+-- the state of a free slot
+abbrev pub blank_slot : SlotState
+blank_slot = newcomer quiescing.Leaves
 
-abbrev pub state_in : (slot : ℕ) → List SlotState → SlotState
-state_in slot slots = slice_index_or slots slot blank
+abbrev pub slot_state : (slot : ℕ) → List SlotState → SlotState
+slot_state slot slots = slice_index_or slots slot blank_slot
 
--- what it was told is kept, and nothing else
+-- what is kept of a notice: a message of another client, and nothing else
 abbrev pub kept_of : NoticeKind → Notice → List Notice
 kept_of (notice.Custom bytes) n = n ∷ []
 kept_of kind n = []

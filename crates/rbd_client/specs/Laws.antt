@@ -8,13 +8,13 @@ use Rattle.rbd_kinds.specs.declared.machine.Fed.TheVariants as fed
 use Rattle.rbd_kinds.specs.declared.operation.Op.{Op}
 use Rattle.rbd_kinds.specs.declared.operation.Op.TheVariants as op
 use Rattle.rbd_kinds.specs.Images.{is_at}
-use Rattle.rbd_locks.specs.Locks.{LocksView, state_at}
-use Rattle.rbd_owner.specs.declared.release.Release.{Release}
-use Rattle.rbd_owner.specs.declared.release.Stage.TheVariants as stage
+use Rattle.rbd_lock.specs.Locks.{LocksView, lock_state_at}
+use Rattle.rbd_lock.specs.declared.release.Release.{Release}
+use Rattle.rbd_lock.specs.declared.release.Stage.TheVariants as stage
 
--- the image is quiesced, or another one wants its lock
+-- the image is quiesced, or another session wants its lock
 abbrev pub IsHeldBack : SiteId → (image : ℕ) → LocksView → Type 0
-IsHeldBack site image locks = IsTrue ((state_at site image locks).quiesced || (state_at site image locks).asked)
+IsHeldBack site image locks = IsTrue ((lock_state_at site image locks).quiesced || (lock_state_at site image locks).asked)
 
 -- a release that has yet to drop its lock
 abbrev pub DropsALock : Release → Type 0

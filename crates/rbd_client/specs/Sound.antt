@@ -2,17 +2,17 @@
 use Rattle.std.specs.Prelude.{◌≡◌, ℕ, true, Option, Some, None, length, IsTrue}
 use Rattle.rbd_client.specs.declared.slot_state.Way.{Way}
 use Rattle.rbd_client.specs.declared.slot_state.Way.TheVariants as way
-use Rattle.rbd_client.specs.Client.{ClientView, blank, state_in}
-use Rattle.rbd_course.specs.declared.stage.Stage.TheVariants as stage
+use Rattle.rbd_client.specs.Client.{ClientView, blank_slot, slot_state}
+use Rattle.rbd_machine.specs.declared.stage.Stage.TheVariants as stage
 use Rattle.rbd_kinds.specs.declared.id.SiteId.{SiteId}
-use Rattle.rbd_line.specs.Line.{Member, member_of}
-use Rattle.rbd_locks.specs.Locks.{LocksView, IsSoundLocks, state_at}
+use Rattle.rbd_queue.specs.Line.{Member, member_of}
+use Rattle.rbd_lock.specs.Locks.{LocksView, IsSoundLocks, lock_state_at}
 use Rattle.rbd_machine.specs.Plan.{Standing}
-use Rattle.rbd_owner.specs.declared.release.Release.{Release}
-use Rattle.rbd_owner.specs.declared.release.Stage.TheVariants as releasing
-use Rattle.rbd_session.specs.declared.running.Running.{Running}
-use Rattle.rbd_session.specs.Lines.{lines_of}
-use Rattle.rbd_session.specs.Session.{SessionView, IsSoundSession, held_in, is_look_at, kind_asked, own_look_at, running_at}
+use Rattle.rbd_lock.specs.declared.release.Release.{Release}
+use Rattle.rbd_lock.specs.declared.release.Stage.TheVariants as releasing
+use Rattle.rbd_slots.specs.declared.running.Running.{Running}
+use Rattle.rbd_slots.specs.Lines.{lines_of}
+use Rattle.rbd_slots.specs.Session.{SessionView, IsSoundSession, held_in, is_look_at, kind_asked, look_under_lock_at, running_at}
 
 -- The request in a slot waits for its look under the lock, in the line of an image, and wants that
 -- look; and the line lets it go past.
@@ -24,19 +24,19 @@ pub record WaitsForLook {R : Type 0} (stands : R → Standing) (slot : ℕ) (sit
   pub member : Member
   pub found : member_of slot (lines_of s.lines site image) ≡ Some member
   pub waits : member.stage ≡ stage.Waiting
-  pub at_look : own_look_at stands slot s ≡ Some (record { site = site; image = image })
+  pub at_look : look_under_lock_at stands slot s ≡ Some (record { site = site; image = image })
 
 abbrev pub IsOwned : SiteId → (image : ℕ) → LocksView → Type 0
-IsOwned site image locks = IsTrue (state_at site image locks).owned
+IsOwned site image locks = IsTrue (lock_state_at site image locks).owned
 
--- A way is that of a request which waits for its look under the lock, to the lock of its image; and
--- one that has taken the lock has it.
+-- A way belongs to a request that waits for its look under the lock of just that image; and where
+-- it has taken the lock, the client counts the lock as its own.
 abbrev pub IsWellOnWay : {R : Type 0} → (stands : R → Standing) → (slot : ℕ) → Way → SessionView R → LocksView → Type 0
 IsWellOnWay stands slot way.Unbegun s locks = Unit {0}
 IsWellOnWay stands slot (way.On a) s locks = WaitsForLook stands slot a.site a.image s
 IsWellOnWay stands slot (way.Taken p) s locks = WaitsForLook stands slot p.site p.image s × IsOwned p.site p.image locks
 
--- its lock is dropped already
+-- the release has already dropped its lock
 abbrev pub IsTelling : Option Release → Type 0
 IsTelling None = Unit {0}
 IsTelling (Some r) = r.stage ≡ releasing.Telling
@@ -48,6 +48,6 @@ pub record IsSoundClient {R : Type 0} (stands : R → Standing) (c : ClientView 
   pub session : IsSoundSession stands c.session
   pub locks : IsSoundLocks c.locks
   pub slots : length c.slots ≡ 65
-  pub free : (slot : ℕ) → held_in slot c.session.slots ≡ None → state_in slot c.slots ≡ blank
-  pub ways : (slot : ℕ) → IsWellOnWay stands slot (state_in slot c.slots).way c.session c.locks
+  pub free : (slot : ℕ) → held_in slot c.session.slots ≡ None → slot_state slot c.slots ≡ blank_slot
+  pub ways : (slot : ℕ) → IsWellOnWay stands slot (slot_state slot c.slots).way c.session c.locks
   pub telling : IsTelling c.release

@@ -1,15 +1,14 @@
 //! Who acts where a slot is polled.
 ghost use Rattle.std.specs.Prelude.{◌≡◌, Some};
 ghost use Rattle.rbd_kinds.specs.OperationKind.{kind_of};
-ghost use Rattle.rbd_owner.specs.Acquire.{op_of};
-ghost use Rattle.rbd_owner.specs.Release.{release_op};
-ghost use Rattle.rbd_client.specs.Actor.{actor_at_look, actor_by, actor_on, is_acquiring, releasing};
+ghost use Rattle.rbd_lock.specs.Acquire.{op_of};
+ghost use Rattle.rbd_lock.specs.Release.{release_op};
+ghost use Rattle.rbd_client.specs.Actor.{actor_at_look, actor_by, actor_on, is_acquiring, release_actor};
 
 use crate::slot_state::Way;
 use rbd_kinds::{ImageAt, Op, OpKind, SiteId, Want};
-use rbd_locks::{LockState, Locks};
+use rbd_lock::{Acquire, LockState, Locks, Release};
 use rbd_machine::Machine;
-use rbd_owner::{Acquire, Release};
 
 /// Who acts where a slot is polled.
 #[derive(Clone, Copy)]
@@ -72,7 +71,7 @@ pub fn for_request(way: Way, look: Option<ImageAt>, locks: &Locks) -> Actor
 
 /// Who acts at slot 0: a release that has begun, or one that is due.
 pub fn for_release(begun: Option<Release>, due: Option<ImageAt>) -> Actor
-    ensures { result ≡ releasing begun due }
+    ensures { result ≡ release_actor begun due }
 {
     match (begun, due) {
         (Some(release), _) => Actor::Release(release),

@@ -2,15 +2,15 @@
 ghost use Rattle.std.specs.Prelude.{◌≡◌, ◌≢◌, ℕ, ◌≤◌, [], ◌∷◌, ◌++◌, None, Some, IsSome, IsNone, IfOk, OnErr, OnOk};
 ghost use Rattle.rbd_client.specs.declared.actor.Actor.TheVariants as actor;
 ghost use Rattle.rbd_client.specs.Actor.{actor_at, due_release, is_at_rest, kind_wanted, may_release, op_wanted};
-ghost use Rattle.rbd_client.specs.Client.{heard_with, newcomer, state_in};
+ghost use Rattle.rbd_client.specs.Client.{heard_with, newcomer, slot_state};
 ghost use Rattle.rbd_client.specs.Feeding.{CanGet, DropsAtRest, IsClientAlike, IsFedBy, IsReadiedFor, StaysUnlessRequest};
 ghost use Rattle.rbd_client.specs.Sound.{IsSoundClient};
 ghost use Rattle.rbd_kinds.specs.declared.id.SiteId.{SiteId as Site};
-ghost use Rattle.rbd_locks.specs.Locks.{heard as counted_heard, state_at};
-ghost use Rattle.rbd_locks.specs.States.{blank as unknown};
-ghost use Rattle.rbd_session.specs.Lines.{lines_of};
-ghost use Rattle.rbd_session.specs.OnTrack.{LeavesOthers};
-ghost use Rattle.rbd_session.specs.Session.{free_slot, held_in, op_at, refusal_in, reply_of, script_line, seat_of, IsNewcomer};
+ghost use Rattle.rbd_lock.specs.Locks.{heard as counted_heard, lock_state_at};
+ghost use Rattle.rbd_lock.specs.States.{blank_state as unknown};
+ghost use Rattle.rbd_slots.specs.Lines.{lines_of};
+ghost use Rattle.rbd_slots.specs.OnTrack.{LeavesOthers};
+ghost use Rattle.rbd_slots.specs.Session.{free_slot, held_in, op_at, refusal_in, reply_of, script_line, seat_of, IsNewcomer};
 
 use crate::actor::{Actor, for_release, for_request, release_kind, release_op, way_kind, way_op};
 use crate::counting::count;
@@ -18,13 +18,12 @@ use crate::going::{go_on, let_go, settle};
 use crate::slot_state::{SlotState, Way};
 use crate::slots::{blank_slots, is_any_taken, set_state, state_of};
 use rbd_commands::Quiescing;
-use rbd_course::Request;
 use rbd_kinds::{
     Fed, ImageAt, Instance, NoMemory, Notice, NoticeKind, Op, OpKind, Reply, SiteId, Slot, TryClone,
 };
-use rbd_locks::Locks;
-use rbd_owner::{Acquire, Release};
-use rbd_session::Session;
+use rbd_lock::{Acquire, Locks, Release};
+use rbd_machine::Request;
+use rbd_slots::Session;
 use std::alloc::Global;
 use std::marker::Model;
 
@@ -68,13 +67,13 @@ impl<R: Request> Model for Client<R> {
 }
 
 impl<R: Request> Client<R> {
-    /// A life of a client at its home site, without requests. Nothing is known of any lock, and none
-    /// is let go.
+    /// A life of a client at its home site, without requests. Nothing is known of any lock, and
+    /// none is let go.
     pub fn new(alloc: Global, instance: Instance, home: SiteId) -> Result<Self, NoMemory>
         ensures who { IfOk result (λ c. (c.session.instance ≡ instance) × (c.session.home ≡ home)) }
         ensures slots { IfOk result (λ c. (slot : ℕ) → held_in slot c.session.slots ≡ None) }
         ensures lines { IfOk result (λ c. (site : Site) (image : ℕ) → lines_of c.session.lines site image ≡ []) }
-        ensures locks { IfOk result (λ c. (site : Site) (image : ℕ) → state_at site image c.locks ≡ unknown) }
+        ensures locks { IfOk result (λ c. (site : Site) (image : ℕ) → lock_state_at site image c.locks ≡ unknown) }
         ensures release { IfOk result (λ c. c.release ≡ None) }
         ensures heard { IfOk result (λ c. c.heard ≡ []) }
         ensures sound { IfOk result (IsSoundClient R.stands) }
@@ -125,8 +124,8 @@ impl<R: Request> Client<R> {
         requires serves { R.serves work }
         ensures slot { IfOk result (λ slot. slot ≡ self.old.session.lowest) }
         ensures held { OnOk result (IsNewcomer R.stands R.stands_for R.extent_for (seat_of self.old.session) line work (held_in self.old.session.lowest self.new.session.slots)) }
-        ensures state { OnOk result (state_in self.old.session.lowest self.new.slots ≡ newcomer quiescing) }
-        ensures others { (slot : ℕ) → slot ≢ self.old.session.lowest → (held_in slot self.new.session.slots ≡ held_in slot self.old.session.slots) × (state_in slot self.new.slots ≡ state_in slot self.old.slots) }
+        ensures state { OnOk result (slot_state self.old.session.lowest self.new.slots ≡ newcomer quiescing) }
+        ensures others { (slot : ℕ) → slot ≢ self.old.session.lowest → (held_in slot self.new.session.slots ≡ held_in slot self.old.session.slots) × (slot_state slot self.new.slots ≡ slot_state slot self.old.slots) }
         ensures lines { self.new.session.lines ≡ self.old.session.lines }
         ensures rest { (self.new.session.instance ≡ self.old.session.instance) × (self.new.session.home ≡ self.old.session.home) × (self.new.locks ≡ self.old.locks) × (self.new.release ≡ self.old.release) × (self.new.heard ≡ self.old.heard) }
         ensures err { OnErr result (self.new ≡ self.old) }
@@ -157,7 +156,7 @@ impl<R: Request> Client<R> {
         ensures reply { result ≡ reply_of (refusal_in (held_in slot self.old.session.slots)) }
         ensures none { IsNone result → self.new ≡ self.old }
         ensures some { IsSome result → held_in slot self.new.session.slots ≡ None }
-        ensures others { (other : ℕ) → other ≢ slot → (held_in other self.new.session.slots ≡ held_in other self.old.session.slots) × (state_in other self.new.slots ≡ state_in other self.old.slots) }
+        ensures others { (other : ℕ) → other ≢ slot → (held_in other self.new.session.slots ≡ held_in other self.old.session.slots) × (slot_state other self.new.slots ≡ slot_state other self.old.slots) }
         ensures lines { self.new.session.lines ≡ self.old.session.lines }
         ensures rest { (self.new.session.instance ≡ self.old.session.instance) × (self.new.session.home ≡ self.old.session.home) × (self.new.locks ≡ self.old.locks) × (self.new.release ≡ self.old.release) × (self.new.heard ≡ self.old.heard) }
         ensures sound { IsSoundClient R.stands self.new }
@@ -169,9 +168,9 @@ impl<R: Request> Client<R> {
         reply
     }
 
-    /// The site and the kind of the operation that is wanted at a slot: `None` exactly where the
-    /// slot is free, waits, or holds a request that is refused before any operation, and at slot 0
-    /// where no lock is to be let go. It takes no memory.
+    /// The site and the kind of a slot's next operation: `None` exactly where the slot is free,
+    /// waits, or holds a request that is refused before any operation, and at slot 0 where no lock
+    /// is to be let go. It takes no memory.
     pub fn kind(&self, slot: Slot) -> Option<(SiteId, OpKind)>
         ensures kind { result ≡ kind_wanted R.stands slot self.now }
         ensures sound { IsSoundClient R.stands self.now }
@@ -195,7 +194,7 @@ impl<R: Request> Client<R> {
         }
         for_request(
             state_of(self.slots.as_slice(), slot).way,
-            self.session.own_look(slot),
+            self.session.look_under_lock(slot),
             &self.locks,
         )
     }
@@ -219,8 +218,8 @@ impl<R: Request> Client<R> {
         }
     }
 
-    /// Makes everything ready for an answer to the operation that is wanted at a slot: all memory
-    /// that [`Client::feed`] needs. Nothing else changes, also where memory is refused.
+    /// Makes everything ready for an answer to a slot's next operation: all memory that
+    /// [`Client::feed`] needs. Nothing else changes, also where memory is refused.
     pub fn ready(
         &mut self,
         alloc: Global,
@@ -260,7 +259,7 @@ impl<R: Request> Client<R> {
         requires op { op_wanted R.stands slot self.old ≡ Some (site, op.now) }
         requires rest { DropsAtRest (actor_at R.stands slot self.old) site op.now self.old }
         ensures fed { IsFedBy R.stands slot site op.now fed.now result self.old self.new (actor_at R.stands slot self.old) }
-        ensures slots { (other : ℕ) → other ≢ slot → (held_in other self.new.session.slots ≡ held_in other self.old.session.slots) × (state_in other self.new.slots ≡ state_in other self.old.slots) }
+        ensures slots { (other : ℕ) → other ≢ slot → (held_in other self.new.session.slots ≡ held_in other self.old.session.slots) × (slot_state other self.new.slots ≡ slot_state other self.old.slots) }
         ensures others { LeavesOthers slot (lines_of self.old.session.lines) (lines_of self.new.session.lines) }
         ensures who { (self.new.session.instance ≡ self.old.session.instance) × (self.new.session.home ≡ self.old.session.home) × (self.new.heard ≡ self.old.heard) }
         ensures sound { IsSoundClient R.stands self.new }
@@ -279,7 +278,7 @@ impl<R: Request> Client<R> {
     /// Hears a notice. Another one's wish for a lock that counts as this client's is noted, and
     /// what it was told is kept. Nothing else changes. Refused memory, nothing does.
     pub fn hear(&mut self, notice: &Notice) -> Result<(), NoMemory>
-        ensures ok { OnOk result ((site : Site) (image : ℕ) → state_at site image self.new.locks ≡ counted_heard notice.now site image (state_at site image self.old.locks)) }
+        ensures ok { OnOk result ((site : Site) (image : ℕ) → lock_state_at site image self.new.locks ≡ counted_heard notice.now site image (lock_state_at site image self.old.locks)) }
         ensures heard { OnOk result (self.new.heard ≡ heard_with notice.now self.old.heard) }
         ensures rest { (self.new.session ≡ self.old.session) × (self.new.slots ≡ self.old.slots) × (self.new.release ≡ self.old.release) }
         ensures err { OnErr result (self.new ≡ self.old) }
@@ -331,12 +330,12 @@ impl<R: Request> Client<R> {
         requires op { op_at R.stands slot self.old.session ≡ Some (site, op.now) }
         requires rest { DropsAtRest actor.Request site op.now self.old }
         ensures fed { IsFedBy R.stands slot site op.now fed.now result self.old self.new actor.Request }
-        ensures slots { (other : ℕ) → other ≢ slot → (held_in other self.new.session.slots ≡ held_in other self.old.session.slots) × (state_in other self.new.slots ≡ state_in other self.old.slots) }
+        ensures slots { (other : ℕ) → other ≢ slot → (held_in other self.new.session.slots ≡ held_in other self.old.session.slots) × (slot_state other self.new.slots ≡ slot_state other self.old.slots) }
         ensures others { LeavesOthers slot (lines_of self.old.session.lines) (lines_of self.new.session.lines) }
         ensures who { (self.new.session.instance ≡ self.old.session.instance) × (self.new.session.home ≡ self.old.session.home) × (self.new.heard ≡ self.old.heard) }
         ensures sound { IsSoundClient R.stands self.new }
     {
-        let look = self.session.own_look(slot);
+        let look = self.session.look_under_lock(slot);
         let state = state_of(self.slots.as_slice(), slot);
         let reply = self.session.feed(slot, fed);
         count(&mut self.locks, state.quiescing, look, site, op, fed);
@@ -357,7 +356,7 @@ impl<R: Request> Client<R> {
         requires ready { IsReadiedFor R.stands R.is_ready slot fed.now self.old }
         requires op { op_wanted R.stands slot self.old ≡ Some (site, op.now) }
         ensures fed { IsFedBy R.stands slot site op.now fed.now result self.old self.new (actor.Way way) }
-        ensures slots { (other : ℕ) → other ≢ slot → (held_in other self.new.session.slots ≡ held_in other self.old.session.slots) × (state_in other self.new.slots ≡ state_in other self.old.slots) }
+        ensures slots { (other : ℕ) → other ≢ slot → (held_in other self.new.session.slots ≡ held_in other self.old.session.slots) × (slot_state other self.new.slots ≡ slot_state other self.old.slots) }
         ensures others { LeavesOthers slot (lines_of self.old.session.lines) (lines_of self.new.session.lines) }
         ensures who { (self.new.session.instance ≡ self.old.session.instance) × (self.new.session.home ≡ self.old.session.home) × (self.new.heard ≡ self.old.heard) }
         ensures sound { IsSoundClient R.stands self.new }

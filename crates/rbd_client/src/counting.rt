@@ -1,11 +1,11 @@
 //! What an answer comes to for the locks.
 ghost use Rattle.std.specs.Prelude.{◌<◌};
 ghost use Rattle.rbd_client.specs.Feeding.{comings_of, quiesces, resumes, CountsAll};
-ghost use Rattle.rbd_locks.specs.Locks.{IsSoundLocks};
+ghost use Rattle.rbd_lock.specs.Locks.{IsSoundLocks};
 
 use rbd_commands::Quiescing;
 use rbd_kinds::{Answer, DirectoryOp, Fed, ImageAt, ImageId, Op, SiteId};
-use rbd_locks::Locks;
+use rbd_lock::Locks;
 
 /// Counts an operation of the client that was answered, and the quiesce that the request begins at
 /// its look under the lock or ends. It takes no memory.

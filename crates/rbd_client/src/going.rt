@@ -1,20 +1,19 @@
 //! How a way to a lock goes on, and what a slot keeps of it.
 ghost use Rattle.std.specs.Prelude.{◌≡◌, ◌≢◌, ℕ, IsFalse, IsTrue};
-ghost use Rattle.rbd_client.specs.Client.{blank};
-ghost use Rattle.rbd_client.specs.Feeding.{IsGivenUp, released_by, state_behind, state_on_way, WayComesTo};
+ghost use Rattle.rbd_client.specs.Client.{blank_slot};
+ghost use Rattle.rbd_client.specs.Feeding.{IsGivenUp, release_once_fed, state_behind, state_on_way, WayComesTo};
 ghost use Rattle.rbd_machine.specs.Answers.{CanBeFed};
-ghost use Rattle.rbd_owner.specs.Acquire.{standing_of};
-ghost use Rattle.rbd_session.specs.Lines.{lines_of};
-ghost use Rattle.rbd_session.specs.OnTrack.{LeavesOthers};
-ghost use Rattle.rbd_session.specs.Session.{held_in, IsSoundSession};
+ghost use Rattle.rbd_lock.specs.Acquire.{standing_of};
+ghost use Rattle.rbd_slots.specs.Lines.{lines_of};
+ghost use Rattle.rbd_slots.specs.OnTrack.{LeavesOthers};
+ghost use Rattle.rbd_slots.specs.Session.{held_in, IsSoundSession};
 
 use crate::slot_state::{SlotState, Way};
 use rbd_commands::Quiescing;
-use rbd_course::Request;
 use rbd_kinds::{Fed, ImageAt, Reply, Slot};
-use rbd_machine::Progress;
-use rbd_owner::{Acquire, Release};
-use rbd_session::Session;
+use rbd_lock::{Acquire, Release};
+use rbd_machine::{Progress, Request};
+use rbd_slots::Session;
 
 /// How a way goes on with an answer, and the reply of its request where that is refused. It takes
 /// no memory.
@@ -39,6 +38,7 @@ pub fn go_on(way: Acquire, fed: &Fed) -> (Way, Option<Reply>)
 
 /// Gives a request up that has ended on its way.
 pub fn settle<R: Request>(session: &mut Session<R>, slot: Slot, has_ended: bool)
+    requires { IsSoundSession R.stands session.old }
     ensures stays { IsFalse has_ended → session.new ≡ session.old }
     ensures left { IsTrue has_ended → IsGivenUp slot session.old session.new }
     ensures others { (other : ℕ) → other ≢ slot → held_in other session.new.slots ≡ held_in other session.old.slots }
@@ -46,18 +46,16 @@ pub fn settle<R: Request>(session: &mut Session<R>, slot: Slot, has_ended: bool)
     ensures who { (session.new.instance ≡ session.old.instance) × (session.new.home ≡ session.old.home) }
     ensures sound { IsSoundSession R.stands session.new }
 {
-    if has_ended {
-        session.give_up(slot);
+    if !has_ended {
         return;
     }
-    // It is asked for its clause that the session is sound.
-    let _free = session.free();
+    session.give_up(slot);
 }
 
 impl SlotState {
     /// Of a slot that is free, and of each request at first, where it leaves quiesces as they are.
     pub fn blank() -> Self
-        ensures { result ≡ blank }
+        ensures { result ≡ blank_slot }
     {
         SlotState {
             way: Way::Unbegun,
@@ -95,7 +93,7 @@ impl SlotState {
 
 /// What is left of a release behind an answer. It takes no memory.
 pub fn let_go(release: Release, fed: &Fed) -> Option<Release>
-    ensures { result ≡ released_by release fed.now }
+    ensures { result ≡ release_once_fed release fed.now }
 {
     match fed {
         Fed::Answer(answer) => release.answered(answer),

@@ -1,5 +1,5 @@
-//! One client: its requests (`rbd_session`), what it counts of the exclusive locks of its images
-//! (`rbd_locks`), and the ways by which it takes them and lets them go (`rbd_owner`).
+//! One client: its requests (`rbd_slots`), what it counts of the exclusive locks of its images
+//! (`rbd_lock`), and the ways by which it takes them and lets them go (`rbd_lock`).
 //!
 //! ```text
 //! let mut client: Client<SessionRequest> = Client::new(alloc, c1, SiteId::A)?;
@@ -21,7 +21,7 @@
 //!
 //! # Rules
 //!
-//! A request that changes an image goes through the image's line as `rbd_session` says. At its look
+//! A request that changes an image goes through the image's line as `rbd_slots` says. At its look
 //! under the lock, once the line lets it go on, the lock decides:
 //!
 //! ```text
@@ -29,7 +29,7 @@
 //!    │ the lock is the client's ─────▶ that look, and on
 //!    │ it isn't
 //!    ▼
-//! its way to the lock (rbd_owner) ──taken──▶ that look, and on
+//! its way to the lock (rbd_lock) ──taken──▶ that look, and on
 //!    └──none, fenced──▶ its reply: it leaves its line and its slot
 //! ```
 //!
@@ -42,19 +42,19 @@
 //!   end.
 //! - A `close` makes no look under the lock, so neither the lock, a quiesce nor a wish holds it
 //!   back; it is alone in its line, and drops the lock behind all requests before it. What a
-//!   session counts of its answers is `rbd_locks`'s.
+//!   session counts of its answers is `rbd_lock`'s.
 //! - A `quiesce` holds its image from its look under the lock on (`Quiescing::Begins`), and a
 //!   `resume` ends that by its look-up of the image (`Quiescing::Ends`). Whoever submits a request
 //!   says which of them it is.
 //! - A notice that another client wants a lock is noted where the lock counts as this client's, and
 //!   passed over for good where it doesn't. What it is told by others is kept (`heard`).
 //!
-//! So a request comes past its look under the lock only where the lock counts as the client's, and
-//! it counts so on, as long as a request of the image is past its look under the lock or has taken
-//! it itself. Only the removal of the header ends it sooner (`rm`): the lock goes with the header,
-//! and who removed it, alone, changes nothing by the lock any more. That the lock counts as owned
-//! doesn't say that it is: another client may have fenced this one and taken it, and then the fence
-//! refuses whatever is still sent.
+//! So a request comes past its look under the lock only where the client counts the lock as its
+//! own, and the client goes on to count it so while a request of the image is past that look or has
+//! taken the lock itself. Only the removal of the header ends it sooner (`rm`): the lock goes with
+//! the header, and the request that removed it, alone, changes nothing by the lock any more. That
+//! the lock counts as owned doesn't say that it is: another client may have fenced this one and
+//! taken it, and then the fence refuses whatever is still sent.
 //!
 //! # Contracts
 //!
@@ -71,9 +71,9 @@
 //! | `specs/Laws.antt` | what the laws speak of |
 //! | `specs/Seen.antt` | a client as its plans tell it (`seen`): each slot holds where its request stands, in place of the machine. What is said of a client by its machines is so of it as seen (`proofs/SeenClient.antt`), so crates above needn't know a machine |
 //!
-//! [`laws`] says that nobody is asked for a look under the lock without the lock, that a lock lasts
-//! while a request relies on it, that a quiesced image and a wanted lock hold requests back, and
-//! when a release begins.
+//! [`laws`] says that a request looks under the lock only with the lock, that a lock lasts while a
+//! request relies on it, that a quiesced image and a wanted lock hold requests back, and when a
+//! release begins.
 //!
 //! # Cost
 //!
@@ -86,9 +86,9 @@
 //!
 //! A session knows no lock, and a lock no request. A client asks its session at whose look under
 //! the lock a slot stands, its locks what is counted there, and lets one of three act: the request,
-//! its way, or the release. What acts is found anew at each look, so nothing has to be kept up to
-//! date but by the answers. Within one poll nothing else acts: so a poll finds it once, and hands
-//! it to `next`, `ready` and `feed`.
+//! its way, or the release. Who acts is found anew at each look, so only answers have to be
+//! counted. Within one poll nothing else acts: so a poll finds it once, and hands it to `next`,
+//! `ready` and `feed`.
 #![tactic(auto)]
 
 mod actor;

@@ -1,7 +1,7 @@
 //! What a client keeps of a slot, beside its session.
 use rbd_commands::Quiescing;
 use rbd_kinds::ImageAt;
-use rbd_owner::Acquire;
+use rbd_lock::Acquire;
 
 /// How the request in a slot comes to the lock of its image.
 #[derive(Clone, Copy)]

@@ -6,8 +6,8 @@ ghost use Rattle.rbd_commands.specs.declared.command.Command.TheVariants as vari
 use crate::command::{Command, Payload, ReadLength, Shape};
 use rbd_values::{AskedName, NoMemory, Number, TryClone};
 
-// What has to be copied of a command is one image's name, or two names, for most of them: a function
-// with a way out for each command and each of its names takes the prover minutes.
+// What has to be copied of a command is one image's name, or two names, for most of them: a
+// function with a way out for each command and each of its names takes the prover minutes.
 impl TryClone for Command {
     fn try_clone(&self) -> Result<Self, NoMemory> {
         match self {

@@ -11,7 +11,7 @@ use Rattle.rbd_kinds.specs.declared.header.Role.TheVariants.{Plain}
 use Rattle.rbd_kinds.specs.declared.header.SnapStatus.TheVariants.{Unprotected}
 use Rattle.rbd_flat.specs.declared.effect.Effect.{Effect}
 use Rattle.rbd_flat.specs.declared.effect.Effect.TheVariants as effect
-use Rattle.rbd_flat.specs.Flat.{Flat, FlatImage, FlatSnap, image_at, painted, places_of, resized, changed, with_image, cloned, renamed, with_status, after, id_of}
+use Rattle.rbd_flat.specs.Flat.{Flat, FlatImage, FlatSnap, image_at, painted, places_of, resized, changed_image, with_image, cloned, renamed, with_status, after, id_of}
 use Rattle.rbd_flat.specs.Laws.{snap_at}
 
 pub get_insert : {X : Type 0} (m : finmap.FinMap nat_cmp X) (k : ℕ) (v : X) (i : ℕ) → finmap.get (finmap.insert m k v) i ≡ cond (eqb i k) (Some v) (finmap.get m i)
@@ -49,7 +49,7 @@ with_image_at f k change i = go (image_at f k) refl (eqb i k) refl
     here : eqb i k ≡ true → image_at f k ≡ image_at f i
     here e = ap (image_at f) (sym (eqb-true i k e))
 
-    go : (o : Option FlatImage) → image_at f k ≡ o → (b : Bool) → eqb i k ≡ b → image_at (changed change k o f) i ≡ cond b (option_map change (image_at f i)) (image_at f i)
+    go : (o : Option FlatImage) → image_at f k ≡ o → (b : Bool) → eqb i k ≡ b → image_at (changed_image change k o f) i ≡ cond b (option_map change (image_at f i)) (image_at f i)
     go None none true e = sym (here e) ∙ none ∙ ap (option_map change) (sym none ∙ here e)
     go None none false e = refl
     go (Some j) some true e = get_insert f.images k (change j) i ∙ ap (λ b. cond b (Some (change j)) (image_at f i)) e ∙ ap (option_map change) (sym some ∙ here e)

@@ -15,7 +15,7 @@ use Rattle.std.specs.List.Sorted.{IsStrictlySortedBy}
 use Rattle.std.specs.FinMap as finmap
 use Rattle.std.specs.FinSet as finset
 use Rattle.rbd_flat.specs.declared.effect.Effect.TheVariants as effect
-use Rattle.rbd_flat.specs.Flat.{Flat, FlatImage, Link, link_cmp, after, id_of, image_at, snap_of, renamed, with_image, changed}
+use Rattle.rbd_flat.specs.Flat.{Flat, FlatImage, Link, link_cmp, after, id_of, image_at, snap_of, renamed, with_image, changed_image}
 use Rattle.rbd_flat.specs.Site.{site_of}
 use Rattle.rbd_flat.proofs.Images.{get_insert}
 use Rattle.rbd_values.proofs.Ordered.{get_entries, one_given, one_taken, entries_in_order, one_added, one_dropped, taken_and_given}
@@ -128,14 +128,14 @@ module _ (ns : List (List ℕ × ℕ)) (is js : List (ℕ × FlatImage)) (ls : L
       → (f : Flat) → site_of ns is ls ≡ f → site_of ns js ls ≡ with_image f k change
   image_written k i w change there made h f view =
       image_given k w h ∙ ap (λ (j : FlatImage). record (site_of ns is ls) { images = finmap.insert (finmap.from_entries is) k j }) made
-      ∙ ap (λ (o : Option FlatImage). changed change k o (site_of ns is ls)) (sym (image_there k (Some i) there))
+      ∙ ap (λ (o : Option FlatImage). changed_image change k o (site_of ns is ls)) (sym (image_there k (Some i) there))
       ∙ ap (λ (g : Flat). with_image g k change) view
 
   -- no image, no change
   pub image_missing : (k : ℕ) (change : FlatImage → FlatImage) → lookup (is_at (nat_cmp k)) is ≡ None → js ≡ is → (f : Flat) → site_of ns is ls ≡ f → site_of ns js ls ≡ with_image f k change
   image_missing k change none same f view =
       ap (λ (es : List (ℕ × FlatImage)). site_of ns es ls) same
-      ∙ ap (λ (o : Option FlatImage). changed change k o (site_of ns is ls)) (sym (image_there k None none))
+      ∙ ap (λ (o : Option FlatImage). changed_image change k o (site_of ns is ls)) (sym (image_there k None none))
       ∙ ap (λ (g : Flat). with_image g k change) view
 
   -- what is written is what was there

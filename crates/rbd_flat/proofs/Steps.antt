@@ -14,7 +14,7 @@ use Rattle.rbd_kinds.specs.declared.layout.Extent.{Extent}
 use Rattle.rbd_kinds.proofs.Plain.{eqb_flip}
 use Rattle.rbd_flat.specs.declared.effect.Effect.{Effect}
 use Rattle.rbd_flat.specs.declared.effect.Effect.TheVariants as effect
-use Rattle.rbd_flat.specs.Flat.{Flat, FlatImage, FlatSnap, image_at, snap_of, snap_in, painted, places_of, resized, with_status, after, after_all, id_of, renamed, changed, cloned}
+use Rattle.rbd_flat.specs.Flat.{Flat, FlatImage, FlatSnap, image_at, snap_of, snap_in, painted, places_of, resized, with_status, after, after_all, id_of, renamed, changed_image, cloned}
 use Rattle.rbd_flat.specs.Laws.{covered, painted_at, size_in, size_at, byte_in, flat_byte, role_at, snap_at, snap_byte, snap_size, byte_after, size_after, role_after, snap_after, taken_of, image_of, is_on_names, is_on_links}
 use Rattle.rbd_flat.proofs.Painted.{length_painted, painted_extents, painted_at_zeros}
 use Rattle.rbd_flat.proofs.Images.{clone_of, image_after, image_law}
@@ -380,7 +380,7 @@ same_after (effect.Gone image) f i t s is = same_unless (eqb i image) s (snap_at
 pub snap_keeps : (f : Flat) (e : Effect) (i t : ℕ) (s s' : FlatSnap) → snap_at f i t ≡ Some s → snap_at (after f e) i t ≡ Some s' → (s'.bytes ≡ s.bytes) × (s'.name ≡ s.name)
 snap_keeps f e i t s s' is now = same_after e f i t s is s' (sym (snap_law f e i t) ∙ now)
 
-changed_names : (change : FlatImage → FlatImage) (k : ℕ) (o : Option FlatImage) (f : Flat) → (changed change k o f).names ≡ f.names
+changed_names : (change : FlatImage → FlatImage) (k : ℕ) (o : Option FlatImage) (f : Flat) → (changed_image change k o f).names ≡ f.names
 changed_names change k None f = refl
 changed_names change k (Some j) f = refl
 
@@ -405,7 +405,7 @@ names_stay f (effect.Unlink parent snap child) h = refl
 names_stay f (effect.Role image role) h = changed_names _ image (image_at f image) f
 names_stay f (effect.Gone image) h = refl
 
-changed_links : (change : FlatImage → FlatImage) (k : ℕ) (o : Option FlatImage) (f : Flat) → (changed change k o f).links ≡ f.links
+changed_links : (change : FlatImage → FlatImage) (k : ℕ) (o : Option FlatImage) (f : Flat) → (changed_image change k o f).links ≡ f.links
 changed_links change k None f = refl
 changed_links change k (Some j) f = refl
 

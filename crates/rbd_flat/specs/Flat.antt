@@ -79,12 +79,12 @@ abbrev pub resized : ℕ → List ℕ → List ℕ
 resized size bytes = map (slice_index bytes) (range_with_len 0 size)
 
 -- the image with the id is changed, where there is one
-abbrev pub changed : (FlatImage → FlatImage) → ℕ → Option FlatImage → Flat → Flat
-changed change image None f = f
-changed change image (Some i) f = record f { images = finmap.insert f.images image (change i) }
+abbrev pub changed_image : (FlatImage → FlatImage) → ℕ → Option FlatImage → Flat → Flat
+changed_image change image None f = f
+changed_image change image (Some i) f = record f { images = finmap.insert f.images image (change i) }
 
 abbrev pub with_image : Flat → ℕ → (FlatImage → FlatImage) → Flat
-with_image f image change = changed change image (image_at f image) f
+with_image f image change = changed_image change image (image_at f image) f
 
 abbrev pub renamed : Option ℕ → (from to : List ℕ) → Flat → Flat
 renamed None from to f = f

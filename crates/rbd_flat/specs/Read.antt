@@ -38,5 +38,5 @@ abbrev pub IsUnlisted : Flat → (image : ℕ) → (snap : Option ℕ) → Type 
 IsUnlisted f image snap = IsSome (image_at f image) × ((t : ℕ) × (snap ≡ Some t) × (snap_of (image_at f image) t ≡ None))
 
 -- the extent doesn't fit into the bytes that are shown
-abbrev pub IsOutside : Flat → (image : ℕ) → (snap : Option ℕ) → Extent → Type 0
-IsOutside f image snap e = (bytes : List ℕ) × (view_at (image_at f image) snap ≡ Some bytes) × (fits e (length bytes) ≡ false)
+abbrev pub IsOutsideBytes : Flat → (image : ℕ) → (snap : Option ℕ) → Extent → Type 0
+IsOutsideBytes f image snap e = (bytes : List ℕ) × (view_at (image_at f image) snap ≡ Some bytes) × (fits e (length bytes) ≡ false)

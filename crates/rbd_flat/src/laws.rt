@@ -9,10 +9,10 @@ ghost use Rattle.rbd_flat.specs.declared.effect.Effect.{Effect};
 ghost use Rattle.rbd_flat.specs.Flat.{Flat, FlatImage, FlatSnap, after, after_all, painted, places_of, image_at, with_image};
 ghost use Rattle.rbd_flat.specs.Laws.{painted_at, painted_byte, flat_byte, byte_after, size_at, size_after, role_at, role_after, snap_at, snap_after, image_of, is_on_names, is_on_links};
 
-/// What is painted. `inside`, `before` and `behind` are one extent at one place; `extents` are
-/// several, of which the last that has the place tells it; `places` are places that are listed one
-/// by one. Painting a front and then the rest with the bytes that are left is painting both
-/// (`in_turn`), as for two `neighbours`.
+/// Which byte a place has once bytes were painted over extents. `inside`, `before` and `behind` are
+/// of one extent and one place. In `extents`, of several extents the last that has the place
+/// decides. In `places` the places are listed one by one. Painting a front, and then the rest with
+/// the bytes that are left, is painting both (`in_turn`, and `neighbours` for two extents).
 pub fn painting()
     ensures len { (places new old : List ℕ) → length (painted places new old) ≡ length old }
     ensures inside { (at len : ℕ) (new old : List ℕ) (x : ℕ) → x < length old → at ≤ x → x < at + len → slice_index (painted (range_with_len at len) new old) x ≡ slice_index new (x - at) }
@@ -24,8 +24,8 @@ pub fn painting()
     ensures neighbours { (at m n : ℕ) (new old : List ℕ) → painted (range_with_len at (m + n)) new old ≡ painted (range_with_len (at + m) n) (drop m new) (painted (range_with_len at m) new old) }
 {}
 
-/// What stands after one step: the byte at a place of an image, its size, its role, a snapshot of
-/// it; and the whole image where it is changed by a function of it.
+/// What one step leaves of an image: the byte at a place, its size, its role, a snapshot, and the
+/// whole image where it is changed by a function of it.
 pub fn step()
     ensures bytes { (f : Flat) (e : Effect) (i x : ℕ) → flat_byte (after f e) i x ≡ byte_after e f i x }
     ensures sizes { (f : Flat) (e : Effect) (i : ℕ) → size_at (after f e) i ≡ size_after e f i }

@@ -2,7 +2,7 @@ ghost use Rattle.std.specs.Prelude.{◌≡◌, ◌↔◌, Some, None, Ok, OnOk, 
 ghost use Rattle.rbd_flat.specs.Flat.{no_images, after, id_of, image_at};
 ghost use Rattle.rbd_flat.specs.Site.{wants_memory};
 ghost use Rattle.rbd_kinds.specs.Extents.{fits};
-ghost use Rattle.rbd_flat.specs.Read.{read_of, read_view, IsUnlisted, IsOutside};
+ghost use Rattle.rbd_flat.specs.Read.{read_of, read_view, IsUnlisted, IsOutsideBytes};
 
 mod images;
 mod link;
@@ -112,7 +112,7 @@ impl FlatSite {
         ensures bytes { IfOk result (λ bytes. read_of self.now image snap extent.now ≡ Ok bytes) }
         ensures no_image { IsErrOf result FlatFault.NoImage ↔ (image_at self.now image ≡ None) }
         ensures no_snap { IsErrOf result FlatFault.NoSnap ↔ IsUnlisted self.now image snap }
-        ensures bad_range { IsErrOf result FlatFault.BadRange ↔ IsOutside self.now image snap extent.now }
+        ensures bad_range { IsErrOf result FlatFault.BadRange ↔ IsOutsideBytes self.now image snap extent.now }
         ensures no_memory { IsErrOf result FlatFault.NoMemory → IsOk (read_of self.now image snap extent.now) }
     {
         let Some(found) = self.images.get(&image) else {

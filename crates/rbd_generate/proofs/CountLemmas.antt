@@ -7,10 +7,10 @@ use Rattle.std.proofs.lemmas.List.Folds.{list_any_more}
 use Rattle.std.proofs.lemmas.List.Sums.{sum_by_more}
 use Rattle.std.proofs.lemmas.Nat.{mul-le}
 use Rattle.rbd_flat.specs.declared.entry.Entry.{Entry}
-use Rattle.rbd_lines.specs.Known.{is_known}
-use Rattle.rbd_lines.specs.declared.line_map.LineMap.{LineMap}
+use Rattle.rbd_line_table.specs.Known.{is_known}
+use Rattle.rbd_line_table.specs.declared.line_map.LineMap.{LineMap}
 use Rattle.rbd_text.specs.Unanswered.{answers}
-use Rattle.rbd_generate.specs.Summary.{IsAnswered}
+use Rattle.rbd_generate.specs.Summary.{HasRepliesFor}
 
 -- a sum, and one item more
 pub sum_more : {X : Type 0} (f : X → ℕ) (xs : List X) (i : ℕ) (x : X) (sum more : ℕ) → i < length xs → x ≡ get_or xs i x → sum ≡ sum_by f (take i xs) → more ≡ f x
@@ -24,8 +24,8 @@ one_at_most true = omega arith
 one_at_most false = omega arith
 
 -- the lines that are answered, and one entry more
-pub answered_more : {T : Type 0} (history : List Entry) (i : ℕ) (e : Entry) (old new : LineMap T) → i < length history → e ≡ get_or history i e → IsAnswered (take i history) old
-    → ((line : ℕ) → is_known new line ≡ (answers line e || is_known old line)) → IsAnswered (take (i + 1) history) new
+pub answered_more : {T : Type 0} (history : List Entry) (i : ℕ) (e : Entry) (old new : LineMap T) → i < length history → e ≡ get_or history i e → HasRepliesFor (take i history) old
+    → ((line : ℕ) → is_known new line ≡ (answers line e || is_known old line)) → HasRepliesFor (take (i + 1) history) new
 answered_more history i e old new within is before step = record {
   each = λ line.
       step line

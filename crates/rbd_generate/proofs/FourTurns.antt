@@ -3,7 +3,7 @@ use Rattle.std.proofs.Common.{◌≡◌, ◌⊎◌, ℕ, ◌+◌, ◌%◌, suc, 
 use Rattle.std.specs.Prelude.{count_by, ◌&&◌, not}
 use Rattle.rbd_commands.specs.declared.command.Command.{Command}
 use Rattle.rbd_words.specs.declared.load.Load.{Load}
-use Rattle.rbd_generate.specs.Generated.{command_by, command_of, drawn, image_name, owner}
+use Rattle.rbd_generate.specs.Generated.{command_by, generated_command, drawn, image_name, owner}
 use Rattle.rbd_generate.specs.Laws.{discards, fills, four_turns, reads}
 
 -- ---- what a number is a command of
@@ -42,7 +42,7 @@ module _ (p : Command → Bool) (q : ℕ → Bool) (are : (number : ℕ) (image 
   abbrev one : ℕ → ℕ
   one rest = cond (q rest) 1 0
 
-  in_turn : (i rest : ℕ) → (drawn load client turn % 4 + i) % 4 ≡ rest → cond (p (command_of load client (turn + i))) 1 0 ≡ one rest
+  in_turn : (i rest : ℕ) → (drawn load client turn % 4 + i) % 4 ≡ rest → cond (p (generated_command load client (turn + i))) 1 0 ≡ one rest
   in_turn i rest is =
       ap (λ b. cond b 1 0) (are (drawn load client (turn + i)) (image_name (owner load client (turn + i))) ∙ ap q (next_turn load client turn i ∙ is))
 
@@ -56,8 +56,8 @@ module _ (p : Command → Bool) (q : ℕ → Bool) (are : (number : ℕ) (image 
       let second = in_turn 1 b (omega (arith, is_a, is_b)) in
       let third = in_turn 2 c (omega (arith, is_a, is_c)) in
       let fourth = in_turn 3 d (omega (arith, is_a, is_d)) in
-      let at : (from to : ℕ) → from ≡ to → (rest : ℕ) → cond (p (command_of load client from)) 1 0 ≡ one rest → cond (p (command_of load client to)) 1 0 ≡ one rest
-      = λ from to same rest. subst (λ t. cond (p (command_of load client t)) 1 0 ≡ one rest) same in
+      let at : (from to : ℕ) → from ≡ to → (rest : ℕ) → cond (p (generated_command load client from)) 1 0 ≡ one rest → cond (p (generated_command load client to)) 1 0 ≡ one rest
+      = λ from to same rest. subst (λ t. cond (p (generated_command load client t)) 1 0 ≡ one rest) same in
       let first_at = at (turn + 0) turn (omega arith) a first in
       let third_at = at (turn + 2) (turn + 1 + 1) (omega arith) c third in
       let fourth_at = at (turn + 3) (turn + 1 + 1 + 1) (omega arith) d fourth in

@@ -7,9 +7,9 @@ use Rattle.std.proofs.lemmas.List.FromFn.{sum_by-map-range_with_len_more}
 use Rattle.std.proofs.lemmas.List.Sums.{sum_by-append}
 use Rattle.rbd_script.specs.declared.script.Line.{Line}
 use Rattle.rbd_words.specs.declared.load.Load.{Load}
-use Rattle.rbd_generate.specs.Generated.{command_by, command_line, create_line, drawn, image_name, lines_of, owner, settle_line}
-use Rattle.rbd_generate.specs.Laws.{SaysInside, StaysInside, makes, makes_image}
-use Rattle.rbd_generate.specs.Summary.{commands_in, is_command}
+use Rattle.rbd_generate.specs.Generated.{command_by, command_line, create_line, drawn, image_name, generated_lines, owner, settle_line}
+use Rattle.rbd_generate.specs.Laws.{SaysInside, StaysInside, creates_image, makes_image}
+use Rattle.rbd_generate.specs.Summary.{command_count, is_command}
 
 -- ---- counts
 
@@ -46,15 +46,15 @@ without_first p line lines out =
     nothing n = omega arith
 
 -- a command doesn't make an image
-makes_none : (number : ℕ) (image : List ℕ) → makes (command_by number image) ≡ false
+makes_none : (number : ℕ) (image : List ℕ) → creates_image (command_by number image) ≡ false
 makes_none number image = go (eqb (number % 4) 1) (eqb (number % 4) 2) refl refl
   where
-    go : (read discard : Bool) → eqb (number % 4) 1 ≡ read → eqb (number % 4) 2 ≡ discard → makes (command_by number image) ≡ false
+    go : (read discard : Bool) → eqb (number % 4) 1 ≡ read → eqb (number % 4) 2 ≡ discard → creates_image (command_by number image) ≡ false
     go true discard r d = rw r refl
     go false true r d = rw (r, d) refl
     go false false r d = rw (r, d) refl
 
-pub images_counted : (load : Load) → count_by makes_image (lines_of load) ≡ load.clients
+pub images_counted : (load : Load) → count_by makes_image (generated_lines load) ≡ load.clients
 images_counted load =
     let nothing : load.clients + 0 ≡ load.clients = omega arith in
     sum_by-append (λ (line : Line). cond (makes_image line) 1 0) (map (create_line load) (range_with_len 1 load.clients)) (settle_line load ∷ map (command_line load) (range_with_len 0 (load.commands * load.clients)))
@@ -64,10 +64,10 @@ images_counted load =
     ∙ none_counted makes_image (command_line load) 0 (load.commands * load.clients) (λ k. makes_none (drawn load (1 + k % load.clients) (k / load.clients)) (image_name (owner load (1 + k % load.clients) (k / load.clients)))))
     ∙ nothing
 
-pub commands_counted : (load : Load) → commands_in (lines_of load) ≡ load.clients + load.commands * load.clients
+pub commands_counted : (load : Load) → command_count (generated_lines load) ≡ load.clients + load.commands * load.clients
 commands_counted load =
     sum_by-append (λ (line : Line). cond (is_command line.said) 1 0) (map (create_line load) (range_with_len 1 load.clients)) (settle_line load ∷ map (command_line load) (range_with_len 0 (load.commands * load.clients)))
-    ∙ ap (λ n. n + commands_in (settle_line load ∷ map (command_line load) (range_with_len 0 (load.commands * load.clients)))) (all_counted (λ (line : Line). is_command line.said) (create_line load) 1 load.clients (λ k. refl))
+    ∙ ap (λ n. n + command_count (settle_line load ∷ map (command_line load) (range_with_len 0 (load.commands * load.clients)))) (all_counted (λ (line : Line). is_command line.said) (create_line load) 1 load.clients (λ k. refl))
     ∙ ap (λ n. load.clients + n)
     (without_first (λ (line : Line). is_command line.said) (settle_line load) (map (command_line load) (range_with_len 0 (load.commands * load.clients))) refl
     ∙ all_counted (λ (line : Line). is_command line.said) (command_line load) 0 (load.commands * load.clients) (λ k. refl))
@@ -94,7 +94,7 @@ inside_alone : (f : ℕ → Line) (a n : ℕ) → ((k : ℕ) → SaysInside (f k
 inside_alone f a zero each = All-nil (λ (line : Line). SaysInside line.said)
 inside_alone f a (suc n) each = All-cons (λ (line : Line). SaysInside line.said) (f a) (map f (range_with_len (a + 1) n)) (each a) (inside_alone f (a + 1) n each)
 
-pub all_inside : (load : Load) → All (λ (line : Line). SaysInside line.said) (lines_of load)
+pub all_inside : (load : Load) → All (λ (line : Line). SaysInside line.said) (generated_lines load)
 all_inside load =
     inside_then (create_line load) 1 load.clients _ (λ k. refl)
     (All-cons (λ (line : Line). SaysInside line.said) (settle_line load) _ tt (inside_alone (command_line load) 0 (load.commands * load.clients) (λ k. inside_by (drawn load (1 + k % load.clients) (k / load.clients)) (image_name (owner load (1 + k % load.clients) (k / load.clients))))))

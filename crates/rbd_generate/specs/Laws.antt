@@ -7,16 +7,16 @@ use Rattle.rbd_script.specs.declared.script.Line.{Line}
 use Rattle.rbd_script.specs.declared.script.Said.{Said}
 use Rattle.rbd_script.specs.declared.script.Said.TheVariants as said
 use Rattle.rbd_words.specs.declared.load.Load.{Load}
-use Rattle.rbd_generate.specs.Generated.{command_of, image_size}
+use Rattle.rbd_generate.specs.Generated.{generated_command, image_size}
 
 -- ---- how many
 
-abbrev pub makes : Command → Bool
-makes (command.Create image size shape) = true
-makes c = false
+abbrev pub creates_image : Command → Bool
+creates_image (command.Create image size shape) = true
+creates_image c = false
 
 abbrev pub says_create : Said → Bool
-says_create (said.Command session beside c) = makes c
+says_create (said.Command session beside c) = creates_image c
 says_create s = false
 
 -- a line in which an image is made
@@ -26,15 +26,15 @@ makes_image line = says_create line.said
 -- ---- where
 
 -- The bytes lie inside an image, and there are some.
-abbrev pub IsInside : (at len : ℕ) → Type 0
-IsInside at len = (1 ≤ len) × (at + len ≤ image_size)
+abbrev pub IsInImage : (at len : ℕ) → Type 0
+IsInImage at len = (1 ≤ len) × (at + len ≤ image_size)
 
 -- The command makes an image of that size, or is about bytes inside one. There are no others.
 abbrev pub StaysInside : Command → Type 0
 StaysInside (command.Create image size shape) = size ≡ image_size
-StaysInside (command.Fill image at len byte) = IsInside at len
-StaysInside (command.Read image snap at len) = IsInside at len
-StaysInside (command.Discard image at len) = IsInside at len
+StaysInside (command.Fill image at len byte) = IsInImage at len
+StaysInside (command.Read image snap at len) = IsInImage at len
+StaysInside (command.Discard image at len) = IsInImage at len
 StaysInside c = ⊥
 
 abbrev pub SaysInside : Said → Type 0
@@ -57,4 +57,4 @@ fills c = false
 
 -- the commands of a client in four turns, one after another
 abbrev pub four_turns : Load → (client turn : ℕ) → List Command
-four_turns load client turn = map (command_of load client) (range_with_len turn 4)
+four_turns load client turn = map (generated_command load client) (range_with_len turn 4)

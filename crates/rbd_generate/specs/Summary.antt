@@ -9,8 +9,8 @@ use Rattle.rbd_script.specs.declared.script.Line.{Line}
 use Rattle.rbd_script.specs.declared.script.Said.{Said}
 use Rattle.rbd_script.specs.declared.script.Said.TheVariants as said
 use Rattle.rbd_script.specs.declared.script.Script.{Script}
-use Rattle.rbd_lines.specs.Known.{is_known}
-use Rattle.rbd_lines.specs.declared.line_map.LineMap.{LineMap}
+use Rattle.rbd_line_table.specs.Known.{is_known}
+use Rattle.rbd_line_table.specs.declared.line_map.LineMap.{LineMap}
 use Rattle.rbd_text.specs.Unanswered.{answers}
 
 -- ---- of the script
@@ -20,8 +20,8 @@ is_command (said.Command session beside command) = true
 is_command s = false
 
 -- how many commands it has
-abbrev pub commands_in : List Line → ℕ
-commands_in lines = count_by (λ (line : Line). is_command line.said) lines
+abbrev pub command_count : List Line → ℕ
+command_count lines = count_by (λ (line : Line). is_command line.said) lines
 
 -- ---- of the history
 
@@ -34,18 +34,18 @@ abbrev pub refuses : Entry → Bool
 refuses (entry.Reply line r) = is_refusal r
 refuses e = false
 
-abbrev pub grants : Entry → Bool
-grants (entry.Reply line r) = not (is_refusal r)
-grants e = false
+abbrev pub is_granted : Entry → Bool
+is_granted (entry.Reply line r) = not (is_refusal r)
+is_granted e = false
 
 -- how many bytes a read shows
-abbrev pub bytes_in : Reply → ℕ
-bytes_in (reply.Bytes bytes) = length bytes
-bytes_in r = 0
+abbrev pub bytes_of_reply : Reply → ℕ
+bytes_of_reply (reply.Bytes bytes) = length bytes
+bytes_of_reply r = 0
 
-abbrev pub shown_by : Entry → ℕ
-shown_by (entry.Reply line r) = bytes_in r
-shown_by e = 0
+abbrev pub bytes_shown_by : Entry → ℕ
+bytes_shown_by (entry.Reply line r) = bytes_of_reply r
+bytes_shown_by e = 0
 
 -- ---- of both
 
@@ -56,17 +56,17 @@ is_unfinished history line = is_command line.said && not (list_any (answers line
 -- `commands 5 ok 5 refused 0 unfinished 0 read 64`
 abbrev pub summary_text : Script → List Entry → List ℕ
 summary_text script history =
-    codes "commands " ++ decimal (commands_in script.lines)
-    ++ codes " ok " ++ decimal (count_by grants history)
+    codes "commands " ++ decimal (command_count script.lines)
+    ++ codes " ok " ++ decimal (count_by is_granted history)
     ++ codes " refused " ++ decimal (count_by refuses history)
     ++ codes " unfinished " ++ decimal (count_by (is_unfinished history) script.lines)
-    ++ codes " read " ++ decimal (sum_by shown_by history)
+    ++ codes " read " ++ decimal (sum_by bytes_shown_by history)
     ++ 10 ∷ []
 
 -- ---- what is kept while the history is gone over
 
 -- the lines that it has replies for
-pub record IsAnswered {T : Type 0} (history : List Entry) (lines : LineMap T) : Type 0 where
+pub record HasRepliesFor {T : Type 0} (history : List Entry) (lines : LineMap T) : Type 0 where
   pub each : (line : ℕ) → is_known lines line ≡ list_any (answers line) history
 
 -- a command that isn't known to have one

@@ -1,6 +1,6 @@
 //! What a client does.
 ghost use Rattle.std.specs.Prelude.{◌≡◌, ◌<◌, ◌≤◌, IfOk};
-ghost use Rattle.rbd_generate.specs.Generated.{command_by, command_of, create_of, drawn, owner, place};
+ghost use Rattle.rbd_generate.specs.Generated.{command_by, generated_command, create_of, drawn, owner, write_place};
 ghost use Rattle.rbd_words.specs.Load.{IsLoad};
 
 use crate::names::image_name;
@@ -38,7 +38,7 @@ pub fn command(alloc: Global, load: &Load, client: u32, turn: u32) -> Result<Com
     requires load { IsLoad load.now }
     requires client { client ≤ 16 }
     requires turn { turn < 10000 }
-    ensures { IfOk result (λ command. command ≡ command_of load.now client turn) }
+    ensures { IfOk result (λ command. command ≡ generated_command load.now client turn) }
 {
     let image = image_name(alloc, owner(load, client, turn))?;
     Ok(command_by(drawn(load, client, turn), image))
@@ -92,7 +92,7 @@ fn command_by(number: u64, image: AskedName) -> Command
 
 /// Where the command begins.
 fn place(number: u64) -> Number
-    ensures { result ≡ place number }
+    ensures { result ≡ write_place number }
 {
     Number::new(LENGTH * (number % 16_384)).unwrap()
 }

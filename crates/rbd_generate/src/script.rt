@@ -1,7 +1,7 @@
 //! The script.
 ghost use Rattle.std.specs.Prelude.{◌≡◌, ◌≤◌, ◌<◌, ◌*◌, ◌++◌, map, IfOk, OnOk};
 ghost use Rattle.std.specs.List.{range_with_len};
-ghost use Rattle.rbd_generate.specs.Generated.{asked, client_of, command_line, create_line, lines_of, script_of, settle_line};
+ghost use Rattle.rbd_generate.specs.Generated.{waiting_command, client_of, command_line, create_line, generated_lines, script_of, settle_line};
 ghost use Rattle.rbd_words.specs.Load.{IsLoad};
 
 use crate::command::{command, create};
@@ -47,7 +47,7 @@ fn client(alloc: Global, client: u32) -> Result<Declared, NoMemory>
 
 fn lines(alloc: Global, load: &Load) -> Result<Lines, NoMemory>
     requires { IsLoad load.now }
-    ensures { IfOk result (λ lines. lines ≡ lines_of load.now) }
+    ensures { IfOk result (λ lines. lines ≡ generated_lines load.now) }
 {
     let mut lines = creates(alloc, load)?;
     lines.push(settle(load))?;
@@ -122,7 +122,7 @@ fn command_line(alloc: Global, load: &Load, at: u32) -> Result<Line, NoMemory>
 fn asked(alloc: Global, number: u32, client: u32, command: Command) -> Result<Line, NoMemory>
     requires some { 1 ≤ client }
     requires few { client ≤ 16 }
-    ensures { IfOk result (λ line. line ≡ asked number client command) }
+    ensures { IfOk result (λ line. line ≡ waiting_command number client command) }
 {
     let said = Said::Command {
         session: SessionNo((client - 1) as u8),

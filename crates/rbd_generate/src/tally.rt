@@ -1,13 +1,13 @@
 //! The summary of a run.
 ghost use Rattle.std.specs.Prelude.{◌≡◌, ◌++◌, ◌||◌, ℕ, count_by, sum_by, IfOk, OnOk};
-ghost use Rattle.rbd_lines.specs.Known.{is_known};
+ghost use Rattle.rbd_line_table.specs.Known.{is_known};
 ghost use Rattle.rbd_text.specs.Unanswered.{answers};
-ghost use Rattle.rbd_generate.specs.Summary.{IsAnswered, bytes_in, commands_in, grants, is_command, is_open, is_refusal, refuses, shown_by, summary_text};
+ghost use Rattle.rbd_generate.specs.Summary.{HasRepliesFor, bytes_of_reply, command_count, is_granted, is_command, is_open, is_refusal, refuses, bytes_shown_by, summary_text};
 
 use itoa::{Buffer, Integer};
 use rbd_flat::Entry;
 use rbd_kinds::{NoMemory, Reply};
-use rbd_lines::LineMap;
+use rbd_line_table::LineMap;
 use rbd_script::{Line, Said, Script};
 use std::alloc::Global;
 
@@ -30,7 +30,7 @@ pub fn summary(alloc: Global, script: &Script, history: &[Entry]) -> Result<Vec<
 
 /// How many commands the lines have.
 fn commands_in(lines: &[Line]) -> u64
-    ensures { result ≡ commands_in lines.now }
+    ensures { result ≡ command_count lines.now }
 {
     let mut count = 0u64;
     for line in lines {
@@ -54,7 +54,7 @@ fn is_command(said: &Said) -> bool
 
 /// How many replies aren't refusals.
 fn granted_in(history: &[Entry]) -> u64
-    ensures { result ≡ count_by grants history.now }
+    ensures { result ≡ count_by is_granted history.now }
 {
     let mut count = 0u64;
     for entry in history {
@@ -64,7 +64,7 @@ fn granted_in(history: &[Entry]) -> u64
 }
 
 fn grants(entry: &Entry) -> bool
-    ensures { result ≡ grants entry.now }
+    ensures { result ≡ is_granted entry.now }
 {
     match entry {
         Entry::Reply { line: _, reply } => !is_refusal(reply),
@@ -100,7 +100,7 @@ fn is_refusal(reply: &Reply) -> bool
 
 /// How many bytes reads showed.
 fn shown_in(history: &[Entry]) -> u128
-    ensures { result ≡ sum_by shown_by history.now }
+    ensures { result ≡ sum_by bytes_shown_by history.now }
 {
     let mut bytes = 0u128;
     for entry in history {
@@ -110,7 +110,7 @@ fn shown_in(history: &[Entry]) -> u128
 }
 
 fn shown_by(entry: &Entry) -> usize
-    ensures { result ≡ shown_by entry.now }
+    ensures { result ≡ bytes_shown_by entry.now }
 {
     match entry {
         Entry::Reply { line: _, reply } => bytes_in(reply),
@@ -119,7 +119,7 @@ fn shown_by(entry: &Entry) -> usize
 }
 
 fn bytes_in(reply: &Reply) -> usize
-    ensures { result ≡ bytes_in reply.now }
+    ensures { result ≡ bytes_of_reply reply.now }
 {
     match reply {
         Reply::Bytes(bytes) => bytes.len(),
@@ -129,7 +129,7 @@ fn bytes_in(reply: &Reply) -> usize
 
 /// The lines that a history has replies for.
 fn answered(alloc: Global, history: &[Entry]) -> Result<LineMap<()>, NoMemory>
-    ensures { IfOk result (λ lines. IsAnswered history.now lines) }
+    ensures { IfOk result (λ lines. HasRepliesFor history.now lines) }
 {
     let mut lines = LineMap::new(alloc);
     for entry in history {

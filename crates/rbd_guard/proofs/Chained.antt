@@ -5,7 +5,7 @@ use Rattle.std.specs.List.{slice_get}
 use Rattle.std.specs.Option.{is_some}
 use Rattle.std.proofs.lemmas.Option.{slice_get_within, none-some, same_Some}
 use Rattle.std.proofs.lemmas.Bool.{or_cases, eq-eqb, ne_eqb, eqb-true, eqb-false, cond-true, cond-false, cases_Bool}
-use Rattle.rbd_guard.specs.declared.link.Place.{Place}
+use Rattle.rbd_guard.specs.declared.link.SlabPlace.{SlabPlace}
 use Rattle.rbd_guard.specs.Order.{is_in, without, AreApart}
 use Rattle.rbd_guard.specs.Links.{front}
 use Rattle.rbd_guard.specs.Slab.{if_used, if_free, used_at, free_at, or_end, walk_free, AreChained, IsChain, AreFree}
@@ -90,14 +90,14 @@ below_count (suc bound) xs apart below =
 
 -- ---- places
 
-free_within : (places : List Place) (p : ℕ) (next : Option ℕ) → free_at places p ≡ Some next → p < length places
+free_within : (places : List SlabPlace) (p : ℕ) (next : Option ℕ) → free_at places p ≡ Some next → p < length places
 free_within places p next is = by (slice_get places p) refl is
   where
-    by : (o : Option Place) → slice_get places p ≡ o → if_free o ≡ Some next → p < length places
+    by : (o : Option SlabPlace) → slice_get places p ≡ o → if_free o ≡ Some next → p < length places
     by None e free = absurd (none-some next free)
     by (Some place) e free = slice_get_within places p place e
 
-free_isnt_used : (o : Option Place) (next : Option ℕ) → if_free o ≡ Some next → if_used o ≡ None
+free_isnt_used : (o : Option SlabPlace) (next : Option ℕ) → if_free o ≡ Some next → if_used o ≡ None
 free_isnt_used None next e = refl
 free_isnt_used (Some p) next e = by p.used e
   where
@@ -105,7 +105,7 @@ free_isnt_used (Some p) next e = by p.used e
     by true e = absurd (none-some next e)
     by false e = refl
 
-used_isnt_free : (o : Option Place) → is_some (if_used o) ≡ true → if_free o ≡ None
+used_isnt_free : (o : Option SlabPlace) → is_some (if_used o) ≡ true → if_free o ≡ None
 used_isnt_free None e = refl
 used_isnt_free (Some p) e = by p.used e
   where
@@ -113,7 +113,7 @@ used_isnt_free (Some p) e = by p.used e
     by true e = refl
     by false e = absurd (true≢false (sym e))
 
-module _ (places : List Place) (head : Option ℕ) (size : ℕ) (are : AreFree places head size) where
+module _ (places : List SlabPlace) (head : Option ℕ) (size : ℕ) (are : AreFree places head size) where
   -- no more places are free than there are
   pub few_free : size ≤ length places
   few_free =
@@ -144,7 +144,7 @@ module _ (places : List Place) (head : Option ℕ) (size : ℕ) (are : AreFree p
       by None e some = true≢false (sym some)
       by (Some next) e some = no (walk_free (free_at places) size head) (sym none ∙ are.first) (are.all p next e)
 
-  module _ (others : List Place) where
+  module _ (others : List SlabPlace) where
     pub same_free : ((p : ℕ) → free_at others p ≡ free_at places p) → AreFree others head size
     same_free same =
         walked_chain (free_at others) head size (walk_free (free_at places) size head) (record {
@@ -183,7 +183,7 @@ module _ (places : List Place) (head : Option ℕ) (size : ℕ) (are : AreFree p
           by p next (inr e) free = tail_in at p chain (are.all p next (sym (changed p ∙ cond-false (eqb at p) _ _ e) ∙ free))
 
 -- the first of the free places is taken
-module _ (places others : List Place) (at size : ℕ) (changed : (p : ℕ) → free_at others p ≡ cond (eqb at p) None (free_at places p)) where
+module _ (places others : List SlabPlace) (at size : ℕ) (changed : (p : ℕ) → free_at others p ≡ cond (eqb at p) None (free_at places p)) where
   rest_free : (rest : List ℕ) → IsChain (free_at places) (Some at) size (at ∷ rest) → IsChain (free_at others) (or_end (free_at places at)) (size - 1) rest
   rest_free rest is =
       record {
@@ -213,10 +213,10 @@ module _ (places others : List Place) (at size : ℕ) (changed : (p : ℕ) → f
 
 -- ---- one place changed
 
-pub put_used : (b : Bool) (place : Place) (o : Option Place) → place.used ≡ true → if_used (cond b (Some place) o) ≡ cond b (Some place) (if_used o)
+pub put_used : (b : Bool) (place : SlabPlace) (o : Option SlabPlace) → place.used ≡ true → if_used (cond b (Some place) o) ≡ cond b (Some place) (if_used o)
 put_used true place o used = cond-true place.used _ _ used
 put_used false place o used = refl
 
-pub put_used_free : (b : Bool) (place : Place) (o : Option Place) → place.used ≡ true → if_free (cond b (Some place) o) ≡ cond b None (if_free o)
+pub put_used_free : (b : Bool) (place : SlabPlace) (o : Option SlabPlace) → place.used ≡ true → if_free (cond b (Some place) o) ≡ cond b None (if_free o)
 put_used_free true place o used = cond-true place.used _ _ used
 put_used_free false place o used = refl

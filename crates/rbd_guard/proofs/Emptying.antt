@@ -4,18 +4,18 @@ use Rattle.std.specs.Prelude.{◌⊎◌}
 use Rattle.std.specs.Option.{option_map}
 use Rattle.std.proofs.lemmas.Bool.{ne_eqb, eqb-false, cond-true, cond-false, cases_Bool}
 use Rattle.std.proofs.lemmas.Option.{none-some, same_Some}
-use Rattle.rbd_guard.specs.declared.link.Link.{Link}
+use Rattle.rbd_guard.specs.declared.link.TicketLink.{TicketLink}
 use Rattle.rbd_guard.specs.declared.link.Ends.{Ends}
 use Rattle.rbd_guard.specs.Order.{is_in, without, walked}
 use Rattle.rbd_guard.specs.Links.{AreLines, with_after, with_before, shorter, or_none}
-use Rattle.rbd_guard.specs.Tickets.{numbers, key_at}
+use Rattle.rbd_guard.specs.Tickets.{ticket_numbers, key_at}
 use Rattle.rbd_guard.proofs.Apart.{out}
 use Rattle.rbd_guard.proofs.Pushed.{AreLinesOf}
 use Rattle.rbd_guard.proofs.Removed.{removed, removed_key}
 use Rattle.rbd_guard.proofs.Numbered.{HasNumber, AreKnown, numbers_same, numbers_without, in_line_has}
 
-module _ (links one rest : ℕ → Option Link) (ends other_ends : ℕ → Ends) (number other_number place other_place : ℕ → Option ℕ) (n t : ℕ) (l : Link)
-    (lines : AreLines links ends) (are : AreKnown number place) (have : (p : ℕ) (l : Link) → links p ≡ Some l → HasNumber number p)
+module _ (links one rest : ℕ → Option TicketLink) (ends other_ends : ℕ → Ends) (number other_number place other_place : ℕ → Option ℕ) (n t : ℕ) (l : TicketLink)
+    (lines : AreLines links ends) (are : AreKnown number place) (have : (p : ℕ) (l : TicketLink) → links p ≡ Some l → HasNumber number p)
     (has : links n ≡ Some l) (mine : number n ≡ Some t)
     (taken : (m : ℕ) → one m ≡ cond (eqb n m) None (links m))
     (linked : (m : ℕ) → rest m ≡ with_before (with_after one l.before l.after) l.after l.before m)
@@ -34,16 +34,16 @@ module _ (links one rest : ℕ → Option Link) (ends other_ends : ℕ → Ends)
       numbered p
       ∙ cond-false (eqb n p) _ _ (ne_eqb n p (λ same. true≢false (sym h ∙ (ap (λ m. is_in m (without n (walked links (ends k)))) (sym same) ∙ out (walked links (ends k)) n))))
 
-  pub left_line : (k : ℕ) → numbers other_number (walked rest (other_ends k)) ≡ without t (numbers number (walked links (ends k)))
+  pub left_line : (k : ℕ) → ticket_numbers other_number (walked rest (other_ends k)) ≡ without t (ticket_numbers number (walked links (ends k)))
   left_line k =
-      ap (λ xs. numbers other_number xs) (left_lines.walks k)
+      ap (λ xs. ticket_numbers other_number xs) (left_lines.walks k)
       ∙ numbers_same number other_number (without n (walked links (ends k))) (keeps k)
       ∙ numbers_without number place n t (walked links (ends k)) are mine (in_line_has links ends number place lines are have k)
 
   pub left_key : (u : ℕ) → key_at rest (other_place u) ≡ cond (eqb t u) None (key_at links (place u))
   left_key u = ap (λ o. key_at rest o) (placed u) ∙ by (eqb t u) (place u) refl refl
     where
-      moved : (m : ℕ) → option_map (λ (l : Link). l.key) (rest m) ≡ cond (eqb n m) None (option_map (λ (l : Link). l.key) (links m))
+      moved : (m : ℕ) → option_map (λ (l : TicketLink). l.key) (rest m) ≡ cond (eqb n m) None (option_map (λ (l : TicketLink). l.key) (links m))
       moved = removed_key links one (with_after one l.before l.after) rest ends other_ends n l lines has taken (λ m. refl) linked ends_changed
 
       by : (b : Bool) (o : Option ℕ) → eqb t u ≡ b → place u ≡ o → key_at rest (cond b None o) ≡ cond b None (key_at links o)

@@ -4,11 +4,11 @@ use Rattle.std.specs.Prelude.{◌⊎◌}
 use Rattle.std.specs.Option.{option_map}
 use Rattle.std.proofs.lemmas.Bool.{eq-eqb, ne_eqb, eqb-true, cond-true, cond-false, cases_Bool}
 use Rattle.std.proofs.lemmas.Option.{none-some, same_Some}
-use Rattle.rbd_guard.specs.declared.link.Link.{Link}
+use Rattle.rbd_guard.specs.declared.link.TicketLink.{TicketLink}
 use Rattle.rbd_guard.specs.declared.link.Ends.{Ends}
 use Rattle.rbd_guard.specs.Order.{is_in, walked}
 use Rattle.rbd_guard.specs.Links.{link, AreLines, with_after, with_before, longer}
-use Rattle.rbd_guard.specs.Tickets.{numbers, key_at}
+use Rattle.rbd_guard.specs.Tickets.{ticket_numbers, key_at}
 use Rattle.rbd_guard.proofs.Linking.{HasLink, in_linked, back_in}
 use Rattle.rbd_guard.proofs.Pushed.{AreLinesOf, pushed, pushed_key}
 use Rattle.rbd_guard.proofs.Numbered.{HasNumber, AreKnown, numbers_same, numbers_push, in_line_has}
@@ -17,23 +17,23 @@ pub map_cond : {A B : Type 0} (f : A → B) (b : Bool) (x y : Option A) → opti
 map_cond f true x y = refl
 map_cond f false x y = refl
 
-pub after_same : (links others : ℕ → Option Link) (at after : Option ℕ) (m : ℕ) → others m ≡ links m → with_after others at after m ≡ with_after links at after m
+pub after_same : (links others : ℕ → Option TicketLink) (at after : Option ℕ) (m : ℕ) → others m ≡ links m → with_after others at after m ≡ with_after links at after m
 after_same links others None after m same = same
-after_same links others (Some a) after m same = ap (λ o. cond (eqb a m) (option_map (λ (l : Link). link l.key l.before after) o) o) same
+after_same links others (Some a) after m same = ap (λ o. cond (eqb a m) (option_map (λ (l : TicketLink). link l.key l.before after) o) o) same
 
 -- a new link gets the place before it
-pub put_before : (one links : ℕ → Option Link) (key n : ℕ) (before : Option ℕ) (m : ℕ) → one m ≡ cond (eqb n m) (Some (link key None None)) (links m)
+pub put_before : (one links : ℕ → Option TicketLink) (key n : ℕ) (before : Option ℕ) (m : ℕ) → one m ≡ cond (eqb n m) (Some (link key None None)) (links m)
     → with_before one (Some n) before m ≡ cond (eqb n m) (Some (link key before None)) (links m)
 put_before one links key n before m is =
     by (eqb n m) (one m) is
   where
-    by : (b : Bool) (o : Option Link) → o ≡ cond b (Some (link key None None)) (links m)
-        → cond b (option_map (λ (l : Link). link l.key before l.after) o) o ≡ cond b (Some (link key before None)) (links m)
-    by true o e = ap (λ o. option_map (λ (l : Link). link l.key before l.after) o) e
+    by : (b : Bool) (o : Option TicketLink) → o ≡ cond b (Some (link key None None)) (links m)
+        → cond b (option_map (λ (l : TicketLink). link l.key before l.after) o) o ≡ cond b (Some (link key before None)) (links m)
+    by true o e = ap (λ o. option_map (λ (l : TicketLink). link l.key before l.after) o) e
     by false o e = e
 
-module _ (links one others : ℕ → Option Link) (ends other_ends : ℕ → Ends) (number other_number place other_place : ℕ → Option ℕ) (key n t : ℕ)
-    (lines : AreLines links ends) (are : AreKnown number place) (have : (p : ℕ) (l : Link) → links p ≡ Some l → HasNumber number p)
+module _ (links one others : ℕ → Option TicketLink) (ends other_ends : ℕ → Ends) (number other_number place other_place : ℕ → Option ℕ) (key n t : ℕ)
+    (lines : AreLines links ends) (are : AreKnown number place) (have : (p : ℕ) (l : TicketLink) → links p ≡ Some l → HasNumber number p)
     (fresh : links n ≡ None) (free : number n ≡ None)
     (put : (m : ℕ) → one m ≡ cond (eqb n m) (Some (link key (ends key).last None)) (links m))
     (linked : (m : ℕ) → others m ≡ with_after one (ends key).last (Some n) m)
@@ -76,15 +76,15 @@ module _ (links one others : ℕ → Option Link) (ends other_ends : ℕ → End
       by : HasNumber number p → n ≡ p → ⊥
       by m same = none-some m.of (sym free ∙ (ap number same ∙ m.is))
 
-  pub entered_line : (k : ℕ) → numbers other_number (walked others (other_ends k))
-      ≡ cond (eqb key k) (numbers number (walked links (ends k)) ++ t ∷ []) (numbers number (walked links (ends k)))
-  entered_line k = ap (λ xs. numbers other_number xs) (entered_lines.walks k) ∙ by (eqb key k)
+  pub entered_line : (k : ℕ) → ticket_numbers other_number (walked others (other_ends k))
+      ≡ cond (eqb key k) (ticket_numbers number (walked links (ends k)) ++ t ∷ []) (ticket_numbers number (walked links (ends k)))
+  entered_line k = ap (λ xs. ticket_numbers other_number xs) (entered_lines.walks k) ∙ by (eqb key k)
     where
-      same : numbers other_number (walked links (ends k)) ≡ numbers number (walked links (ends k))
+      same : ticket_numbers other_number (walked links (ends k)) ≡ ticket_numbers number (walked links (ends k))
       same = numbers_same number other_number (walked links (ends k)) (keeps k)
 
-      by : (b : Bool) → numbers other_number (cond b (walked links (ends k) ++ n ∷ []) (walked links (ends k)))
-          ≡ cond b (numbers number (walked links (ends k)) ++ t ∷ []) (numbers number (walked links (ends k)))
+      by : (b : Bool) → ticket_numbers other_number (cond b (walked links (ends k) ++ n ∷ []) (walked links (ends k)))
+          ≡ cond b (ticket_numbers number (walked links (ends k)) ++ t ∷ []) (ticket_numbers number (walked links (ends k)))
       by true =
           numbers_push other_number (walked links (ends k)) n t (numbered n ∙ cond-true (eqb n n) _ _ (eq-eqb n n refl))
           ∙ ap (λ ts. ts ++ t ∷ []) same
@@ -93,7 +93,7 @@ module _ (links one others : ℕ → Option Link) (ends other_ends : ℕ → End
   pub entered_key : (u : ℕ) → key_at others (other_place u) ≡ cond (eqb t u) (Some key) (key_at links (place u))
   entered_key u = ap (λ o. key_at others o) (placed u) ∙ by (eqb t u) (place u) refl
     where
-      moved : (m : ℕ) → option_map (λ (l : Link). l.key) (others m) ≡ cond (eqb n m) (Some key) (option_map (λ (l : Link). l.key) (links m))
+      moved : (m : ℕ) → option_map (λ (l : TicketLink). l.key) (others m) ≡ cond (eqb n m) (Some key) (option_map (λ (l : TicketLink). l.key) (links m))
       moved = pushed_key links others ends other_ends key n lines fresh changed ends_changed
 
       by : (b : Bool) (o : Option ℕ) → place u ≡ o → key_at others (cond b (Some n) o) ≡ cond b (Some key) (key_at links o)

@@ -5,7 +5,7 @@ use Rattle.std.specs.List.{slice_get}
 use Rattle.std.proofs.lemmas.Bool.{cond-true, eq-eqb, ne_eqb, eqb-true, eqb-false, cond-false, cases_Bool}
 use Rattle.std.proofs.lemmas.Option.{none-some, same_Some}
 use Rattle.rbd_guard.specs.Order.{is_in, without, AreApart}
-use Rattle.rbd_guard.specs.Tickets.{Tickets, queue, list, object_of, request_of, without_all, is_ahead, IsSoundGuard}
+use Rattle.rbd_guard.specs.Tickets.{Tickets, queue, list, ticket_object, ticket_request, without_all, is_ahead, IsSoundGuard}
 use Rattle.rbd_guard.proofs.Apart.{tail_in, head_in, in_right, absent, others}
 
 -- ---- the first of a line
@@ -135,8 +135,8 @@ one_leaves (x ∷ tickets) ticket apart h =
 pub record AreLeaving (request : ℕ) (old now : Tickets) : Type 0 where
   pub queues : (o : ℕ) → without_all (list request now) (queue o now) ≡ without_all (list request old) (queue o old)
   pub lists : (r : ℕ) → cond (eqb request r) [] (list r now) ≡ cond (eqb request r) [] (list r old)
-  pub objects : (t : ℕ) → cond (is_in t (list request now)) None (object_of t now) ≡ cond (is_in t (list request old)) None (object_of t old)
-  pub requests : (t : ℕ) → cond (is_in t (list request now)) None (request_of t now) ≡ cond (is_in t (list request old)) None (request_of t old)
+  pub objects : (t : ℕ) → cond (is_in t (list request now)) None (ticket_object t now) ≡ cond (is_in t (list request old)) None (ticket_object t old)
+  pub requests : (t : ℕ) → cond (is_in t (list request now)) None (ticket_request t now) ≡ cond (is_in t (list request old)) None (ticket_request t old)
   pub drawn : now.drawn ≡ old.drawn
   pub reserved : old.reserved ≤ now.reserved
 
@@ -147,8 +147,8 @@ none_leaves request g = record { queues = λ o. refl; lists = λ r. refl; object
 pub record IsLeft (ticket : ℕ) (old now : Tickets) : Type 0 where
   pub queue : (o : ℕ) → queue o now ≡ without ticket (queue o old)
   pub list : (r : ℕ) → list r now ≡ without ticket (list r old)
-  pub object : (t : ℕ) → object_of t now ≡ cond (eqb ticket t) None (object_of t old)
-  pub request : (t : ℕ) → request_of t now ≡ cond (eqb ticket t) None (request_of t old)
+  pub object : (t : ℕ) → ticket_object t now ≡ cond (eqb ticket t) None (ticket_object t old)
+  pub request : (t : ℕ) → ticket_request t now ≡ cond (eqb ticket t) None (ticket_request t old)
   pub drawn : now.drawn ≡ old.drawn
   pub reserved : old.reserved ≤ now.reserved
 
@@ -161,7 +161,7 @@ module _ (request ticket : ℕ) (now later : Tickets) (sound : IsSoundGuard now)
   pub rest_shorter : length (list request later) < length (list request now)
   rest_shorter = (let a = ap length rest_is in let b = ap length head.is in omega (arith, a, b))
 
-  mine : request_of ticket now ≡ Some request
+  mine : ticket_request ticket now ≡ Some request
   mine = sound.lists.stands ticket request (ap (λ l. is_in ticket l) head.is ∙ head_in ticket head.rest)
 
   queue_step : (o : ℕ) → without_all (list request later) (queue o later) ≡ without_all (list request now) (queue o now)
@@ -190,8 +190,8 @@ module _ (request ticket : ℕ) (now later : Tickets) (sound : IsSoundGuard now)
       record {
         queues = λ o. queue_step o ∙ so.queues o;
         lists = λ r. list_step r ∙ so.lists r;
-        objects = λ t. key_step t (object_of t later) (object_of t now) (left.object t) ∙ so.objects t;
-        requests = λ t. key_step t (request_of t later) (request_of t now) (left.request t) ∙ so.requests t;
+        objects = λ t. key_step t (ticket_object t later) (ticket_object t now) (left.object t) ∙ so.objects t;
+        requests = λ t. key_step t (ticket_request t later) (ticket_request t now) (left.request t) ∙ so.requests t;
         drawn = left.drawn ∙ so.drawn;
         reserved = omega (arith, left.reserved, so.reserved);
       }
@@ -200,16 +200,16 @@ module _ (request ticket : ℕ) (now later : Tickets) (sound : IsSoundGuard now)
 pub record HaveLeft (request : ℕ) (old now : Tickets) : Type 0 where
   pub queues : (o : ℕ) → queue o now ≡ without_all (list request old) (queue o old)
   pub lists : (r : ℕ) → list r now ≡ cond (eqb request r) [] (list r old)
-  pub objects : (t : ℕ) → object_of t now ≡ cond (is_in t (list request old)) None (object_of t old)
-  pub requests : (t : ℕ) → request_of t now ≡ cond (is_in t (list request old)) None (request_of t old)
+  pub objects : (t : ℕ) → ticket_object t now ≡ cond (is_in t (list request old)) None (ticket_object t old)
+  pub requests : (t : ℕ) → ticket_request t now ≡ cond (is_in t (list request old)) None (ticket_request t old)
 
 pub have_left : (request : ℕ) (old now : Tickets) → AreLeaving request old now → list request now ≡ [] → HaveLeft request old now
 have_left request old now so none =
     record {
       queues = λ o. sym (ap (λ l. without_all l (queue o now)) none ∙ all_stay (queue o now)) ∙ so.queues o;
       lists = λ r. by r (eqb request r) refl ∙ so.lists r;
-      objects = λ t. sym (ap (λ l. cond (is_in t l) None (object_of t now)) none) ∙ so.objects t;
-      requests = λ t. sym (ap (λ l. cond (is_in t l) None (request_of t now)) none) ∙ so.requests t;
+      objects = λ t. sym (ap (λ l. cond (is_in t l) None (ticket_object t now)) none) ∙ so.objects t;
+      requests = λ t. sym (ap (λ l. cond (is_in t l) None (ticket_request t now)) none) ∙ so.requests t;
     }
   where
     by : (r : ℕ) (b : Bool) → eqb request r ≡ b → list r now ≡ cond b [] (list r now)

@@ -5,7 +5,7 @@ use Rattle.std.specs.Option.{option_map}
 use Rattle.std.proofs.lemmas.List.{length_push}
 use Rattle.std.proofs.lemmas.Bool.{eq-eqb, ne_eqb, eqb-true, eqb-false, cond-true, cond-false, cases_Bool}
 use Rattle.std.proofs.lemmas.Option.{none-some, same_Some}
-use Rattle.rbd_guard.specs.declared.link.Link.{Link}
+use Rattle.rbd_guard.specs.declared.link.TicketLink.{TicketLink}
 use Rattle.rbd_guard.specs.declared.link.Ends.{Ends}
 use Rattle.rbd_guard.specs.Order.{is_in, walked}
 use Rattle.rbd_guard.specs.Links.{front, back, link, IsLine, AreLines, with_after, or_else, longer}
@@ -13,12 +13,12 @@ use Rattle.rbd_guard.proofs.Apart.{head_in, in_left, in_right, apart_push}
 use Rattle.rbd_guard.proofs.Linking.{back_append, linked_frame, linked_join, linked_after, walked_is, HasLink, in_linked, back_in, after_other, after_keeps, has_link}
 
 -- what the tables of lines say of other lines than the walked ones
-pub record AreLinesOf (links : ℕ → Option Link) (ends : ℕ → Ends) (line : ℕ → List ℕ) : Type 0 where
+pub record AreLinesOf (links : ℕ → Option TicketLink) (ends : ℕ → Ends) (line : ℕ → List ℕ) : Type 0 where
   pub sound : AreLines links ends
   pub walks : (key : ℕ) → walked links (ends key) ≡ line key
 
-pub lines_of : (links : ℕ → Option Link) (ends : ℕ → Ends) (line : ℕ → List ℕ)
-    → ((key : ℕ) → IsLine links key (ends key) (line key)) → ((n : ℕ) (l : Link) → links n ≡ Some l → is_in n (line l.key) ≡ true) → AreLinesOf links ends line
+pub lines_of : (links : ℕ → Option TicketLink) (ends : ℕ → Ends) (line : ℕ → List ℕ)
+    → ((key : ℕ) → IsLine links key (ends key) (line key)) → ((n : ℕ) (l : TicketLink) → links n ≡ Some l → is_in n (line l.key) ≡ true) → AreLinesOf links ends line
 lines_of links ends line lines stands =
     record {
       sound = record {
@@ -35,7 +35,7 @@ first_push : (line : List ℕ) (n : ℕ) → or_else (front line None) (Some n) 
 first_push [] n = refl
 first_push (x ∷ line) n = refl
 
-module _ (links others : ℕ → Option Link) (ends other_ends : ℕ → Ends) (key n : ℕ) (sound : AreLines links ends)
+module _ (links others : ℕ → Option TicketLink) (ends other_ends : ℕ → Ends) (key n : ℕ) (sound : AreLines links ends)
     (fresh : links n ≡ None)
     (changed : (m : ℕ) → others m ≡ cond (eqb n m) (Some (link key (ends key).last None)) (with_after links (ends key).last (Some n) m))
     (ends_changed : (k : ℕ) → other_ends k ≡ cond (eqb key k) (longer (ends key) n) (ends k)) where
@@ -90,7 +90,7 @@ module _ (links others : ℕ → Option Link) (ends other_ends : ℕ → Ends) (
       apart m here there = by (in_linked links k None _ None m (sound.lines k).linked here) (in_linked links key None _ None m (sound.lines key).linked there)
         where
           by : HasLink links k m → HasLink links key m → ⊥
-          by a b = differs (sym b.key_is ∙ (ap (λ (l : Link). l.key) (same_Some b.of a.of (sym b.is ∙ a.is)) ∙ a.key_is))
+          by a b = differs (sym b.key_is ∙ (ap (λ (l : TicketLink). l.key) (same_Some b.of a.of (sym b.is ∙ a.is)) ∙ a.key_is))
 
   line_is : (k : ℕ) → IsLine others k (other_ends k) (pushed_line k)
   line_is k = by (cases_Bool (eqb key k))
@@ -114,7 +114,7 @@ module _ (links others : ℕ → Option Link) (ends other_ends : ℕ → Ends) (
       by true = in_left m (walked links (ends k)) (n ∷ []) here
       by false = here
 
-  stands : (m : ℕ) (l : Link) → others m ≡ Some l → is_in m (pushed_line l.key) ≡ true
+  stands : (m : ℕ) (l : TicketLink) → others m ≡ Some l → is_in m (pushed_line l.key) ≡ true
   stands m l is = by (cases_Bool (eqb n m))
     where
       new : (eqb n m ≡ true) → key ≡ l.key → is_in m (pushed_line l.key) ≡ true
@@ -126,15 +126,15 @@ module _ (links others : ℕ → Option Link) (ends other_ends : ℕ → Ends) (
       kept h = in_pushed l.key m (subst (λ k. is_in m (walked links (ends k)) ≡ true) h.key_is (sound.stands m h.of h.is))
 
       by : (eqb n m ≡ true) ⊎ (eqb n m ≡ false) → is_in m (pushed_line l.key) ≡ true
-      by (inl e) = new e (ap (λ (l : Link). l.key) (same_Some _ l (sym (changed m ∙ cond-true (eqb n m) _ _ e) ∙ is)))
-      by (inr e) = kept (has_link links m l.key (sym (after_keeps links (back None (walked links (ends key))) (Some n) m) ∙ ap (λ o. option_map (λ (l : Link). l.key) o) (sym (keeps m (eqb-false n m e)) ∙ is)))
+      by (inl e) = new e (ap (λ (l : TicketLink). l.key) (same_Some _ l (sym (changed m ∙ cond-true (eqb n m) _ _ e) ∙ is)))
+      by (inr e) = kept (has_link links m l.key (sym (after_keeps links (back None (walked links (ends key))) (Some n) m) ∙ ap (λ o. option_map (λ (l : TicketLink). l.key) o) (sym (keeps m (eqb-false n m e)) ∙ is)))
 
   pub pushed : AreLinesOf others other_ends (pushed_line)
   pushed = lines_of others other_ends pushed_line line_is stands
 
-  pub pushed_key : (m : ℕ) → option_map (λ (l : Link). l.key) (others m) ≡ cond (eqb n m) (Some key) (option_map (λ (l : Link). l.key) (links m))
+  pub pushed_key : (m : ℕ) → option_map (λ (l : TicketLink). l.key) (others m) ≡ cond (eqb n m) (Some key) (option_map (λ (l : TicketLink). l.key) (links m))
   pushed_key m = by (cases_Bool (eqb n m))
     where
-      by : (eqb n m ≡ true) ⊎ (eqb n m ≡ false) → option_map (λ (l : Link). l.key) (others m) ≡ cond (eqb n m) (Some key) (option_map (λ (l : Link). l.key) (links m))
-      by (inl e) = ap (λ o. option_map (λ (l : Link). l.key) o) (changed m ∙ cond-true (eqb n m) _ _ e) ∙ sym (cond-true (eqb n m) _ _ e)
-      by (inr e) = ap (λ o. option_map (λ (l : Link). l.key) o) (keeps m (eqb-false n m e)) ∙ after_keeps links (back None (walked links (ends key))) (Some n) m ∙ sym (cond-false (eqb n m) _ _ e)
+      by : (eqb n m ≡ true) ⊎ (eqb n m ≡ false) → option_map (λ (l : TicketLink). l.key) (others m) ≡ cond (eqb n m) (Some key) (option_map (λ (l : TicketLink). l.key) (links m))
+      by (inl e) = ap (λ o. option_map (λ (l : TicketLink). l.key) o) (changed m ∙ cond-true (eqb n m) _ _ e) ∙ sym (cond-true (eqb n m) _ _ e)
+      by (inr e) = ap (λ o. option_map (λ (l : TicketLink). l.key) o) (keeps m (eqb-false n m e)) ∙ after_keeps links (back None (walked links (ends key))) (Some n) m ∙ sym (cond-false (eqb n m) _ _ e)

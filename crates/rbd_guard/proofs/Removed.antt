@@ -5,23 +5,23 @@ use Rattle.std.specs.Option.{option_map, is_some}
 use Rattle.std.proofs.lemmas.List.{append-nil}
 use Rattle.std.proofs.lemmas.Bool.{eq-eqb, ne_eqb, eqb-true, eqb-false, cond-true, cond-false, cases_Bool}
 use Rattle.std.proofs.lemmas.Option.{none-some, same_Some}
-use Rattle.rbd_guard.specs.declared.link.Link.{Link}
+use Rattle.rbd_guard.specs.declared.link.TicketLink.{TicketLink}
 use Rattle.rbd_guard.specs.declared.link.Ends.{Ends}
 use Rattle.rbd_guard.specs.Order.{is_in, without, AreApart, walked, no_ends, ends_or}
-use Rattle.rbd_guard.specs.Links.{front, back, link, AreLinked, IsLine, AreLines, with_after, with_before, unless, shorter, or_none}
+use Rattle.rbd_guard.specs.Links.{front, back, link, AreLinked, IsLine, AreLines, with_after, with_before, other_unless, shorter, or_none}
 use Rattle.rbd_guard.proofs.Apart.{in_left, in_right, tail_in, some_length, differ, others, absent, apart_without, Around, around, IsAmid, amid}
 use Rattle.rbd_guard.proofs.Linking.{back_append, linked_frame, linked_split, linked_join, linked_after, linked_before, HasLink, in_linked, back_in, front_in, after_other, before_other, after_keeps, before_keeps, has_link}
 use Rattle.rbd_guard.proofs.Pushed.{AreLinesOf, lines_of}
 
-unless_back : (x : ℕ) (line : List ℕ) (other kept : Option ℕ) → unless (back (Some x) line) other kept ≡ kept
+unless_back : (x : ℕ) (line : List ℕ) (other kept : Option ℕ) → other_unless (back (Some x) line) other kept ≡ kept
 unless_back x [] other kept = refl
 unless_back x (y ∷ line) other kept = unless_back y line other kept
 
-first_rest : (xs ys : List ℕ) (n : ℕ) → unless (back None xs) (front ys None) (front (xs ++ n ∷ ys) None) ≡ front (xs ++ ys) None
+first_rest : (xs ys : List ℕ) (n : ℕ) → other_unless (back None xs) (front ys None) (front (xs ++ n ∷ ys) None) ≡ front (xs ++ ys) None
 first_rest [] ys n = refl
 first_rest (x ∷ xs) ys n = unless_back x xs (front ys None) (Some x)
 
-last_rest : (xs ys : List ℕ) (n : ℕ) → unless (front ys None) (back None xs) (back None (xs ++ n ∷ ys)) ≡ back None (xs ++ ys)
+last_rest : (xs ys : List ℕ) (n : ℕ) → other_unless (front ys None) (back None xs) (back None (xs ++ n ∷ ys)) ≡ back None (xs ++ ys)
 last_rest xs [] n = ap (λ l. back None l) (sym (append-nil xs))
 last_rest xs (y ∷ ys) n = back_append None xs (n ∷ y ∷ ys) ∙ sym (back_append None xs (y ∷ ys))
 
@@ -34,23 +34,23 @@ count_rest (x ∷ xs) ys n = (let rest : length (xs ++ n ∷ ys) ≡ suc (length
     more (x ∷ xs) ys n = ap suc (more xs ys n)
 
 -- a line that has no one has no ends
-none_stays : (links : ℕ → Option Link) (key : ℕ) (e : Ends) (line : List ℕ) → IsLine links key e line → IsLine links key (or_none e) line
+none_stays : (links : ℕ → Option TicketLink) (key : ℕ) (e : Ends) (line : List ℕ) → IsLine links key e line → IsLine links key (or_none e) line
 none_stays links key e [] is = subst (λ es. IsLine links key es []) (sym (cond-true (eqb e.count 0) no_ends e (eq-eqb e.count 0 is.count))) (record { first = refl; last = refl; count = refl; linked = tt; apart = tt })
 none_stays links key e (x ∷ line) is = subst (λ es. IsLine links key es (x ∷ line)) (sym (cond-false (eqb e.count 0) no_ends e (ne_eqb e.count 0 (λ none. omega (arith, none, is.count))))) is
 
-none_both : (b : Bool) (f : Option Link → Option Link) (o : Option Link) → f None ≡ None → o ≡ None → cond b (f o) o ≡ None
+none_both : (b : Bool) (f : Option TicketLink → Option TicketLink) (o : Option TicketLink) → f None ≡ None → o ≡ None → cond b (f o) o ≡ None
 none_both true f o keeps e = ap f e ∙ keeps
 none_both false f o keeps e = e
 
-after_none : (links : ℕ → Option Link) (at after : Option ℕ) (m : ℕ) → links m ≡ None → with_after links at after m ≡ None
+after_none : (links : ℕ → Option TicketLink) (at after : Option ℕ) (m : ℕ) → links m ≡ None → with_after links at after m ≡ None
 after_none links None after m e = e
-after_none links (Some a) after m e = none_both (eqb a m) (λ o. option_map (λ (l : Link). link l.key l.before after) o) (links m) refl e
+after_none links (Some a) after m e = none_both (eqb a m) (λ o. option_map (λ (l : TicketLink). link l.key l.before after) o) (links m) refl e
 
-before_none : (links : ℕ → Option Link) (at before : Option ℕ) (m : ℕ) → links m ≡ None → with_before links at before m ≡ None
+before_none : (links : ℕ → Option TicketLink) (at before : Option ℕ) (m : ℕ) → links m ≡ None → with_before links at before m ≡ None
 before_none links None before m e = e
-before_none links (Some a) before m e = none_both (eqb a m) (λ o. option_map (λ (l : Link). link l.key before l.after) o) (links m) refl e
+before_none links (Some a) before m e = none_both (eqb a m) (λ o. option_map (λ (l : TicketLink). link l.key before l.after) o) (links m) refl e
 
-module _ (links one two three : ℕ → Option Link) (ends other_ends : ℕ → Ends) (n : ℕ) (l : Link) (sound : AreLines links ends)
+module _ (links one two three : ℕ → Option TicketLink) (ends other_ends : ℕ → Ends) (n : ℕ) (l : TicketLink) (sound : AreLines links ends)
     (has : links n ≡ Some l)
     (first_change : (m : ℕ) → one m ≡ cond (eqb n m) None (links m))
     (second_change : (m : ℕ) → two m ≡ with_after one l.before l.after m)
@@ -80,8 +80,8 @@ module _ (links one two three : ℕ → Option Link) (ends other_ends : ℕ → 
         is = record {
           line_is = a.is;
           amid_is = amid a.xs n a.ys (subst AreApart a.is (sound.lines l.key).apart);
-          before_is = ap (λ (l : Link). l.before) linked_so;
-          after_is = ap (λ (l : Link). l.after) linked_so;
+          before_is = ap (λ (l : TicketLink). l.before) linked_so;
+          after_is = ap (λ (l : TicketLink). l.after) linked_so;
           left = parts.0;
           right = parts.1.1;
         };
@@ -100,11 +100,11 @@ module _ (links one two three : ℕ → Option Link) (ends other_ends : ℕ → 
       ∙ (second_change m ∙ after_other one l.before l.after m not_before)
       ∙ (first_change m ∙ cond-false (eqb n m) _ _ (ne_eqb n m differs))
 
-  keeps_key : (m : ℕ) → (n ≡ m → ⊥) → option_map (λ (l : Link). l.key) (three m) ≡ option_map (λ (l : Link). l.key) (links m)
+  keeps_key : (m : ℕ) → (n ≡ m → ⊥) → option_map (λ (l : TicketLink). l.key) (three m) ≡ option_map (λ (l : TicketLink). l.key) (links m)
   keeps_key m differs =
-      ap (λ o. option_map (λ (l : Link). l.key) o) (third_change m) ∙ before_keeps two l.after l.before m
-      ∙ (ap (λ o. option_map (λ (l : Link). l.key) o) (second_change m) ∙ after_keeps one l.before l.after m)
-      ∙ ap (λ o. option_map (λ (l : Link). l.key) o) (first_change m ∙ cond-false (eqb n m) _ _ (ne_eqb n m differs))
+      ap (λ o. option_map (λ (l : TicketLink). l.key) o) (third_change m) ∙ before_keeps two l.after l.before m
+      ∙ (ap (λ o. option_map (λ (l : TicketLink). l.key) o) (second_change m) ∙ after_keeps one l.before l.after m)
+      ∙ ap (λ o. option_map (λ (l : TicketLink). l.key) o) (first_change m ∙ cond-false (eqb n m) _ _ (ne_eqb n m differs))
 
   module _ (xs ys : List ℕ) (is : IsHere xs ys) where
     left_linked : AreLinked three l.key None xs (front ys None)
@@ -131,10 +131,10 @@ module _ (links one two three : ℕ → Option Link) (ends other_ends : ℕ → 
     rest_line : IsLine three l.key (shorter (ends l.key) l) (xs ++ ys)
     rest_line =
         record {
-          first = ap (λ b. unless b l.after (ends l.key).first) is.before_is ∙ ap (λ a. unless (back None xs) a (ends l.key).first) is.after_is
-              ∙ ap (λ f. unless (back None xs) (front ys None) f) ((sound.lines l.key).first ∙ ap (λ line. front line None) is.line_is) ∙ first_rest xs ys n;
-          last = ap (λ a. unless a l.before (ends l.key).last) is.after_is ∙ ap (λ b. unless (front ys None) b (ends l.key).last) is.before_is
-              ∙ ap (λ f. unless (front ys None) (back None xs) f) ((sound.lines l.key).last ∙ ap (λ line. back None line) is.line_is) ∙ last_rest xs ys n;
+          first = ap (λ b. other_unless b l.after (ends l.key).first) is.before_is ∙ ap (λ a. other_unless (back None xs) a (ends l.key).first) is.after_is
+              ∙ ap (λ f. other_unless (back None xs) (front ys None) f) ((sound.lines l.key).first ∙ ap (λ line. front line None) is.line_is) ∙ first_rest xs ys n;
+          last = ap (λ a. other_unless a l.before (ends l.key).last) is.after_is ∙ ap (λ b. other_unless (front ys None) b (ends l.key).last) is.before_is
+              ∙ ap (λ f. other_unless (front ys None) (back None xs) f) ((sound.lines l.key).last ∙ ap (λ line. back None line) is.line_is) ∙ last_rest xs ys n;
           count = ap (λ c. c - 1) ((sound.lines l.key).count ∙ ap length is.line_is) ∙ count_rest xs ys n;
           linked = linked_join three l.key None xs ys None left_linked right_linked;
           apart = subst AreApart is.amid_is.rest (apart_without (xs ++ n ∷ ys) n (subst AreApart is.line_is (sound.lines l.key).apart));
@@ -156,7 +156,7 @@ module _ (links one two three : ℕ → Option Link) (ends other_ends : ℕ → 
     elsewhere k m differs a b = by (in_linked links k None _ None m (sound.lines k).linked a) (in_linked links l.key None _ None m (sound.lines l.key).linked b)
       where
         by : HasLink links k m → HasLink links l.key m → ⊥
-        by p q = differs (sym q.key_is ∙ (ap (λ (l : Link). l.key) (same_Some q.of p.of (sym q.is ∙ p.is)) ∙ p.key_is))
+        by p q = differs (sym q.key_is ∙ (ap (λ (l : TicketLink). l.key) (same_Some q.of p.of (sym q.is ∙ p.is)) ∙ p.key_is))
 
     out_of : (k : ℕ) → (l.key ≡ k → ⊥) → is_in n (walked links (ends k)) ≡ false
     out_of k differs = by (is_in n (walked links (ends k))) refl
@@ -191,7 +191,7 @@ module _ (links one two three : ℕ → Option Link) (ends other_ends : ℕ → 
   gone : three n ≡ None
   gone = third_change n ∙ before_none two l.after l.before n (second_change n ∙ after_none one l.before l.after n (first_change n ∙ cond-true (eqb n n) _ _ (eq-eqb n n refl)))
 
-  stands : (m : ℕ) (k : Link) → three m ≡ Some k → is_in m (without n (walked links (ends k.key))) ≡ true
+  stands : (m : ℕ) (k : TicketLink) → three m ≡ Some k → is_in m (without n (walked links (ends k.key))) ≡ true
   stands m k is = by (cases_Bool (eqb n m))
     where
       kept : (n ≡ m → ⊥) → HasLink links k.key m → is_in m (without n (walked links (ends k.key))) ≡ true
@@ -199,7 +199,7 @@ module _ (links one two three : ℕ → Option Link) (ends other_ends : ℕ → 
 
       by : (eqb n m ≡ true) ⊎ (eqb n m ≡ false) → is_in m (without n (walked links (ends k.key))) ≡ true
       by (inl e) = absurd (none-some k (sym gone ∙ (ap three (eqb-true n m e) ∙ is)))
-      by (inr e) = kept (eqb-false n m e) (has_link links m k.key (sym (keeps_key m (eqb-false n m e)) ∙ ap (λ o. option_map (λ (l : Link). l.key) o) is))
+      by (inr e) = kept (eqb-false n m e) (has_link links m k.key (sym (keeps_key m (eqb-false n m e)) ∙ ap (λ o. option_map (λ (l : TicketLink). l.key) o) is))
 
   pub removed : AreLinesOf three other_ends (λ k. without n (walked links (ends k)))
   removed = by here
@@ -207,15 +207,15 @@ module _ (links one two three : ℕ → Option Link) (ends other_ends : ℕ → 
       by : Here → AreLinesOf three other_ends (λ k. without n (walked links (ends k)))
       by h = lines_of three other_ends (λ k. without n (walked links (ends k))) (line_is h.xs h.ys h.is) stands
 
-  pub removed_key : (m : ℕ) → option_map (λ (l : Link). l.key) (three m) ≡ cond (eqb n m) None (option_map (λ (l : Link). l.key) (links m))
+  pub removed_key : (m : ℕ) → option_map (λ (l : TicketLink). l.key) (three m) ≡ cond (eqb n m) None (option_map (λ (l : TicketLink). l.key) (links m))
   removed_key m = by (cases_Bool (eqb n m))
     where
-      by : (eqb n m ≡ true) ⊎ (eqb n m ≡ false) → option_map (λ (l : Link). l.key) (three m) ≡ cond (eqb n m) None (option_map (λ (l : Link). l.key) (links m))
-      by (inl e) = ap (λ o. option_map (λ (l : Link). l.key) o) (ap three (sym (eqb-true n m e)) ∙ gone) ∙ sym (cond-true (eqb n m) _ _ e)
+      by : (eqb n m ≡ true) ⊎ (eqb n m ≡ false) → option_map (λ (l : TicketLink). l.key) (three m) ≡ cond (eqb n m) None (option_map (λ (l : TicketLink). l.key) (links m))
+      by (inl e) = ap (λ o. option_map (λ (l : TicketLink). l.key) o) (ap three (sym (eqb-true n m e)) ∙ gone) ∙ sym (cond-true (eqb n m) _ _ e)
       by (inr e) = keeps_key m (eqb-false n m e) ∙ sym (cond-false (eqb n m) _ _ e)
 
 -- somebody stands in the line of a number that has a link
-pub some_stand : (links : ℕ → Option Link) (ends : ℕ → Ends) (n : ℕ) (l : Link) → AreLines links ends → links n ≡ Some l → 0 < (ends l.key).count
+pub some_stand : (links : ℕ → Option TicketLink) (ends : ℕ → Ends) (n : ℕ) (l : TicketLink) → AreLines links ends → links n ≡ Some l → 0 < (ends l.key).count
 some_stand links ends n l sound has =
     (let count = (sound.lines l.key).count in let some = some_length n (walked links (ends l.key)) (sound.stands n l has) in omega (arith, count, some))
 

@@ -2,18 +2,18 @@
 use Rattle.std.proofs.Common.{◌≡◌, ℕ, ◌<◌, ◌≤◌, ◌^◌, nat_eq, [], Option, None, refl, sym, ap, subst, ◌∙◌, arith}
 use Rattle.std.specs.Map.{lookup}
 use Rattle.std.proofs.lemmas.Option.{none-some}
-use Rattle.rbd_guard.specs.declared.link.Link.{Link}
+use Rattle.rbd_guard.specs.declared.link.TicketLink.{TicketLink}
 use Rattle.rbd_guard.specs.declared.link.Ends.{Ends}
 use Rattle.rbd_guard.specs.Order.{walked, ends_or}
 use Rattle.rbd_guard.specs.Links.{IsLine, AreLines}
 use Rattle.rbd_guard.specs.Slab.{number_at, queue_link, list_link}
-use Rattle.rbd_guard.specs.Tickets.{Tickets, ends_at, numbers, key_at, place_of, queue, list, object_of, request_of, AreSame}
+use Rattle.rbd_guard.specs.Tickets.{Tickets, ends_at, ticket_numbers, key_at, place_of_ticket, queue, list, ticket_object, ticket_request, AreSame}
 use Rattle.rbd_guard.specs.Held.{AreHeld}
 use Rattle.rbd_guard.proofs.Linking.{linked_frame}
 use Rattle.rbd_guard.proofs.Pushed.{AreLinesOf, lines_of}
 use Rattle.rbd_guard.proofs.Holding.{queue_is, list_is, object_is, request_is}
 
-same_lines_of : (links others : ℕ → Option Link) (ends other_ends : ℕ → Ends) → AreLines links ends
+same_lines_of : (links others : ℕ → Option TicketLink) (ends other_ends : ℕ → Ends) → AreLines links ends
     → ((n : ℕ) → others n ≡ links n) → ((k : ℕ) → other_ends k ≡ ends k) → AreLinesOf others other_ends (λ k. walked links (ends k))
 same_lines_of links others ends other_ends sound same same_ends =
     lines_of others other_ends (λ k. walked links (ends k))
@@ -27,7 +27,7 @@ same_lines_of links others ends other_ends sound same same_ends =
     }))
     (λ n l is. sound.stands n l (sym (same n) ∙ is))
 
-module _ (old new : Tickets) (slots : new.slots ≡ old.slots) (places : (t : ℕ) → place_of t new ≡ place_of t old)
+module _ (old new : Tickets) (slots : new.slots ≡ old.slots) (places : (t : ℕ) → place_of_ticket t new ≡ place_of_ticket t old)
     (queues : (k : ℕ) → ends_at new.queues k ≡ ends_at old.queues k) (lists : (k : ℕ) → ends_at new.lists k ≡ ends_at old.lists k)
     (drawn : new.drawn ≡ old.drawn) where
   pub same_held : AreHeld old → AreHeld new
@@ -46,13 +46,13 @@ module _ (old new : Tickets) (slots : new.slots ≡ old.slots) (places : (t : �
   pub same_tickets : AreSame old new
   same_tickets =
       record {
-        queue = λ o. queue_is new o ∙ ap (λ s. numbers (number_at s) (walked (queue_link s) (ends_at new.queues o))) slots
-            ∙ ap (λ e. numbers (number_at old.slots) (walked (queue_link old.slots) e)) (queues o) ∙ sym (queue_is old o);
-        list = λ r. list_is new r ∙ ap (λ s. numbers (number_at s) (walked (list_link s) (ends_at new.lists r))) slots
-            ∙ ap (λ e. numbers (number_at old.slots) (walked (list_link old.slots) e)) (lists r) ∙ sym (list_is old r);
-        object = λ t. object_is new t ∙ ap (λ s. key_at (queue_link s) (place_of t new)) slots
+        queue = λ o. queue_is new o ∙ ap (λ s. ticket_numbers (number_at s) (walked (queue_link s) (ends_at new.queues o))) slots
+            ∙ ap (λ e. ticket_numbers (number_at old.slots) (walked (queue_link old.slots) e)) (queues o) ∙ sym (queue_is old o);
+        list = λ r. list_is new r ∙ ap (λ s. ticket_numbers (number_at s) (walked (list_link s) (ends_at new.lists r))) slots
+            ∙ ap (λ e. ticket_numbers (number_at old.slots) (walked (list_link old.slots) e)) (lists r) ∙ sym (list_is old r);
+        object = λ t. object_is new t ∙ ap (λ s. key_at (queue_link s) (place_of_ticket t new)) slots
             ∙ ap (λ p. key_at (queue_link old.slots) p) (places t) ∙ sym (object_is old t);
-        request = λ t. request_is new t ∙ ap (λ s. key_at (list_link s) (place_of t new)) slots
+        request = λ t. request_is new t ∙ ap (λ s. key_at (list_link s) (place_of_ticket t new)) slots
             ∙ ap (λ p. key_at (list_link old.slots) p) (places t) ∙ sym (request_is old t);
         drawn = drawn;
       }
@@ -60,15 +60,15 @@ module _ (old new : Tickets) (slots : new.slots ≡ old.slots) (places : (t : �
 -- ---- no ticket
 
 pub no_queue : (g : Tickets) → g.queues ≡ [] → (o : ℕ) → queue o g ≡ []
-no_queue g none o = queue_is g o ∙ ap (λ es. numbers (number_at g.slots) (walked (queue_link g.slots) (ends_or (lookup (nat_eq o) es)))) none
+no_queue g none o = queue_is g o ∙ ap (λ es. ticket_numbers (number_at g.slots) (walked (queue_link g.slots) (ends_or (lookup (nat_eq o) es)))) none
 
 pub no_list : (g : Tickets) → g.lists ≡ [] → (r : ℕ) → list r g ≡ []
-no_list g none r = list_is g r ∙ ap (λ es. numbers (number_at g.slots) (walked (list_link g.slots) (ends_or (lookup (nat_eq r) es)))) none
+no_list g none r = list_is g r ∙ ap (λ es. ticket_numbers (number_at g.slots) (walked (list_link g.slots) (ends_or (lookup (nat_eq r) es)))) none
 
-pub no_object : (g : Tickets) → g.places ≡ [] → (t : ℕ) → object_of t g ≡ None
+pub no_object : (g : Tickets) → g.places ≡ [] → (t : ℕ) → ticket_object t g ≡ None
 no_object g none t = object_is g t ∙ ap (λ ps. key_at (queue_link g.slots) (lookup (nat_eq t) ps)) none
 
-pub no_request : (g : Tickets) → g.places ≡ [] → (t : ℕ) → request_of t g ≡ None
+pub no_request : (g : Tickets) → g.places ≡ [] → (t : ℕ) → ticket_request t g ≡ None
 no_request g none t = request_is g t ∙ ap (λ ps. key_at (list_link g.slots) (lookup (nat_eq t) ps)) none
 
 nothing : Tickets

@@ -2,15 +2,15 @@
 use Rattle.std.specs.Prelude.{◌≡◌, ℕ, ◌<◌, ◌≤◌, ◌^◌, Some}
 use Rattle.rbd_guard.specs.Slab.{queue_link, list_link, number_at}
 use Rattle.rbd_guard.specs.Links.{AreLines}
-use Rattle.rbd_guard.specs.Tickets.{Tickets, ends_at, place_of}
+use Rattle.rbd_guard.specs.Tickets.{Tickets, ends_at, place_of_ticket}
 
 -- a ticket at a place stands in one queue and in one list, and its number is found at that place
 -- alone
 pub record AreHeld (g : Tickets) : Type 0 where
   pub queues : AreLines (queue_link g.slots) (ends_at g.queues)
   pub lists : AreLines (list_link g.slots) (ends_at g.lists)
-  pub found : (number p : ℕ) → place_of number g ≡ Some p → number_at g.slots p ≡ Some number
-  pub known : (number p : ℕ) → number_at g.slots p ≡ Some number → place_of number g ≡ Some p
+  pub found : (number p : ℕ) → place_of_ticket number g ≡ Some p → number_at g.slots p ≡ Some number
+  pub known : (number p : ℕ) → number_at g.slots p ≡ Some number → place_of_ticket number g ≡ Some p
   pub drawn : (number p : ℕ) → number_at g.slots p ≡ Some number → number < g.drawn
   pub queue_fits : (object : ℕ) → (ends_at g.queues object).count ≤ g.drawn
   pub list_fits : (request : ℕ) → (ends_at g.lists request).count ≤ g.drawn

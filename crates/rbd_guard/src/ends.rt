@@ -2,9 +2,9 @@
 ghost use Rattle.std.specs.Prelude.{◌≡◌, ℕ, ◌+◌, ◌-◌, ◌<◌, ◌≤◌, ◌^◌, Some, cond, nat_eq};
 ghost use Rattle.std.specs.HashMap.{get, spare};
 ghost use Rattle.rbd_guard.specs.Order.{no_ends, ends_or};
-ghost use Rattle.rbd_guard.specs.Links.{longer, shorter, or_none, or_else, unless};
+ghost use Rattle.rbd_guard.specs.Links.{longer, shorter, or_none, or_else, other_unless};
 
-use crate::link::{Ends, Link};
+use crate::link::{Ends, TicketLink};
 use std::collections::HashMap;
 
 /// The ends of the line under a key.
@@ -43,7 +43,7 @@ fn or_else(first: Option<usize>, other: Option<usize>) -> Option<usize>
 }
 
 /// The ends of a line without the place that has a link.
-pub fn shorter(ends: Ends, link: Link) -> Ends
+pub fn shorter(ends: Ends, link: TicketLink) -> Ends
     requires { 0 < ends.count }
     ensures { result ≡ shorter ends link }
 {
@@ -55,7 +55,7 @@ pub fn shorter(ends: Ends, link: Link) -> Ends
 }
 
 fn unless(neighbour: Option<usize>, other: Option<usize>, kept: Option<usize>) -> Option<usize>
-    ensures { result ≡ unless neighbour other kept }
+    ensures { result ≡ other_unless neighbour other kept }
 {
     match neighbour {
         Some(_) => kept,
@@ -98,7 +98,7 @@ fn add_ends(table: &mut HashMap<u64, Ends>, key: u64, place: usize)
 
 /// Takes a place that has this link out of its line. No ends are kept of a line in which nobody
 /// stands.
-pub fn shorten(table: &mut HashMap<u64, Ends>, link: Link)
+pub fn shorten(table: &mut HashMap<u64, Ends>, link: TicketLink)
     requires { 0 < (ends_or (get nat_eq table.old link.key)).count }
     ensures ends { (k : ℕ) → ends_or (get nat_eq table.new k)
         ≡ cond (nat_eq link.key k) (or_none (shorter (ends_or (get nat_eq table.old link.key)) link)) (ends_or (get nat_eq table.old k)) }

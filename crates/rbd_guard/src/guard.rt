@@ -1,13 +1,13 @@
 ghost use Rattle.std.specs.Prelude.{◌≡◌, ℕ, ◌+◌, ◌<◌, ◌≤◌, ◌==◌, [], ◌∷◌, ◌++◌, None, Some, cond, nat_eq, length, slice_get, IsSome, IsOk, IfOk, IfSome, OnOk, OnErr};
 ghost use Rattle.std.specs.HashMap.{get, spare};
 ghost use Rattle.rbd_guard.specs.Order.{is_in, without};
-ghost use Rattle.rbd_guard.specs.Tickets.{queue, list, object_of, request_of, without_all, AreSame, IsSoundGuard};
+ghost use Rattle.rbd_guard.specs.Tickets.{queue, list, ticket_object, ticket_request, without_all, AreSame, IsSoundGuard};
 ghost use Rattle.rbd_guard.specs.Links.{link};
 ghost use Rattle.rbd_guard.specs.Slab.{number_at, number_or_none, entering};
 
 use crate::ends::ends_of;
 use crate::found::{add_place, take_place};
-use crate::link::{Ends, Link, Place};
+use crate::link::{Ends, SlabPlace, TicketLink};
 use crate::slab::Slab;
 use crate::standing::{enter_list, enter_queue, leave_list, leave_queue};
 use crate::ticket::Ticket;
@@ -17,8 +17,8 @@ use std::collections::HashMap;
 use std::marker::Model;
 
 /// The tickets of one session's requests. Contracts see each object's `queue` and each request's
-/// `list`, both earliest first, the `object_of` and the `request_of` each queued ticket, how many
-/// tickets were `drawn`, and for how many more there is room.
+/// `list`, both earliest first, of each queued ticket its object (`ticket_object`) and its request
+/// (`ticket_request`), how many tickets were `drawn`, and for how many more there is room.
 #[derive(Drop)]
 pub struct Guard {
     /// The places of the tickets that are in.
@@ -65,8 +65,8 @@ impl Guard {
     pub fn new(alloc: Global) -> Self
         ensures queue { (object : ℕ) → queue object result ≡ [] }
         ensures list { (request : ℕ) → list request result ≡ [] }
-        ensures object { (ticket : ℕ) → object_of ticket result ≡ None }
-        ensures request { (ticket : ℕ) → request_of ticket result ≡ None }
+        ensures object { (ticket : ℕ) → ticket_object ticket result ≡ None }
+        ensures request { (ticket : ℕ) → ticket_request ticket result ≡ None }
         ensures drawn { result.drawn ≡ 0 }
         ensures sound { IsSoundGuard result }
     {
@@ -105,12 +105,12 @@ impl Guard {
         ensures list { IfOk result (λ ticket. (r : ℕ)
             → list r self.new ≡ cond (request == r) (list r self.old ++ ticket ∷ []) (list r self.old)) }
         ensures object { IfOk result (λ ticket. (t : ℕ)
-            → object_of t self.new ≡ cond (ticket == t) (Some object) (object_of t self.old)) }
+            → ticket_object t self.new ≡ cond (ticket == t) (Some object) (ticket_object t self.old)) }
         ensures request { IfOk result (λ ticket. (t : ℕ)
-            → request_of t self.new ≡ cond (ticket == t) (Some request) (request_of t self.old)) }
+            → ticket_request t self.new ≡ cond (ticket == t) (Some request) (ticket_request t self.old)) }
         ensures number { IfOk result (λ ticket. ticket ≡ self.old.drawn) }
         ensures drawn { OnOk result (self.new.drawn ≡ self.old.drawn + 1) }
-        ensures fresh { IfOk result (λ ticket. object_of ticket self.old ≡ None) }
+        ensures fresh { IfOk result (λ ticket. ticket_object ticket self.old ≡ None) }
         ensures err { OnErr result (AreSame self.old self.new) }
 
         ensures room { 0 < self.old.reserved → IsOk result }
@@ -126,11 +126,11 @@ impl Guard {
         requires { 0 < self.old.reserved }
         ensures queue { (o : ℕ) → queue o self.new ≡ cond (object == o) (queue o self.old ++ result ∷ []) (queue o self.old) }
         ensures list { (r : ℕ) → list r self.new ≡ cond (request == r) (list r self.old ++ result ∷ []) (list r self.old) }
-        ensures object { (t : ℕ) → object_of t self.new ≡ cond (result == t) (Some object) (object_of t self.old) }
-        ensures request { (t : ℕ) → request_of t self.new ≡ cond (result == t) (Some request) (request_of t self.old) }
+        ensures object { (t : ℕ) → ticket_object t self.new ≡ cond (result == t) (Some object) (ticket_object t self.old) }
+        ensures request { (t : ℕ) → ticket_request t self.new ≡ cond (result == t) (Some request) (ticket_request t self.old) }
         ensures number { result ≡ self.old.drawn }
         ensures drawn { self.new.drawn ≡ self.old.drawn + 1 }
-        ensures fresh { object_of result self.old ≡ None }
+        ensures fresh { ticket_object result self.old ≡ None }
         ensures reserved { self.old.reserved ≤ self.new.reserved + 1 }
         ensures sound { IsSoundGuard self.new }
     {
@@ -147,7 +147,7 @@ impl Guard {
     /// queue is empty. It takes no memory.
     pub fn first(&self, object: u64) -> Option<Ticket>
         ensures first { result ≡ slice_get (queue object self.now) 0 }
-        ensures object { IfSome result (λ ticket. object_of ticket self.now ≡ Some object) }
+        ensures object { IfSome result (λ ticket. ticket_object ticket self.now ≡ Some object) }
         ensures sound { IsSoundGuard self.now }
     {
         ticket_at(&self.slab, ends_of(&self.queues, object).first)
@@ -157,7 +157,7 @@ impl Guard {
     /// is empty. It takes no memory.
     pub fn next_of(&self, request: u32) -> Option<Ticket>
         ensures first { result ≡ slice_get (list request self.now) 0 }
-        ensures request { IfSome result (λ ticket. request_of ticket self.now ≡ Some request) }
+        ensures request { IfSome result (λ ticket. ticket_request ticket self.now ≡ Some request) }
         ensures sound { IsSoundGuard self.now }
     {
         ticket_at(&self.slab, ends_of(&self.lists, request as u64).first)
@@ -165,11 +165,11 @@ impl Guard {
 
     /// Takes a queued ticket away. Every other order stays. It takes no memory.
     pub fn leave(&mut self, ticket: Ticket)
-        requires { IsSome (object_of ticket self.old) }
+        requires { IsSome (ticket_object ticket self.old) }
         ensures queue { (o : ℕ) → queue o self.new ≡ without ticket (queue o self.old) }
         ensures list { (r : ℕ) → list r self.new ≡ without ticket (list r self.old) }
-        ensures object { (t : ℕ) → object_of t self.new ≡ cond (ticket == t) None (object_of t self.old) }
-        ensures request { (t : ℕ) → request_of t self.new ≡ cond (ticket == t) None (request_of t self.old) }
+        ensures object { (t : ℕ) → ticket_object t self.new ≡ cond (ticket == t) None (ticket_object t self.old) }
+        ensures request { (t : ℕ) → ticket_request t self.new ≡ cond (ticket == t) None (ticket_request t self.old) }
         ensures drawn { self.new.drawn ≡ self.old.drawn }
         ensures reserved { self.old.reserved ≤ self.new.reserved }
         ensures sound { IsSoundGuard self.new }
@@ -187,9 +187,9 @@ impl Guard {
         ensures queue { (o : ℕ) → queue o self.new ≡ without_all (list request self.old) (queue o self.old) }
         ensures list { (r : ℕ) → list r self.new ≡ cond (request == r) [] (list r self.old) }
         ensures object { (t : ℕ)
-            → object_of t self.new ≡ cond (is_in t (list request self.old)) None (object_of t self.old) }
+            → ticket_object t self.new ≡ cond (is_in t (list request self.old)) None (ticket_object t self.old) }
         ensures request { (t : ℕ)
-            → request_of t self.new ≡ cond (is_in t (list request self.old)) None (request_of t self.old) }
+            → ticket_request t self.new ≡ cond (is_in t (list request self.old)) None (ticket_request t self.old) }
         ensures drawn { self.new.drawn ≡ self.old.drawn }
         ensures reserved { self.old.reserved ≤ self.new.reserved }
         ensures sound { IsSoundGuard self.new }
@@ -224,10 +224,10 @@ fn reserve_all(
 }
 
 /// What stands at the place of a ticket that isn't linked with others yet.
-fn entering(number: u64, object: u64, request: u64) -> Place
+fn entering(number: u64, object: u64, request: u64) -> SlabPlace
     ensures { result ≡ entering number object request }
 {
-    Place {
+    SlabPlace {
         used: true,
         number,
         queue: alone(object),
@@ -236,10 +236,10 @@ fn entering(number: u64, object: u64, request: u64) -> Place
     }
 }
 
-fn alone(key: u64) -> Link
+fn alone(key: u64) -> TicketLink
     ensures { result ≡ link key None None }
 {
-    Link {
+    TicketLink {
         key,
         before: None,
         after: None,

@@ -2,9 +2,10 @@
 //! that does nothing.
 ghost use Rattle.std.specs.Prelude.{◌≡◌, ◌≢◌, ℕ, ◌+◌, ◌<◌, Some, IsSome, IsTrue, IsFalse, List, [], ◌∷◌, ◌++◌, length, slice_get};
 ghost use Rattle.rbd_guard.specs.Order.{is_in, without, AreApart};
-ghost use Rattle.rbd_guard.specs.Tickets.{Tickets, queue, list, object_of, request_of, without_all, is_ahead, IsSoundGuard};
+ghost use Rattle.rbd_guard.specs.Tickets.{Tickets, queue, list, ticket_object, ticket_request, without_all, is_ahead, IsSoundGuard};
 
-/// The first of a queue stands ahead of each other, and of two tickets one alone stands ahead.
+/// The first ticket of a queue stands ahead of all others, and of two tickets at most one stands
+/// ahead of the other.
 pub fn turns()
     ensures first { (tickets : List ℕ) (first other : ℕ)
         → slice_get tickets 0 ≡ Some first → IsTrue (is_in other tickets) → other ≢ first → IsTrue (is_ahead first other tickets) }
@@ -13,7 +14,7 @@ pub fn turns()
         → AreApart tickets → IsTrue (is_ahead one other tickets) → IsFalse (is_ahead other one tickets) }
 {}
 
-/// A ticket that enters comes behind the others: who was first stays first.
+/// A ticket that enters stands behind the others: the first one stays first.
 pub fn entering()
     ensures alone { (ticket : ℕ) → slice_get ([] ++ ticket ∷ []) 0 ≡ Some ticket }
 
@@ -27,7 +28,7 @@ pub fn entering()
         → IsTrue (is_in other tickets) → IsTrue (is_ahead other ticket (tickets ++ ticket ∷ [])) }
 {}
 
-/// A ticket that leaves is out, the others stay in, and they keep their order.
+/// A ticket that leaves is out, the others stay in and keep their order.
 pub fn leaving()
     ensures out { (tickets : List ℕ) (ticket : ℕ) → IsFalse (is_in ticket (without ticket tickets)) }
 
@@ -43,7 +44,7 @@ pub fn leaving()
         → AreApart tickets → IsTrue (is_in ticket tickets) → length (without ticket tickets) + 1 ≡ length tickets }
 {}
 
-/// Where several leave, they are out, the others stay in, and they keep their order.
+/// Where several tickets leave, they are out, the others stay in and keep their order.
 pub fn leaving_all()
     ensures out { (tickets gone : List ℕ) (ticket : ℕ) → IsTrue (is_in ticket gone) → IsFalse (is_in ticket (without_all gone tickets)) }
 
@@ -66,10 +67,10 @@ pub fn tickets_differ()
     ensures once { (g : Tickets) → IsSoundGuard g → (key : ℕ) → AreApart (queue key g) × AreApart (list key g) }
 
     ensures own_request { (g : Tickets) → IsSoundGuard g → (ticket object : ℕ)
-        → IsTrue (is_in ticket (queue object g)) → IsSome (request_of ticket g) }
+        → IsTrue (is_in ticket (queue object g)) → IsSome (ticket_request ticket g) }
 
     ensures own_object { (g : Tickets) → IsSoundGuard g → (ticket request : ℕ)
-        → IsTrue (is_in ticket (list request g)) → IsSome (object_of ticket g) }
+        → IsTrue (is_in ticket (list request g)) → IsSome (ticket_object ticket g) }
 
     ensures earlier { (g : Tickets) → IsSoundGuard g → (ticket object : ℕ)
         → IsTrue (is_in ticket (queue object g)) → ticket < g.drawn }

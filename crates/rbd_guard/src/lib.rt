@@ -20,9 +20,10 @@
 //! # Contracts
 //!
 //! Contracts see each object's `queue` and each request's `list`, as lists of tickets, earliest
-//! first. They see the `object_of` and the `request_of` each queued ticket, how many tickets were
-//! `drawn`, and beside them `reserved`: for how many calls of `enter` there is room. Each call says
-//! what becomes of every queue and every list. No order of all tickets is told.
+//! first. They see of each queued ticket its object (`ticket_object`) and its request
+//! (`ticket_request`), how many tickets were `drawn`, and beside them `reserved`: for how many
+//! calls of `enter` there is room. Each call says what becomes of every queue and every list. No
+//! order of all tickets is told.
 //!
 //! A ticket is seen as its number. Each is the count of those drawn before it, and `drawn` only
 //! rises. So a ticket that has left equals no later one, as long as it is of the same guard.

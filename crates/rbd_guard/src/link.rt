@@ -1,7 +1,7 @@
 /// Where a ticket stands in its object's queue, or in its request's list: the object or the
 /// request, and the places of the tickets before and after it.
 #[derive(Clone, Copy)]
-pub struct Link {
+pub struct TicketLink {
     pub key: u64,
     pub before: Option<usize>,
     pub after: Option<usize>,
@@ -18,10 +18,10 @@ pub struct Ends {
 /// A place of the slab: a ticket's number, and where it stands. Where the place is free, nothing
 /// but `free` counts, which is the next free place.
 #[derive(Clone, Copy)]
-pub struct Place {
+pub struct SlabPlace {
     pub used: bool,
     pub number: u64,
-    pub queue: Link,
-    pub list: Link,
+    pub queue: TicketLink,
+    pub list: TicketLink,
     pub free: Option<usize>,
 }

@@ -3,7 +3,7 @@ ghost use Rattle.std.specs.Prelude.{◌≡◌, ℕ, ◌+◌, ◌<◌, ◌≤◌,
 ghost use Rattle.rbd_guard.specs.Links.{with_after, with_before};
 ghost use Rattle.rbd_guard.specs.Slab.{used_at, free_at, number_at, queue_link, list_link};
 
-use crate::link::Place;
+use crate::link::SlabPlace;
 use crate::places::{
     link_list_after, link_list_before, link_queue_after, link_queue_before, next_free, place_at,
     put, set_free,
@@ -17,7 +17,7 @@ use std::marker::Model;
 /// many more tickets there is room.
 #[derive(Drop)]
 pub struct Slab {
-    places: Vec<Place>,
+    places: Vec<SlabPlace>,
     /// The first free place.
     free: Option<usize>,
     /// How many places are free.
@@ -70,7 +70,7 @@ impl Slab {
 
     /// Takes a place for a ticket: a free one, if there is one, and else one more. It takes no
     /// memory.
-    pub fn enter(&mut self, ticket: Place) -> usize
+    pub fn enter(&mut self, ticket: SlabPlace) -> usize
         requires room { 0 < self.old.room }
         requires used { ticket.used ≡ true }
         ensures free { used_at self.old.places result ≡ None }
@@ -90,7 +90,7 @@ impl Slab {
     }
 
     /// Makes the place of a ticket free, and answers what stood there. It takes no memory.
-    pub fn leave(&mut self, at: usize) -> Place
+    pub fn leave(&mut self, at: usize) -> SlabPlace
         requires { IsSome (used_at self.old.places at) }
         ensures was { used_at self.old.places at ≡ Some result }
         ensures places { (p : ℕ) → used_at self.new.places p ≡ cond (at == p) None (used_at self.old.places p) }

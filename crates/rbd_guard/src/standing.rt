@@ -7,7 +7,7 @@ ghost use Rattle.rbd_guard.specs.Links.{with_after, with_before, longer, shorter
 ghost use Rattle.rbd_guard.specs.Slab.{queue_link, list_link, number_at};
 
 use crate::ends::{lengthen, shorten};
-use crate::link::{Ends, Link};
+use crate::link::{Ends, TicketLink};
 use crate::slab::Slab;
 use std::collections::HashMap;
 
@@ -50,7 +50,7 @@ pub fn enter_list(slab: &mut Slab, lists: &mut HashMap<u64, Ends>, request: u64,
 }
 
 /// Takes a place that had this link out of its object's queue.
-pub fn leave_queue(slab: &mut Slab, queues: &mut HashMap<u64, Ends>, link: Link)
+pub fn leave_queue(slab: &mut Slab, queues: &mut HashMap<u64, Ends>, link: TicketLink)
     requires { 0 < (ends_or (get nat_eq queues.old link.key)).count }
     ensures queue { (p : ℕ) → queue_link slab.new.places p
         ≡ with_before (with_after (queue_link slab.old.places) link.before link.after) link.after link.before p }
@@ -67,7 +67,7 @@ pub fn leave_queue(slab: &mut Slab, queues: &mut HashMap<u64, Ends>, link: Link)
 }
 
 /// Takes a place that had this link out of its request's list.
-pub fn leave_list(slab: &mut Slab, lists: &mut HashMap<u64, Ends>, link: Link)
+pub fn leave_list(slab: &mut Slab, lists: &mut HashMap<u64, Ends>, link: TicketLink)
     requires { 0 < (ends_or (get nat_eq lists.old link.key)).count }
     ensures list { (p : ℕ) → list_link slab.new.places p
         ≡ with_before (with_after (list_link slab.old.places) link.before link.after) link.after link.before p }

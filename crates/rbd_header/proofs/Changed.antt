@@ -5,7 +5,7 @@ use Rattle.rbd_kinds.specs.declared.header.ParentLink.{ParentLink}
 use Rattle.rbd_kinds.specs.declared.header.SnapStatus.{SnapStatus}
 use Rattle.rbd_kinds.specs.declared.header.SnapView.{SnapView}
 use Rattle.rbd_kinds.specs.Form.{IsOverlapWithin}
-use Rattle.rbd_header.specs.Header.{cut, marked, snap_in}
+use Rattle.rbd_header.specs.Header.{cut, status_marked, snap_in}
 
 -- a cut parent's overlap lies within the size
 pub cut_within : (size : ℕ) (parent : Option ParentLink) → IsOverlapWithin size (cut size parent)
@@ -13,7 +13,7 @@ cut_within size None = tt
 cut_within size (Some link) = omega arith
 
 -- a status leaves the id
-pub marked_id : (t : ℕ) (status : SnapStatus) (s : SnapView) → (marked t status s).id ≡ s.id
+pub marked_id : (t : ℕ) (status : SnapStatus) (s : SnapView) → (status_marked t status s).id ≡ s.id
 marked_id t status s = go (eqb s.id t)
   where
     go : (b : Bool) → (cond b (record s { status = status }) s).id ≡ s.id

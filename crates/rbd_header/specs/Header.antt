@@ -68,12 +68,12 @@ snap_taken name h = record { id = h.snap_seq + 1; name = name; size = h.size; st
 abbrev pub with_snap : List ℕ → HeaderView → HeaderView
 with_snap name h = record h { snaps = h.snaps ++ snap_taken name h ∷ []; snap_seq = h.snap_seq + 1; generation = h.generation + 1 }
 
--- the status, where the snapshot has the id
-abbrev pub marked : ℕ → SnapStatus → SnapView → SnapView
-marked t status s = if s.id == t then record s { status = status } else s
+-- a snapshot with this status, if it has the id
+abbrev pub status_marked : ℕ → SnapStatus → SnapView → SnapView
+status_marked t status s = if s.id == t then record s { status = status } else s
 
 abbrev pub with_status : ℕ → SnapStatus → HeaderView → HeaderView
-with_status t status h = record h { snaps = map (marked t status) h.snaps; generation = h.generation + 1 }
+with_status t status h = record h { snaps = map (status_marked t status) h.snaps; generation = h.generation + 1 }
 
 abbrev pub without_snap : ℕ → HeaderView → HeaderView
 without_snap t h = record h { snaps = filter (λ s. not (s.id == t)) h.snaps; generation = h.generation + 1 }

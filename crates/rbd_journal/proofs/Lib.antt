@@ -1,3 +1,8 @@
+pub mod Fields
+pub mod Hex
+pub mod Names
+pub mod FramesSound
+pub mod Told
 pub mod Drawn
 pub mod Newest
 pub mod Readings

@@ -4,7 +4,7 @@ use Rattle.std.specs.Prelude.{slice_get, nat_le, option_map, IsSome}
 use Rattle.std.proofs.lemmas.Bool.{cases_lt, cond-true, cond-false, le-leb, lt-leb}
 use Rattle.std.proofs.lemmas.List.{length-append, length-drop}
 use Rattle.rbd_kinds.specs.declared.journal.Position.{Position}
-use Rattle.rbd_journal.specs.Records.{Held, IsSoundJournal, Records, appended, first_held, frame_at, least_commit, positioned, trimmed}
+use Rattle.rbd_journal.specs.Records.{Held, IsSoundJournal, JournalRecords, appended, first_held, frame_at, least_commit, positioned, frames_trimmed}
 
 get_new : (xs : List Held) (y : Held) → slice_get (xs ++ y ∷ []) (length xs) ≡ Some y
 get_new [] y = refl
@@ -40,13 +40,13 @@ at_held first seq held le = cond-true (nat_le first seq) _ _ (le-leb first seq l
 before_held : (first seq : ℕ) (held : List Held) → seq < first → at_number first seq held ≡ None
 before_held first seq held lt = cond-false (nat_le first seq) _ _ (lt-leb first seq lt)
 
-first_after : (j : Records) (p : Position) (frame : List ℕ) → IsSoundJournal j → p.seq ≡ j.end + 1 → first_held (appended p frame j) ≡ first_held j
+first_after : (j : JournalRecords) (p : Position) (frame : List ℕ) → IsSoundJournal j → p.seq ≡ j.end + 1 → first_held (appended p frame j) ≡ first_held j
 first_after j p frame is next =
     let h : Held = record { tag = p.tag; frame = frame } in
     let len : length (j.held ++ h ∷ []) ≡ length j.held + 1 = length-append j.held (h ∷ []) in
     omega (arith, is.held, next, len)
 
-pub reads_here : (j : Records) (p : Position) (frame : List ℕ) → IsSoundJournal j → p.seq ≡ j.end + 1 → frame_at (appended p frame j) p.seq ≡ Some (p, frame)
+pub reads_here : (j : JournalRecords) (p : Position) (frame : List ℕ) → IsSoundJournal j → p.seq ≡ j.end + 1 → frame_at (appended p frame j) p.seq ≡ Some (p, frame)
 reads_here j p frame is next =
     let h : Held = record { tag = p.tag; frame = frame } in
     let first = first_held j in
@@ -56,7 +56,7 @@ reads_here j p frame is next =
     ∙ ap (λ (i : ℕ). option_map (positioned p.seq) (slice_get (j.held ++ h ∷ []) i)) index
     ∙ ap (option_map (positioned p.seq)) (get_new j.held h)
 
-pub reads_elsewhere : (j : Records) (p : Position) (frame : List ℕ) (seq : ℕ) → IsSoundJournal j → p.seq ≡ j.end + 1 → seq ≢ p.seq → frame_at (appended p frame j) seq ≡ frame_at j seq
+pub reads_elsewhere : (j : JournalRecords) (p : Position) (frame : List ℕ) (seq : ℕ) → IsSoundJournal j → p.seq ≡ j.end + 1 → seq ≢ p.seq → frame_at (appended p frame j) seq ≡ frame_at j seq
 reads_elsewhere j p frame seq is next other =
     let h : Held = record { tag = p.tag; frame = frame } in
     let first = first_held j in
@@ -70,25 +70,25 @@ reads_elsewhere j p frame seq is next other =
     ]
 
 -- how many frames a trim takes
-abbrev taken : Records → ℕ
+abbrev taken : JournalRecords → ℕ
 taken j = least_commit j + 1 - first_held j
 
-least_within : (j : Records) → IsSoundJournal j → least_commit j ≤ j.end
+least_within : (j : JournalRecords) → IsSoundJournal j → least_commit j ≤ j.end
 least_within j is = omega (arith, is.local)
 
-first_trimmed : (j : Records) → IsSoundJournal j → first_held (trimmed j) ≡ first_held j + taken j
+first_trimmed : (j : JournalRecords) → IsSoundJournal j → first_held (frames_trimmed j) ≡ first_held j + taken j
 first_trimmed j is =
     let len : length (drop (taken j) j.held) ≡ length j.held - taken j = length-drop (taken j) j.held in
     omega (arith, is.held, least_within j is, len)
 
-pub reads_committed : (j : Records) (seq : ℕ) → IsSoundJournal j → seq ≤ least_commit j → frame_at (trimmed j) seq ≡ None
+pub reads_committed : (j : JournalRecords) (seq : ℕ) → IsSoundJournal j → seq ≤ least_commit j → frame_at (frames_trimmed j) seq ≡ None
 reads_committed j seq is le =
-    before_held (first_held (trimmed j)) seq (drop (taken j) j.held) (omega (arith, first_trimmed j is, le))
+    before_held (first_held (frames_trimmed j)) seq (drop (taken j) j.held) (omega (arith, first_trimmed j is, le))
 
-pub reads_needed : (j : Records) (seq : ℕ) → IsSoundJournal j → least_commit j < seq → frame_at (trimmed j) seq ≡ frame_at j seq
+pub reads_needed : (j : JournalRecords) (seq : ℕ) → IsSoundJournal j → least_commit j < seq → frame_at (frames_trimmed j) seq ≡ frame_at j seq
 reads_needed j seq is lt =
     let first = first_held j in
-    let later = first_held (trimmed j) in
+    let later = first_held (frames_trimmed j) in
     let e = first_trimmed j is in
     elim (cases_lt seq first) [
       | inl before ↦ before_held later seq (drop (taken j) j.held) (omega (arith, e, before)) ∙ sym (before_held first seq j.held before)
@@ -99,7 +99,7 @@ reads_needed j seq is lt =
           ∙ sym (at_held first seq j.held le)
     ]
 
-pub uncommitted_held : (j : Records) (seq : ℕ) → IsSoundJournal j → j.local < seq → seq ≤ j.end → IsSome (frame_at j seq)
+pub uncommitted_held : (j : JournalRecords) (seq : ℕ) → IsSoundJournal j → j.local < seq → seq ≤ j.end → IsSome (frame_at j seq)
 uncommitted_held j seq is after_local within_end =
     let first = first_held j in
     let le : first ≤ seq = omega (arith, is.uncommitted, after_local) in
@@ -110,7 +110,7 @@ position_is : (o : Option Held) (seq : ℕ) (p : Position) (frame : List ℕ) �
 position_is None seq p frame e = absurd cc
 position_is (Some h) seq p frame e = let same : (record { tag = h.tag; seq = seq }, h.frame) ≡ (p, frame) = cc in sym (ap (λ (x : Position × List ℕ). x.0.seq) same)
 
-pub reads_number : (j : Records) (seq : ℕ) (p : Position) (frame : List ℕ) → frame_at j seq ≡ Some (p, frame) → p.seq ≡ seq
+pub reads_number : (j : JournalRecords) (seq : ℕ) (p : Position) (frame : List ℕ) → frame_at j seq ≡ Some (p, frame) → p.seq ≡ seq
 reads_number j seq p frame e =
     let first = first_held j in
     elim (cases_lt seq first) [

@@ -1,2 +1,5 @@
+pub mod Faults
+pub mod Parts
+pub mod Texts
 pub mod Calls
 pub mod Records

@@ -15,7 +15,7 @@ pub record Held : Type 0 where
   pub frame : List ℕ
 
 -- The frames that are held are the last ones: the last of them stands at the end.
-pub record Records : Type 0 where
+pub record JournalRecords : Type 0 where
   pub spans : List Span
   pub end : ℕ
   pub held : List Held
@@ -24,7 +24,7 @@ pub record Records : Type 0 where
   pub drawn : ℕ
 
 -- a journal that begins on these spans: they are recorded and committed, and no frame is held
-abbrev pub based_on : List Span → Records
+abbrev pub based_on : List Span → JournalRecords
 based_on spans = record { spans = spans; end = end_after 0 spans; held = []; local = end_after 0 spans; mirror = None; drawn = 0 }
 
 abbrev pub same_tag : Tag → Tag → Bool
@@ -51,7 +51,7 @@ abbrev pub extended : Position → List Span → List Span
 extended p [] = span_at p ∷ []
 extended p (s ∷ spans) = extended_from p s spans
 
-abbrev pub appended : Position → (frame : List ℕ) → Records → Records
+abbrev pub appended : Position → (frame : List ℕ) → JournalRecords → JournalRecords
 appended p frame j = record j {
   spans = extended p j.spans;
   end = p.seq;
@@ -59,37 +59,37 @@ appended p frame j = record j {
 }
 
 -- the least number that is held, or one more than the end
-abbrev pub first_held : Records → ℕ
+abbrev pub first_held : JournalRecords → ℕ
 first_held j = j.end + 1 - length j.held
 
 abbrev pub positioned : (seq : ℕ) → Held → Position × List ℕ
 positioned seq h = (record { tag = h.tag; seq = seq }, h.frame)
 
 -- the frame that is held with a number, and its position
-abbrev pub frame_at : Records → (seq : ℕ) → Option (Position × List ℕ)
+abbrev pub frame_at : JournalRecords → (seq : ℕ) → Option (Position × List ℕ)
 frame_at j seq =
     if nat_le (first_held j) seq then option_map (positioned seq) (slice_get j.held (seq - first_held j)) else None
 
 -- what a journal tells of itself. No number is above u64::MAX
-abbrev pub journal_view : Records → JournalView
+abbrev pub journal_view : JournalRecords → JournalView
 journal_view j = record { spans = j.spans; first = min (first_held j) (2 ^ 64 - 1); local = j.local; mirror = j.mirror; drawn = j.drawn }
 
-abbrev pub registered : Records → Records
-registered j = record j { mirror = Some (unwrap_or j.mirror 0) }
+abbrev pub mirror_registered : JournalRecords → JournalRecords
+mirror_registered j = record j { mirror = Some (unwrap_or j.mirror 0) }
 
 -- A commit never goes back.
-abbrev pub committed : JournalClient → (seq : ℕ) → Records → Records
+abbrev pub committed : JournalClient → (seq : ℕ) → JournalRecords → JournalRecords
 committed Local seq j = record j { local = max j.local seq }
 committed Mirror seq j = record j { mirror = Some (max (unwrap_or j.mirror 0) seq) }
 
 -- what every client has committed
-abbrev pub least_commit : Records → ℕ
+abbrev pub least_commit : JournalRecords → ℕ
 least_commit j = min j.local (unwrap_or j.mirror j.local)
 
-abbrev pub trimmed : Records → Records
-trimmed j = record j { held = drop (least_commit j + 1 - first_held j) j.held }
+abbrev pub frames_trimmed : JournalRecords → JournalRecords
+frames_trimmed j = record j { held = drop (least_commit j + 1 - first_held j) j.held }
 
-abbrev pub tag_drawn : Records → Records
+abbrev pub tag_drawn : JournalRecords → JournalRecords
 tag_drawn j = record j { drawn = j.drawn + 1 }
 
 -- whether a number is one of a span's
@@ -103,7 +103,7 @@ tag_of (s ∷ spans) seq = if has s seq then Some s.tag else tag_of spans seq
 
 -- What holds of a journal at every moment. What Local hasn't committed is held, and each held frame
 -- has the tag of the span that has its number.
-pub record IsSoundJournal (j : Records) : Type 0 where
+pub record IsSoundJournal (j : JournalRecords) : Type 0 where
   pub run : RunFrom 1 j.spans
   pub end : j.end ≡ end_after 0 j.spans
   pub held : length j.held ≤ j.end

@@ -7,12 +7,12 @@ use std::marker::Model;
 
 /// A frame, and the tag of its position.
 #[derive(Drop)]
-pub struct Entry {
+pub struct HeldFrame {
     pub tag: Tag,
     pub frame: Bytes,
 }
 
-impl Model for Entry {
+impl Model for HeldFrame {
     ghost use Rattle.rbd_journal.specs.Records.{Held};
 
     ghost Value = { Held };
@@ -21,7 +21,7 @@ impl Model for Entry {
 }
 
 /// Drops entries from the front.
-pub fn drop_front(entries: &mut VecDeque<Entry>, count: usize)
+pub fn drop_front(entries: &mut VecDeque<HeldFrame>, count: usize)
     requires { count ≤ length entries.old.items }
     ensures { entries.new.items ≡ drop count entries.old.items }
 {

@@ -1,9 +1,9 @@
 //! The journal of one image.
 ghost use Rattle.std.specs.Prelude.{◌≡◌, ◌+◌, ◌-◌, ◌<◌, ◌≤◌, ◌^◌, IfOk, OnOk, OnErr, option_map};
 ghost use Rattle.rbd_kinds.specs.Spans.{RunFrom};
-ghost use Rattle.rbd_journal.specs.Records.{IsSoundJournal, appended, based_on, committed, first_held, frame_at, registered, tag_drawn, trimmed, journal_view};
+ghost use Rattle.rbd_journal.specs.Records.{IsSoundJournal, appended, based_on, committed, first_held, frame_at, mirror_registered, tag_drawn, frames_trimmed, journal_view};
 
-use crate::entry::{Entry, drop_front};
+use crate::entry::{HeldFrame, drop_front};
 use crate::span::{end_of, extend};
 use rbd_kinds::{
     Bytes, ImageId, JournalClient, JournalView, NoMemory, Position, SiteId, Span, Spans, Tag,
@@ -14,7 +14,7 @@ use std::collections::VecDeque;
 use std::marker::Model;
 
 /// A journal: spans of positions, the frames that are held, and commit positions (Ceph: RBD
-/// journaling). Contracts see it as `Records`.
+/// journaling). Contracts see it as `JournalRecords`.
 #[derive(Drop)]
 pub struct Journal {
     alloc: Global,
@@ -25,7 +25,7 @@ pub struct Journal {
     /// The last number of the spans, or 0.
     end: u64,
     /// The last one stands at the end.
-    held: VecDeque<Entry>,
+    held: VecDeque<HeldFrame>,
     local: u64,
     mirror: Option<u64>,
     drawn: u64,
@@ -33,9 +33,9 @@ pub struct Journal {
 
 impl Model for Journal {
     ghost use Rattle.std.specs.Prelude.{◌≡◌, IfSome};
-    ghost use Rattle.rbd_journal.specs.Records.{IsSoundJournal, Records};
+    ghost use Rattle.rbd_journal.specs.Records.{IsSoundJournal, JournalRecords};
 
-    ghost Value = { Records };
+    ghost Value = { JournalRecords };
 
     ghost view = { λ j. record { spans = j.spans.items; end = j.end; held = j.held.items; local = j.local; mirror = j.mirror; drawn = j.drawn } };
 
@@ -84,7 +84,7 @@ impl Journal {
         ensures ok { OnOk result (self.new ≡ appended position frame.now self.old) }
         ensures err { OnErr result (self.new ≡ self.old) }
     {
-        let entry = Entry {
+        let entry = HeldFrame {
             tag: position.tag,
             frame: Bytes::from_slice(self.alloc, frame)?,
         };
@@ -151,7 +151,7 @@ impl Journal {
 
     /// Gives the mirror daemon the commit position 0, where it has none. It takes no memory.
     pub fn register(&mut self)
-        ensures { self.new ≡ registered self.old }
+        ensures { self.new ≡ mirror_registered self.old }
     {
         self.mirror = Some(self.mirror.unwrap_or(0));
     }
@@ -170,7 +170,7 @@ impl Journal {
 
     /// Drops the frames up to the least commit position. It takes no memory.
     pub fn trim(&mut self)
-        ensures { self.new ≡ trimmed self.old }
+        ensures { self.new ≡ frames_trimmed self.old }
     {
         let least = self.local.min(self.mirror.unwrap_or(self.local));
         let before = self.before_held();

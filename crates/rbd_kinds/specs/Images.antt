@@ -18,10 +18,10 @@ abbrev pub key_of : SiteId → (image : ℕ) → ℕ
 key_of site.A image = image * 2
 key_of site.B image = image * 2 + 1
 
--- by site, then by id
-abbrev pub number_of : SiteId → ℕ
-number_of site.A = 0
-number_of site.B = 1
+-- the order of images: by site, then by id
+abbrev pub site_number : SiteId → ℕ
+site_number site.A = 0
+site_number site.B = 1
 
 abbrev pub image_cmp : ImageAt → ImageAt → Ordering
-image_cmp p q = ordering_then (nat_cmp (number_of p.site) (number_of q.site)) (nat_cmp p.image q.image)
+image_cmp p q = ordering_then (nat_cmp (site_number p.site) (site_number q.site)) (nat_cmp p.image q.image)

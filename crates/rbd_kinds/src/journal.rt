@@ -55,7 +55,7 @@ pub struct JournalView {
 
 /// A change of an image as its journal records it. Places and lengths are bytes of the image.
 #[derive(Drop)]
-pub enum Event {
+pub enum JournalEvent {
     Write { at: u64, bytes: Bytes },
     Discard { at: u64, len: u64 },
     Resize { size: u64 },

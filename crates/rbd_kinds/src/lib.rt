@@ -46,10 +46,10 @@ pub use header::{
 pub use header_op::HeaderOp;
 pub use id::{Ids, ImageId, Instance, Instances, SessionNo, SiteId, Slot, SnapId};
 pub use image_at::ImageAt;
-pub use journal::{Event, JournalClient, JournalView, Position, Span, Spans, Tag};
+pub use journal::{JournalClient, JournalEvent, JournalView, Position, Span, Spans, Tag};
 pub use journal_op::JournalOp;
 pub use layout::{Extent, Layout, Part, Parts};
-pub use machine::{Fed, Turn, Want};
+pub use machine::{Fed, Flow, Want};
 pub use map_op::MapOp;
 pub use notice::{Notice, NoticeKind};
 pub use operation::Op;

@@ -56,7 +56,7 @@ pub enum Fed {
 
 /// What comes of a feeding.
 #[derive(Drop)]
-pub enum Turn {
+pub enum Flow {
     /// It wants more.
     More,
     /// It has ended with a reply.

@@ -9,7 +9,7 @@ use Rattle.rbd_words.specs.declared.asked.Asked.{Asked}
 use Rattle.rbd_words.specs.declared.asked.Asked.TheVariants.{Run, Generate}
 use Rattle.rbd_words.specs.declared.asked.Mode.{Mode}
 use Rattle.rbd_words.specs.declared.load.Load.{Load}
-use Rattle.rbd_lab.specs.Run.{Devices, EndsBy, HasScript, IsComplaint, IsDoneOrRefused, IsLoadRun, IsScriptRun, IsUnhinderedBy, Prints}
+use Rattle.rbd_lab.specs.Run.{Devices, RunEndsBy, HasScript, IsComplaint, IsDoneOrRefused, IsLoadRun, IsScriptRun, IsUnhinderedBy, Prints}
 use Rattle.rbd_lab.specs.Script.{AreBuilt, IsBuiltScript, if_built, is_said, judged, unbuilt_line, where_built}
 use Rattle.rbd_lab.specs.declared.run.Status.{Status}
 use Rattle.rbd_lab.specs.declared.run.Status.TheVariants.{Done, Usage, BadLine, ReadFault, WriteFault, NoMemory}
@@ -51,7 +51,7 @@ module _ (old new : Devices) where
       by (inr (inl failed)) = absurd (rises old.write_faults new.write_faults (is.write_fault.0.0 failed) same)
       by (inr (inr refused)) = inr refused
 
-pub ends_done : {S : Type 0} (asked : Option Asked) (status : Status) (source source' : S) (old new : Devices) → EndsBy asked status source source' old new → IsUnhinderedBy asked old new
+pub ends_done : {S : Type 0} (asked : Option Asked) (status : Status) (source source' : S) (old new : Devices) → RunEndsBy asked status source source' old new → IsUnhinderedBy asked old new
     → IsDoneOrRefused status
 ends_done (Some (Run mode)) status source source' old new is free = script_done old new mode status is free
 ends_done (Some (Generate load)) status source source' old new is free = load_done old new load status is.0 free

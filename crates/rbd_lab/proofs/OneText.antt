@@ -9,9 +9,9 @@ use Rattle.rbd_words.specs.declared.load.Load.{Load}
 use Rattle.rbd_world.specs.World.{WorldView, site_in}
 use Rattle.rbd_generate.specs.Generated.{script_of}
 use Rattle.rbd_generate.specs.Summary.{summary_text}
-use Rattle.rbd_one_run.specs.OneRun.{IsSameRun}
-use Rattle.rbd_one_run.proofs.ScheduleRun.{one_run}
-use Rattle.rbd_lab.specs.Output.{IsPlayed, IsSummed, IsTold, text_of, told_text}
+use Rattle.rbd_plays.specs.OneRun.{IsSameRun}
+use Rattle.rbd_plays.proofs.ScheduleRun.{one_run}
+use Rattle.rbd_lab.specs.Output.{IsPlayed, IsSummed, TellsAWorld, text_of, told_text}
 
 same_run : (script : Script) (v w : WorldView Standing) → IsPlayed script v → IsPlayed script w → IsSameRun v w
 same_run script v w one other = one_run as_is script v w one.play other.play
@@ -22,7 +22,7 @@ same_text mode script v w same =
     ∙ ap (λ log. told_text mode script w.history log (site_in B v.sites).log) (same.logs A)
     ∙ ap (λ log. told_text mode script w.history (site_in A w.sites).log log) (same.logs B)
 
-pub told_once : (mode : Mode) (script : Script) (one other : List ℕ) → IsTold mode script one → IsTold mode script other → one ≡ other
+pub told_once : (mode : Mode) (script : Script) (one other : List ℕ) → TellsAWorld mode script one → TellsAWorld mode script other → one ≡ other
 told_once mode script one other told again =
     told.tells ∙ same_text mode script told.world again.world (same_run script told.world again.world told.played again.played) ∙ sym again.tells
 

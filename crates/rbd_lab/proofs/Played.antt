@@ -2,19 +2,19 @@
 use Rattle.std.proofs.Common.{◌<◌, ◌^◌, length}
 use Rattle.rbd_client.specs.Seen.{as_is}
 use Rattle.rbd_machine.specs.Plan.{Standing}
-use Rattle.rbd_ends.proofs.Over.{changes_are_over}
+use Rattle.rbd_plays.proofs.Over.{changes_are_over}
 use Rattle.rbd_replies.proofs.AtPlaces.{fences_hold, late_once, locks_hold}
 use Rattle.rbd_replies.proofs.OwnedLogs.{world_logs}
 use Rattle.rbd_replies.proofs.Worlds.{told_in_world}
 use Rattle.rbd_schedule.specs.Ends.{HasCalmed}
-use Rattle.rbd_schedule.specs.InOrder.{AreInOrder}
+use Rattle.rbd_schedule.specs.InOrder.{AreLinesInOrder}
 use Rattle.rbd_schedule.specs.Playing.{IsPlay, IsPlayable}
 use Rattle.rbd_schedule.proofs.Turns.{play_takes_turns}
 use Rattle.rbd_script.specs.declared.script.Script.{Script}
 use Rattle.rbd_world.specs.World.{WorldView}
 use Rattle.rbd_lab.specs.Output.{IsPlayed}
 
-pub played : (script : Script) (w : WorldView Standing) → IsPlayable script → AreInOrder script.lines → IsPlay as_is script w → HasCalmed as_is script w
+pub played : (script : Script) (w : WorldView Standing) → IsPlayable script → AreLinesInOrder script.lines → IsPlay as_is script w → HasCalmed as_is script w
     → length w.calls < 2 ^ 59 → IsPlayed script w
 played script w playable in_order play calmed few = record {
   play = play;

@@ -1,7 +1,7 @@
 -- Where memory is refused while the words are read, whatever they ask for, no device is touched.
 use Rattle.std.proofs.Common.{◌≡◌, ℕ, List, Option, Some, None, inr, refl, arith}
 use Rattle.rbd_edge.specs.Source.{left_after}
-use Rattle.rbd_lab.specs.Run.{Devices, EndsBy, IsLoadRun, IsScriptRun, IsUntouched, IsUsageRun, Tells}
+use Rattle.rbd_lab.specs.Run.{Devices, RunEndsBy, IsLoadRun, IsScriptRun, IsUnread, IsUsageRun, TellsFaults}
 use Rattle.rbd_lab.specs.declared.run.Status.TheVariants.{Done, Usage, BadLine, ReadFault, WriteFault, NoMemory}
 use Rattle.rbd_words.specs.declared.asked.Asked.{Asked}
 use Rattle.rbd_words.specs.declared.asked.Asked.TheVariants.{Run, Generate}
@@ -23,17 +23,17 @@ not_read_fault same = cc
 not_write_fault : NoMemory ≡ WriteFault → ⊥
 not_write_fault same = cc
 
-no_read_fault : (faults : ℕ) → Tells ReadFault NoMemory faults faults
+no_read_fault : (faults : ℕ) → TellsFaults ReadFault NoMemory faults faults
 no_read_fault faults = ((λ same. absurd (not_read_fault same), λ more. absurd (omega (arith, more))), λ other. refl)
 
-no_write_fault : (faults : ℕ) → Tells WriteFault NoMemory faults faults
+no_write_fault : (faults : ℕ) → TellsFaults WriteFault NoMemory faults faults
 no_write_fault faults = ((λ same. absurd (not_write_fault same), λ more. absurd (omega (arith, more))), λ other. refl)
 
 none_taken : (left : Option (List ℕ)) → left ≡ left_after 0 left
 none_taken None = refl
 none_taken (Some bytes) = refl
 
-untouched : {S : Type 0} (source : S) (d : Devices) → IsUntouched source source d d
+untouched : {S : Type 0} (source : S) (d : Devices) → IsUnread source source d d
 untouched source d = record { same = refl; left = refl; read_faults = refl }
 
 script_refused : (mode : Mode) (d : Devices) → IsScriptRun mode NoMemory d d
@@ -67,7 +67,7 @@ usage_refused held faults = record {
   no_memory = λ is. refl;
 }
 
-pub memory_refused : {S : Type 0} (asked : Option Asked) (source : S) (d : Devices) → EndsBy asked NoMemory source source d d
+pub memory_refused : {S : Type 0} (asked : Option Asked) (source : S) (d : Devices) → RunEndsBy asked NoMemory source source d d
 memory_refused (Some (Run mode)) source d = script_refused mode d
 memory_refused (Some (Generate load)) source d = (load_refused load d.held d.write_faults, untouched source d)
 memory_refused None source d = (usage_refused d.held d.write_faults, untouched source d)

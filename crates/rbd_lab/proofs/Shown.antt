@@ -7,15 +7,15 @@ use Rattle.rbd_kinds.specs.declared.reply.Reply.{Reply}
 use Rattle.rbd_kinds.specs.declared.reply.Reply.TheVariants as reply
 use Rattle.rbd_replies.specs.Shown.{AreHeadersInForm, IsEntryInForm, ShowsInForm}
 use Rattle.rbd_text.specs.Replies.{IsShowable}
-use Rattle.rbd_text.specs.Text.{AreShown, IsShown}
+use Rattle.rbd_text.specs.Text.{AreShown, IsShownEntry}
 
 reply_shown : (r : Reply) → ShowsInForm r → IsShowable r
 reply_shown (reply.Info h) shows = (shows.form.layout, shows.size)
 reply_shown _ shows = tt
 
-entry_shown : (e : Entry) → IsEntryInForm e → IsShown e
+entry_shown : (e : Entry) → IsEntryInForm e → IsShownEntry e
 entry_shown (entry.Reply line r) shows = reply_shown r shows
 entry_shown _ shows = tt
 
 pub history_shown : (history : List Entry) → AreHeadersInForm history → AreShown history
-history_shown = All-weaker IsEntryInForm IsShown entry_shown
+history_shown = All-weaker IsEntryInForm IsShownEntry entry_shown

@@ -4,15 +4,15 @@ use Rattle.std.specs.List.{list_any}
 use Rattle.std.proofs.lemmas.List.Sums.{sum_by-cons}
 use Rattle.rbd_client.specs.Seen.{as_is}
 use Rattle.rbd_machine.specs.Plan.{Standing}
-use Rattle.rbd_ends.specs.AddUp.{AddUp, is_reply}
-use Rattle.rbd_ends.specs.OneChanger.{is_replied, is_reply_of}
-use Rattle.rbd_ends.proofs.AddUp.{play_adds_up}
+use Rattle.rbd_plays.specs.AddUp.{AddUp, is_reply}
+use Rattle.rbd_plays.specs.OneChanger.{is_replied, is_reply_of}
+use Rattle.rbd_plays.proofs.AddUp.{play_adds_up}
 use Rattle.rbd_flat.specs.declared.entry.Entry.{Entry}
 use Rattle.rbd_flat.specs.declared.entry.Entry.TheVariants as entry
-use Rattle.rbd_generate.specs.Summary.{commands_in, grants, is_command, is_refusal, is_unfinished, refuses}
+use Rattle.rbd_generate.specs.Summary.{command_count, is_granted, is_command, is_refusal, is_unfinished, refuses}
 use Rattle.rbd_kinds.proofs.Plain.{eqb_flip}
 use Rattle.rbd_schedule.specs.Given.{commands_of, given_by}
-use Rattle.rbd_schedule.specs.InOrder.{AreInOrder}
+use Rattle.rbd_schedule.specs.InOrder.{AreLinesInOrder}
 use Rattle.rbd_schedule.specs.Playing.{IsPlay}
 use Rattle.rbd_schedule.specs.declared.given.Given.{Given}
 use Rattle.rbd_script.specs.declared.script.Line.{Line}
@@ -30,17 +30,17 @@ one_command : (number : ℕ) (s : Said) (rest : List Given) (n : ℕ) → n ≡ 
 one_command number (said.Command session beside command) rest n same = omega (arith, same)
 one_command number _ rest n same = omega (arith, same)
 
-commands_counted : (lines : List Line) → commands_in lines ≡ length (commands_of lines)
+commands_counted : (lines : List Line) → command_count lines ≡ length (commands_of lines)
 commands_counted [] = refl
 commands_counted (line ∷ lines) =
-    sum_by-cons (λ (l : Line). cond (is_command l.said) 1 0) line lines ∙ one_command line.number line.said (commands_of lines) (commands_in lines) (commands_counted lines)
+    sum_by-cons (λ (l : Line). cond (is_command l.said) 1 0) line lines ∙ one_command line.number line.said (commands_of lines) (command_count lines) (commands_counted lines)
 
 -- ---- the replies of a history
 
 sums_parted : (a b c x y z r s t : ℕ) → a ≡ x + r → b ≡ y + s → c ≡ z + t → x ≡ y + z → r ≡ s + t → a ≡ b + c
 sums_parted a b c x y z r s t one other last here rest = omega arith
 
-one_reply : (e : Entry) → cond (is_reply e) 1 0 ≡ cond (grants e) 1 0 + cond (refuses e) 1 0
+one_reply : (e : Entry) → cond (is_reply e) 1 0 ≡ cond (is_granted e) 1 0 + cond (refuses e) 1 0
 one_reply (entry.Reply line reply) = by (is_refusal reply)
   where
     by : (b : Bool) → 1 ≡ cond (not b) 1 0 + cond b 1 0
@@ -48,12 +48,12 @@ one_reply (entry.Reply line reply) = by (is_refusal reply)
     by false = refl
 one_reply _ = refl
 
-replies_parted : (history : List Entry) → count_by is_reply history ≡ count_by grants history + count_by refuses history
+replies_parted : (history : List Entry) → count_by is_reply history ≡ count_by is_granted history + count_by refuses history
 replies_parted [] = refl
 replies_parted (e ∷ history) =
-    sums_parted (count_by is_reply (e ∷ history)) (count_by grants (e ∷ history)) (count_by refuses (e ∷ history)) (cond (is_reply e) 1 0) (cond (grants e) 1 0) (cond (refuses e) 1 0)
-    (count_by is_reply history) (count_by grants history) (count_by refuses history)
-    (sum_by-cons (λ (x : Entry). cond (is_reply x) 1 0) e history) (sum_by-cons (λ (x : Entry). cond (grants x) 1 0) e history) (sum_by-cons (λ (x : Entry). cond (refuses x) 1 0) e history)
+    sums_parted (count_by is_reply (e ∷ history)) (count_by is_granted (e ∷ history)) (count_by refuses (e ∷ history)) (cond (is_reply e) 1 0) (cond (is_granted e) 1 0) (cond (refuses e) 1 0)
+    (count_by is_reply history) (count_by is_granted history) (count_by refuses history)
+    (sum_by-cons (λ (x : Entry). cond (is_reply x) 1 0) e history) (sum_by-cons (λ (x : Entry). cond (is_granted x) 1 0) e history) (sum_by-cons (λ (x : Entry). cond (refuses x) 1 0) e history)
     (one_reply e) (replies_parted history)
 
 -- ---- the commands without a reply
@@ -90,9 +90,9 @@ in_all n m replies ok refused none unfinished same all parts rest = omega arith
 
 counts : (script : Script) (history : List Entry) → AddUp script.lines history → AddsUp script history
 counts script history add =
-    in_all (commands_in script.lines) (length (commands_of script.lines)) (count_by is_reply history) (count_by grants history) (count_by refuses history)
+    in_all (command_count script.lines) (length (commands_of script.lines)) (count_by is_reply history) (count_by is_granted history) (count_by refuses history)
     (count_by (has_none history) (commands_of script.lines)) (count_by (is_unfinished history) script.lines)
     (commands_counted script.lines) add (replies_parted history) (unfinished_counted history script.lines)
 
-pub counts_add_up : (script : Script) (w : WorldView Standing) → AreInOrder script.lines → IsPlay as_is script w → AddsUp script w.history
+pub counts_add_up : (script : Script) (w : WorldView Standing) → AreLinesInOrder script.lines → IsPlay as_is script w → AddsUp script w.history
 counts_add_up script w in_order play = counts script w.history (play_adds_up as_is script w in_order play)

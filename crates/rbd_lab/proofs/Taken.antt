@@ -9,8 +9,8 @@ use Rattle.rbd_edge.specs.Source.{left_after}
 use Rattle.rbd_script.specs.declared.fault.LineFault.{LineFault}
 use Rattle.rbd_script.specs.declared.script.Script.{Script}
 use Rattle.rbd_script.specs.Reading.{limit, lines_before, no_script, too_long, reading, with_lines}
-use Rattle.rbd_script.specs.Token.{lines_of, without_last}
-use Rattle.rbd_lab.specs.Run.{Answers, IsComplaint, IsOutput, IsText, Prints, PrintsFront}
+use Rattle.rbd_script.specs.Token.{text_lines, without_last}
+use Rattle.rbd_lab.specs.Run.{IsToPrint, IsComplaint, IsOutput, IsText, Prints, PrintsFront}
 use Rattle.rbd_lab.specs.Script.{if_built, judged}
 use Rattle.rbd_words.specs.declared.asked.Mode.{Mode}
 use Rattle.rbd_lab.specs.declared.run.Status.{Status}
@@ -20,13 +20,13 @@ cases : (n : ℕ) → (n ≤ limit) ⊎ (limit < n)
 cases n = grind arith
 
 same_before : (bytes : List ℕ) → lines_before (take (limit + 1) bytes) ≡ lines_before bytes
-same_before bytes = ap (λ (b : List ℕ). without_last (lines_of b)) (take-take limit (limit + 1) bytes (omega arith))
+same_before bytes = ap (λ (b : List ℕ). without_last (text_lines b)) (take-take limit (limit + 1) bytes (omega arith))
 
 -- how a text that is too long is read
 past : (bytes : List ℕ) → limit < length bytes → reading false bytes ≡ too_long (length (lines_before bytes)) (with_lines false 1 no_script (lines_before bytes))
 unfolding reading
 past bytes long =
-    ap (λ b. cond b (with_lines false 1 no_script (lines_of bytes)) (too_long (length (lines_before bytes)) (with_lines false 1 no_script (lines_before bytes))))
+    ap (λ b. cond b (with_lines false 1 no_script (text_lines bytes)) (too_long (length (lines_before bytes)) (with_lines false 1 no_script (lines_before bytes))))
     (let h : leb (length bytes) limit ≡ false = grind (arith, nat_tests) in h)
 
 pub same_reading : (bytes : List ℕ) → reading false (take (limit + 1) bytes) ≡ reading false bytes
@@ -78,7 +78,7 @@ complaint_told None left' held held' taken text took rest is gained = tt
 complaint_told (Some bytes) left' held held' taken text took rest is gained =
     ((text, complaint_of_taken bytes text (subst (λ b. IsComplaint b text) took is), gained), rest)
 
-text_of_taken : (mode : Mode) (bytes text : List ℕ) (status : Status) → Answers mode (take (limit + 1) bytes) status text → IsText mode bytes text
+text_of_taken : (mode : Mode) (bytes text : List ℕ) (status : Status) → IsToPrint mode (take (limit + 1) bytes) status text → IsText mode bytes text
 text_of_taken mode bytes text Done is = inl (output_of_taken mode bytes text is)
 text_of_taken mode bytes text BadLine is = inr (complaint_of_taken bytes text is)
 text_of_taken mode bytes text Usage is = absurd is
@@ -86,16 +86,16 @@ text_of_taken mode bytes text ReadFault is = absurd is
 text_of_taken mode bytes text WriteFault is = absurd is
 text_of_taken mode bytes text NoMemory is = absurd is
 
-pub front_told : (mode : Mode) (left held held' : Option (List ℕ)) (taken text : List ℕ) (status : Status) → Took taken left → Answers mode taken status text → GainsFront text held held'
+pub front_told : (mode : Mode) (left held held' : Option (List ℕ)) (taken text : List ℕ) (status : Status) → Took taken left → IsToPrint mode taken status text → GainsFront text held held'
     → IfSome left (λ bytes. PrintsFront (IsText mode bytes) held held')
 front_told mode None held held' taken text status took is front = tt
 front_told mode (Some bytes) held held' taken text status took is front =
-    (text, text_of_taken mode bytes text status (subst (λ b. Answers mode b status text) took is), front)
+    (text, text_of_taken mode bytes text status (subst (λ b. IsToPrint mode b status text) took is), front)
 
 -- an answer is never a write fault
-pub no_write_fault : (mode : Mode) (bytes text : List ℕ) (status : Status) → Answers mode bytes status text → status ≡ WriteFault → ⊥
-no_write_fault mode bytes text status is same = subst (λ st. Answers mode bytes st text) same is
+pub no_write_fault : (mode : Mode) (bytes text : List ℕ) (status : Status) → IsToPrint mode bytes status text → status ≡ WriteFault → ⊥
+no_write_fault mode bytes text status is same = subst (λ st. IsToPrint mode bytes st text) same is
 
 -- nor is it the usage line
-pub no_usage : (mode : Mode) (bytes text : List ℕ) (status : Status) → Answers mode bytes status text → status ≡ Usage → ⊥
-no_usage mode bytes text status is same = subst (λ st. Answers mode bytes st text) same is
+pub no_usage : (mode : Mode) (bytes text : List ℕ) (status : Status) → IsToPrint mode bytes status text → status ≡ Usage → ⊥
+no_usage mode bytes text status is same = subst (λ st. IsToPrint mode bytes st text) same is

@@ -1,10 +1,10 @@
 -- What is printed of a script.
 use Rattle.std.specs.Prelude.{◌≡◌, ℕ, ◌+◌, List, count_by}
 use Rattle.rbd_client.specs.Seen.{as_is}
-use Rattle.rbd_ends.specs.OneChanger.{AreAllReplied, HasOneChanger}
+use Rattle.rbd_plays.specs.OneChanger.{AreAllReplied, HasOneChanger}
 use Rattle.rbd_flat.specs.declared.entry.Entry.{Entry}
 use Rattle.rbd_generate.specs.Generated.{script_of}
-use Rattle.rbd_generate.specs.Summary.{commands_in, grants, is_unfinished, refuses, summary_text}
+use Rattle.rbd_generate.specs.Summary.{command_count, is_granted, is_unfinished, refuses, summary_text}
 use Rattle.rbd_kinds.specs.declared.id.SiteId.{SiteId}
 use Rattle.rbd_kinds.specs.declared.id.SiteId.TheVariants.{A, B}
 use Rattle.rbd_machine.specs.Plan.{Standing}
@@ -52,16 +52,16 @@ pub record IsPlayed (script : Script) (world : WorldView Standing) : Type 0 wher
   pub ends : HasCalmed as_is script world
   pub over : HasOneChanger script → AreAllReplied script world
 
--- The text tells a world to which the script was played.
-pub record IsTold (mode : Mode) (script : Script) (text : List ℕ) : Type 0 where
+-- The text is told of some world to which the script was played.
+pub record TellsAWorld (mode : Mode) (script : Script) (text : List ℕ) : Type 0 where
   pub world : WorldView Standing
   pub played : IsPlayed script world
   pub tells : text ≡ text_of mode script world
 
--- The commands are those that are ok, refused and unfinished, together.
+-- The commands that are ok, refused and unfinished are all commands, together.
 abbrev pub AddsUp : Script → (history : List Entry) → Type 0
 AddsUp script history =
-    commands_in script.lines ≡ count_by grants history + count_by refuses history + count_by (is_unfinished history) script.lines
+    command_count script.lines ≡ count_by is_granted history + count_by refuses history + count_by (is_unfinished history) script.lines
 
 -- The text sums up a world to which the generated script was played, and its counts add up.
 pub record IsSummed (load : Load) (text : List ℕ) : Type 0 where

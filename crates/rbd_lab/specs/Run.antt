@@ -10,9 +10,9 @@ use Rattle.rbd_words.specs.declared.asked.Asked.{Asked}
 use Rattle.rbd_words.specs.declared.asked.Asked.TheVariants.{Run, Generate}
 use Rattle.rbd_words.specs.declared.asked.Mode.{Mode}
 use Rattle.rbd_words.specs.declared.load.Load.{Load}
-use Rattle.rbd_words.specs.Words.{asked_by}
+use Rattle.rbd_words.specs.Words.{asked_for_by}
 use Rattle.rbd_lab.specs.Script.{IsBuiltScript, judged, fault_text}
-use Rattle.rbd_lab.specs.Output.{IsSummed, IsTold}
+use Rattle.rbd_lab.specs.Output.{IsSummed, TellsAWorld}
 use Rattle.rbd_lab.specs.declared.run.Status.{Status}
 use Rattle.rbd_lab.specs.declared.run.Status.TheVariants.{Done, Usage, BadLine, ReadFault, WriteFault, NoMemory}
 
@@ -22,7 +22,7 @@ use Rattle.rbd_lab.specs.declared.run.Status.TheVariants.{Done, Usage, BadLine, 
 pub record IsOutput (mode : Mode) (bytes text : List ℕ) : Type 0 where
   pub script : Script
   pub is_script : judged bytes ≡ Ok script
-  pub told : IsTold mode script text
+  pub told : TellsAWorld mode script text
 
 -- The bytes are no such script, and the text tells the first fault of a line.
 pub record IsComplaint (bytes text : List ℕ) : Type 0 where
@@ -31,13 +31,13 @@ pub record IsComplaint (bytes text : List ℕ) : Type 0 where
   pub output : text ≡ fault_text fault
 
 -- what is to be printed for these bytes, and the status that goes with it
-abbrev pub Answers : Mode → (bytes : List ℕ) → Status → (text : List ℕ) → Type 0
-Answers mode bytes Done text = IsOutput mode bytes text
-Answers mode bytes BadLine text = IsComplaint bytes text
-Answers mode bytes Usage text = ⊥
-Answers mode bytes ReadFault text = ⊥
-Answers mode bytes WriteFault text = ⊥
-Answers mode bytes NoMemory text = ⊥
+abbrev pub IsToPrint : Mode → (bytes : List ℕ) → Status → (text : List ℕ) → Type 0
+IsToPrint mode bytes Done text = IsOutput mode bytes text
+IsToPrint mode bytes BadLine text = IsComplaint bytes text
+IsToPrint mode bytes Usage text = ⊥
+IsToPrint mode bytes ReadFault text = ⊥
+IsToPrint mode bytes WriteFault text = ⊥
+IsToPrint mode bytes NoMemory text = ⊥
 
 -- what is to be printed for these bytes
 abbrev pub IsText : Mode → (bytes text : List ℕ) → Type 0
@@ -64,8 +64,8 @@ abbrev pub devices : (left held : Option (List ℕ)) → (read_faults write_faul
 devices left held read_faults write_faults = record { left = left; held = held; read_faults = read_faults; write_faults = write_faults }
 
 -- the status tells whether a count of faults rose
-abbrev pub Tells : Status → Status → (faults faults' : ℕ) → Type 0
-Tells fault status faults faults' = ((status ≡ fault) ↔ (faults' ≡ faults + 1)) × (status ≢ fault → faults' ≡ faults)
+abbrev pub TellsFaults : Status → Status → (faults faults' : ℕ) → Type 0
+TellsFaults fault status faults faults' = ((status ≡ fault) ↔ (faults' ≡ faults + 1)) × (status ≢ fault → faults' ≡ faults)
 
 -- ---- the ends of a run, by what it was asked for
 
@@ -73,14 +73,14 @@ Tells fault status faults faults' = ((status ≡ fault) ↔ (faults' ≡ faults 
 pub record IsScriptRun (mode : Mode) (status : Status) (old new : Devices) : Type 0 where
   -- the source was read to its end, its bytes are a script, and its output was printed
   pub done : status ≡ Done → IfSome old.left (λ bytes. Prints (IsOutput mode bytes) old.held new.held × (new.left ≡ Some []))
-  -- it was read to its end or one byte past the limit, and the first line that doesn't fit was
-  -- printed
+  -- the source was read to its end or one byte past the limit, and the first line that doesn't fit
+  -- was printed
   pub bad_line : status ≡ BadLine → IfSome old.left (λ bytes. Prints (IsComplaint bytes) old.held new.held × (new.left ≡ Some (drop (limit + 1) bytes)))
   pub usage : status ≢ Usage
   -- the faults come exactly where a device counted one
-  pub read_fault : Tells ReadFault status old.read_faults new.read_faults
-  pub write_fault : Tells WriteFault status old.write_faults new.write_faults
-  -- never is more than one byte past the limit taken, however it ends
+  pub read_fault : TellsFaults ReadFault status old.read_faults new.read_faults
+  pub write_fault : TellsFaults WriteFault status old.write_faults new.write_faults
+  -- at most one byte past the limit was taken, however the run ends
   pub taken : IsFurther (limit + 1) old.left new.left
   -- the sink has some first part of what was to be printed, and not all of it
   pub cut : status ≡ WriteFault → IfSome old.left (λ bytes. PrintsFront (IsText mode bytes) old.held new.held)
@@ -93,35 +93,35 @@ pub record IsScriptRun (mode : Mode) (status : Status) (old new : Devices) : Typ
 pub record IsLoadRun (load : Load) (status : Status) (held held' : Option (List ℕ)) (write_faults write_faults' : ℕ) : Type 0 where
   pub ends : (status ≡ Done) ⊎ (status ≡ WriteFault) ⊎ (status ≡ NoMemory)
   pub done : status ≡ Done → Prints (IsSummed load) held held'
-  pub write_fault : Tells WriteFault status write_faults write_faults'
+  pub write_fault : TellsFaults WriteFault status write_faults write_faults'
   pub cut : status ≡ WriteFault → PrintsFront (IsSummed load) held held'
   pub no_memory : status ≡ NoMemory → held' ≡ held
 
--- The words are others: the usage line was printed, or the sink failed before its end, or memory was
--- refused while they were read.
+-- The words aren't understood: the usage line was printed, or the sink failed before its end, or
+-- memory was refused while the words were read.
 pub record IsUsageRun (status : Status) (held held' : Option (List ℕ)) (write_faults write_faults' : ℕ) : Type 0 where
   pub ends : (status ≡ Usage) ⊎ (status ≡ WriteFault) ⊎ (status ≡ NoMemory)
   pub usage : status ≡ Usage → held' ≡ held_with usage_text held
-  pub write_fault : Tells WriteFault status write_faults write_faults'
+  pub write_fault : TellsFaults WriteFault status write_faults write_faults'
   pub cut : status ≡ WriteFault → PrintsFront (λ text. text ≡ usage_text) held held'
   pub no_memory : status ≡ NoMemory → held' ≡ held
 
 -- the source is as it was, and counted no fault
-pub record IsUntouched {S : Type 0} (source source' : S) (old new : Devices) : Type 0 where
+pub record IsUnread {S : Type 0} (source source' : S) (old new : Devices) : Type 0 where
   pub same : source' ≡ source
   pub left : new.left ≡ old.left
   pub read_faults : new.read_faults ≡ old.read_faults
 
-abbrev pub EndsBy : {S : Type 0} → Option Asked → Status → (source source' : S) → (old new : Devices) → Type 0
-EndsBy (Some (Run mode)) status source source' old new = IsScriptRun mode status old new
-EndsBy (Some (Generate load)) status source source' old new =
-    IsLoadRun load status old.held new.held old.write_faults new.write_faults × IsUntouched source source' old new
-EndsBy None status source source' old new =
-    IsUsageRun status old.held new.held old.write_faults new.write_faults × IsUntouched source source' old new
+abbrev pub RunEndsBy : {S : Type 0} → Option Asked → Status → (source source' : S) → (old new : Devices) → Type 0
+RunEndsBy (Some (Run mode)) status source source' old new = IsScriptRun mode status old new
+RunEndsBy (Some (Generate load)) status source source' old new =
+    IsLoadRun load status old.held new.held old.write_faults new.write_faults × IsUnread source source' old new
+RunEndsBy None status source source' old new =
+    IsUsageRun status old.held new.held old.write_faults new.write_faults × IsUnread source source' old new
 
 -- How a run with these words ended, and what it left of its devices and of the source itself.
 abbrev pub IsRun : {S : Type 0} → (words : List (List ℕ)) → Status → (source source' : S) → (old new : Devices) → Type 0
-IsRun words status source source' old new = EndsBy (asked_by words) status source source' old new
+IsRun words status source source' old new = RunEndsBy (asked_for_by words) status source source' old new
 
 -- ---- where nothing is in a run's way
 
@@ -141,9 +141,9 @@ IsUnhinderedBy (Some (Generate load)) old new = new.write_faults ≡ old.write_f
 IsUnhinderedBy None old new = ⊥
 
 abbrev pub IsUnhindered : (words : List (List ℕ)) → (old new : Devices) → Type 0
-IsUnhindered words old new = IsUnhinderedBy (asked_by words) old new
+IsUnhindered words old new = IsUnhinderedBy (asked_for_by words) old new
 
--- it is done, or memory was refused
+-- the run is done, or memory was refused
 abbrev pub IsDoneOrRefused : Status → Type 0
 IsDoneOrRefused status = (status ≡ Done) ⊎ (status ≡ NoMemory)
 

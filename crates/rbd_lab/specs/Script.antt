@@ -1,6 +1,6 @@
 -- Which bytes are a script of built forms, and which fault is told of others.
 use Rattle.std.specs.Prelude.{◌≡◌, ℕ, All, Bool, true, false, if◌then◌else◌, List, [], ◌∷◌, ◌++◌, codes, decimal, Option, Some, None, Result, Ok, Err}
-use Rattle.rbd_requests.specs.Plans.{is_built}
+use Rattle.rbd_catalog.specs.Plans.{is_built}
 use Rattle.rbd_script.specs.declared.fault.LineCause.TheVariants.{UnknownWord}
 use Rattle.rbd_script.specs.declared.fault.LineFault.{LineFault}
 use Rattle.rbd_script.specs.declared.script.Line.{Line}
@@ -12,12 +12,12 @@ use Rattle.rbd_script.specs.Reading.{reading}
 
 -- ---- the forms that are built
 
--- each command that is served, and each line of the schedule
+-- whether a line is a command that is served, or one of the schedule
 abbrev pub is_said : Said → Bool
 is_said (said.Command session beside command) = is_built command
 is_said s = true
 
--- each of these lines is
+-- each of these lines is built
 abbrev pub AreBuilt : List Line → Type 0
 AreBuilt lines = All (λ (line : Line). is_said line.said ≡ true) lines
 

@@ -16,10 +16,10 @@
 //! commands 5 ok 5 refused 0 unfinished 0 read 64
 //! ```
 //!
-//! With `run` the script is read from the standard input to its end and judged as a whole: one that has a
-//! faulty line, or a form that isn't built yet, plays nothing. Its sessions then do their commands
-//! by single operations on single objects of two sites, in the order that the script says. The
-//! replies are printed at the end, all of them or, where the output fails, a first part. With
+//! With `run` the script is read from the standard input to its end and judged as a whole: one that
+//! has a faulty line, or a form that isn't built yet, plays nothing. Its sessions then do their
+//! commands by single operations on single objects of two sites, in the order that the script says.
+//! The replies are printed at the end, all of them or, where the output fails, a first part. With
 //! `--trace` the history and the operation logs come before the replies.
 //!
 //! ```text

@@ -2,11 +2,11 @@
 ghost use Rattle.std.specs.Prelude.{◌≡◌, IfOk};
 ghost use Rattle.rbd_generate.specs.Summary.{summary_text};
 ghost use Rattle.rbd_text.specs.Text.{AreShown};
-ghost use Rattle.rbd_schedule.specs.InOrder.{AreInOrder};
+ghost use Rattle.rbd_schedule.specs.InOrder.{AreLinesInOrder};
 ghost use Rattle.rbd_schedule.specs.Playing.{IsPlayable};
 ghost use Rattle.rbd_words.specs.Load.{IsLoad};
 ghost use Rattle.rbd_world.specs.Seen.{seen};
-ghost use Rattle.rbd_lab.specs.Output.{text_of, told_text, IsSummed, IsTold};
+ghost use Rattle.rbd_lab.specs.Output.{text_of, told_text, IsSummed, TellsAWorld};
 
 use rbd_flat::Entry;
 use rbd_generate::{generated, summary};
@@ -22,8 +22,8 @@ use std::alloc::Global;
 /// What is printed of a script of built forms, whose lines are in order.
 pub fn output(alloc: Global, mode: Mode, script: &Script) -> Result<Vec<u8>, NoMemory>
     requires playable { IsPlayable script.now }
-    requires in_order { AreInOrder script.now.lines }
-    ensures { IfOk result (λ text. IsTold mode script.now text.items) }
+    requires in_order { AreLinesInOrder script.now.lines }
+    ensures { IfOk result (λ text. TellsAWorld mode script.now text.items) }
 {
     let world: World = play(alloc, script)?;
     let text = tell_world(alloc, mode, script, &world);

@@ -3,7 +3,7 @@ ghost use Rattle.std.specs.Prelude.{◌≡◌, ◌≢◌, ◌+◌, ◌-◌, ◌^
 ghost use Rattle.std.specs.String.{string_bytes};
 ghost use Rattle.rbd_edge.specs.Sink.{held_with, GainsFront};
 ghost use Rattle.rbd_words.specs.Load.{IsLoad};
-ghost use Rattle.rbd_lab.specs.Run.{devices, Answers, IsLoadRun, IsRun, IsScriptRun, code_of};
+ghost use Rattle.rbd_lab.specs.Run.{devices, IsToPrint, IsLoadRun, IsRun, IsScriptRun, code_of};
 
 use crate::play::{output, summed};
 use crate::script::{fault_line, judged};
@@ -133,7 +133,7 @@ fn print<K: Sink>(sink: &mut K, text: &[u8], status: Status) -> Status
 
 /// What is to be printed for the bytes of a source, and the status that goes with it.
 fn answer(alloc: Global, mode: Mode, bytes: &[u8]) -> Result<(Status, Vec<u8>), NoMemory>
-    ensures { IfOk result (λ x. Answers mode bytes.now x.0 x.1.items) }
+    ensures { IfOk result (λ x. IsToPrint mode bytes.now x.0 x.1.items) }
 {
     match judged(alloc, bytes) {
         Ok(script) => Ok((Status::Done, output(alloc, mode, &script)?)),

@@ -1,13 +1,13 @@
 //! Which bytes are played.
 ghost use Rattle.std.specs.Prelude.{◌≡◌, Ok, Err, IfOk, IfErr};
 ghost use Rattle.rbd_script.specs.Fault.{AtLine};
-ghost use Rattle.rbd_schedule.specs.InOrder.{AreInOrder};
+ghost use Rattle.rbd_schedule.specs.InOrder.{AreLinesInOrder};
 ghost use Rattle.rbd_schedule.specs.Playing.{IsPlayable};
 ghost use Rattle.rbd_lab.specs.Script as told;
 
 use itoa::Buffer;
+use rbd_catalog::is_built;
 use rbd_kinds::NoMemory;
-use rbd_requests::is_built;
 use rbd_script::{Line, LineCause, LineFault, Said, Script, ScriptFault, read};
 use std::alloc::Global;
 
@@ -16,7 +16,7 @@ use std::alloc::Global;
 pub fn judged(alloc: Global, bytes: &[u8]) -> Result<Script, ScriptFault>
     ensures script { IfOk result (λ script. told.judged bytes.now ≡ Ok script) }
     ensures built { IfOk result IsPlayable }
-    ensures in_order { IfOk result (λ script. AreInOrder script.lines) }
+    ensures in_order { IfOk result (λ script. AreLinesInOrder script.lines) }
     ensures fault { IfErr result (AtLine (λ fault. told.judged bytes.now ≡ Err fault)) }
 {
     let script = read(alloc, bytes, false)?;

@@ -7,7 +7,7 @@ ghost use Rattle.rbd_layout.specs.Pieces.{IsHeld, IsPartsOf, IsPieces};
 
 use crate::count::objects;
 use crate::striping::{back, place};
-use crate::types::{Piece, Place};
+use crate::types::{BytePlace, Piece};
 use rbd_kinds::{Extent, Layout, NoMemory, Part, Parts};
 use std::alloc::Global;
 
@@ -100,7 +100,7 @@ pub fn parts_in(
     let mut offset = held(layout, object, extent.at);
     let end = held(layout, object, extent.at + extent.len);
     while offset < end {
-        let at = back(layout, &Place { object, offset });
+        let at = back(layout, &BytePlace { object, offset });
         let len = (run - offset % run).min(end - offset);
         parts.push(Part { offset, at, len })?;
         offset += len;

@@ -62,4 +62,4 @@ pub use laws::{
 };
 pub use shape::{BadShape, check};
 pub use striping::{back, place};
-pub use types::{Piece, Place};
+pub use types::{BytePlace, Piece};

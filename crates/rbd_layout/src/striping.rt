@@ -2,11 +2,11 @@
 ghost use Rattle.std.specs.Prelude.{◌≡◌, ◌^◌, ◌<◌};
 ghost use Rattle.rbd_kinds.specs.Striping.{IsLayout, object_of, offset_of, byte_at};
 
-use crate::types::Place;
+use crate::types::BytePlace;
 use rbd_kinds::Layout;
 
 /// The place of an image byte (Ceph: RBD striping).
-pub fn place(layout: &Layout, x: u64) -> Place
+pub fn place(layout: &Layout, x: u64) -> BytePlace
     requires layout { IsLayout layout.now }
     requires byte { x < 2 ^ 63 }
     ensures object { result.object ≡ object_of layout.now x }
@@ -16,14 +16,14 @@ pub fn place(layout: &Layout, x: u64) -> Place
     let units = layout.object / layout.unit;
     let block = x / layout.unit;
     let stripe = block / count;
-    Place {
+    BytePlace {
         object: stripe / units * count + block % count,
         offset: stripe % units * layout.unit + x % layout.unit,
     }
 }
 
 /// The image byte that lies at a place (Ceph: RBD striping).
-pub fn back(layout: &Layout, place: &Place) -> u64
+pub fn back(layout: &Layout, place: &BytePlace) -> u64
     requires layout { IsLayout layout.now }
     requires offset { place.now.offset < layout.now.object }
     requires byte { byte_at layout.now place.now.object place.now.offset < 2 ^ 63 }

@@ -3,7 +3,7 @@ use rbd_kinds::Parts;
 
 /// Where a byte lies: in an object, by its number, at an offset in bytes.
 #[derive(Clone, Copy, PartialEq, Eq)]
-pub struct Place {
+pub struct BytePlace {
     pub object: u64,
     pub offset: u64,
 }

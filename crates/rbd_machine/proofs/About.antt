@@ -11,7 +11,7 @@ use Rattle.rbd_kinds.specs.declared.operation.Op.{Op}
 use Rattle.rbd_commands.specs.declared.refusal.Refusal.{Refusal}
 use Rattle.rbd_machine.specs.About.{image_of, AreOfImage, AreOwn}
 use Rattle.rbd_machine.specs.Path.{Answered, IsWalk}
-use Rattle.rbd_machine.specs.Plan.{Plan, Ask, Await, Note, Return, Goto, settled}
+use Rattle.rbd_machine.specs.Plan.{Plan, Ask, Await, Note, Return, Goto, past_label}
 use Rattle.rbd_machine.specs.Steps.{not_there, unless, on_id, on_header, on_done, own, joining, looked, holding, owned}
 use Rattle.rbd_machine.proofs.Settled.{settled_goto}
 use Rattle.rbd_machine.proofs.Walked.{ended}
@@ -53,17 +53,17 @@ module _ (site : SiteId) where
           (refl, refl, of_on_header (owned refuses act image) (λ own. of_unless (refuses own) (act image own) (acts own)))),
     )
 
-    of_settled : (plan : Plan) → IsOfImage image plan → IsOfImage image (settled Goto plan)
+    of_settled : (plan : Plan) → IsOfImage image plan → IsOfImage image (past_label Goto plan)
     of_settled plan of = subst (IsOfImage image) (sym (settled_goto plan)) of
 
     of_image : (feds : List Fed) (plan : Plan) (steps : List Answered) (last : Plan) → IsOfImage image plan → IsWalk Goto plan feds steps last → AreOfImage site image steps
     of_image [] plan steps last of walk = subst (AreOfImage site image) (sym walk.0) tt
     of_image (fed.Answer a ∷ more) (Ask s why o next) steps last (at, of, goes_on) (first, walk) =
-        subst (AreOfImage site image) (sym first.is) (at, of, of_image more (settled Goto (next a)) first.rest last (of_settled (next a) (goes_on a)) walk)
+        subst (AreOfImage site image) (sym first.is) (at, of, of_image more (past_label Goto (next a)) first.rest last (of_settled (next a) (goes_on a)) walk)
     of_image (fed.Passed ∷ more) (Ask s why o next) steps last of walk = absurd walk
-    of_image (fed.Passed ∷ more) (Await wait next) steps last of walk = of_image more (settled Goto next) steps last (of_settled next of) walk
+    of_image (fed.Passed ∷ more) (Await wait next) steps last of walk = of_image more (past_label Goto next) steps last (of_settled next of) walk
     of_image (fed.Answer a ∷ more) (Await wait next) steps last of walk = absurd walk
-    of_image (fed.Passed ∷ more) (Note s i event next) steps last of walk = of_image more (settled Goto next) steps last (of_settled next of) walk
+    of_image (fed.Passed ∷ more) (Note s i event next) steps last of walk = of_image more (past_label Goto next) steps last (of_settled next of) walk
     of_image (fed.Answer a ∷ more) (Note s i event next) steps last of walk = absurd walk
     of_image (f ∷ more) (Return r) steps last of walk = absurd walk
     of_image (f ∷ more) (Goto label) steps last of walk = absurd walk
@@ -79,7 +79,7 @@ module _ (site : SiteId) where
   GoesByImage (answer.Id image) next = IsOfImage image next
   GoesByImage _ next = HasEnded next
 
-  ended_is_ended : (plan : Plan) (feds : List Fed) (steps : List Answered) (last : Plan) → HasEnded plan → IsWalk Goto (settled Goto plan) feds steps last → steps ≡ []
+  ended_is_ended : (plan : Plan) (feds : List Fed) (steps : List Answered) (last : Plan) → HasEnded plan → IsWalk Goto (past_label Goto plan) feds steps last → steps ≡ []
   ended_is_ended (Return r) feds steps last has walk = (ended r feds steps last walk).0
   ended_is_ended (Ask s why o next) feds steps last has walk = absurd has
   ended_is_ended (Await wait next) feds steps last has walk = absurd has
@@ -91,9 +91,9 @@ module _ (site : SiteId) where
   by_on_id next of answer.Fenced = tt
   by_on_id next of _ = tt
 
-  first_of : (ask : Op) (a : Answer) (next : Plan) (feds : List Fed) (rest : List Answered) (last : Plan) → GoesByImage a next → IsWalk Goto (settled Goto next) feds rest last
+  first_of : (ask : Op) (a : Answer) (next : Plan) (feds : List Fed) (rest : List Answered) (last : Plan) → GoesByImage a next → IsWalk Goto (past_label Goto next) feds rest last
       → AreOwn site ask (record { site = site; op = ask; answer = a } ∷ rest)
-  first_of ask (answer.Id image) next feds rest last by walk = go rest (of_image image feds (settled Goto next) rest last (of_settled image next by) walk)
+  first_of ask (answer.Id image) next feds rest last by walk = go rest (of_image image feds (past_label Goto next) rest last (of_settled image next by) walk)
     where
       go : (rest : List Answered) → AreOfImage site image rest → AreOwn site ask (record { site = site; op = ask; answer = answer.Id image } ∷ rest)
       go [] are = (refl, refl)

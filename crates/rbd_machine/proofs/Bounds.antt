@@ -8,7 +8,7 @@ use Rattle.rbd_kinds.specs.declared.id.SiteId.{SiteId}
 use Rattle.rbd_commands.specs.declared.refusal.Refusal.{Refusal}
 use Rattle.rbd_machine.specs.Plan.{Plan, Ask, Await, Note, Return, Goto}
 use Rattle.rbd_machine.specs.Path.{Answered, IsPass, IsStep, IsBounded, at_operation, after_answer}
-use Rattle.rbd_machine.specs.Steps.{unless, not_there, on_id, on_header, on_done, change, joining, looking, looked, holding, owning, owned}
+use Rattle.rbd_machine.specs.Steps.{unless, not_there, on_id, on_header, on_done, change_plan, joining, looking, looked, holding, under_lock, owned}
 
 -- ---- paths
 
@@ -58,13 +58,13 @@ bounded_unless None next n b = b
 bounded_unless (Some r) next n b = tt
 
 module _ (site : SiteId) (refuses : HeaderView → Option Refusal) (act : ℕ → HeaderView → Plan) (n : ℕ) (acts : (image : ℕ) (h : HeaderView) → IsBounded (act image h) n) where
-  bounded_owning : (image : ℕ) → IsBounded (owning site refuses act image) (suc n)
-  bounded_owning image = bounded_on_header (owned refuses act image) n (λ h. bounded_unless (refuses h) (act image h) n (acts image h))
+  bounded_under_lock : (image : ℕ) → IsBounded (under_lock site refuses act image) (suc n)
+  bounded_under_lock image = bounded_on_header (owned refuses act image) n (λ h. bounded_unless (refuses h) (act image h) n (acts image h))
 
   bounded_looking : (image : ℕ) → IsBounded (looking site refuses act image) (suc (suc n))
-  bounded_looking image = bounded_on_header (looked site refuses act image) (suc n) (λ h. bounded_unless (refuses h) (holding site refuses act image) (suc n) (bounded_owning image))
+  bounded_looking image = bounded_on_header (looked site refuses act image) (suc n) (λ h. bounded_unless (refuses h) (holding site refuses act image) (suc n) (bounded_under_lock image))
 
-  pub bounded_change : (name : List ℕ) (sharing : Sharing) → IsBounded (change site name sharing refuses act) (suc (suc (suc n)))
+  pub bounded_change : (name : List ℕ) (sharing : Sharing) → IsBounded (change_plan site name sharing refuses act) (suc (suc (suc n)))
   bounded_change name sharing = bounded_on_id (joining site sharing refuses act) (suc (suc n)) bounded_looking
 
 -- ---- more than enough

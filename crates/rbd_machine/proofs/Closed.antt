@@ -8,7 +8,7 @@ use Rattle.rbd_kinds.specs.declared.id.SiteId.{SiteId}
 use Rattle.rbd_commands.specs.declared.refusal.Refusal.{Refusal}
 use Rattle.rbd_machine.specs.Label.{Label}
 use Rattle.rbd_machine.specs.Plan.{Plan, IsClosed}
-use Rattle.rbd_machine.specs.Steps.{unless, not_there, on_id, on_header, on_bits, on_done, change, looked, holding, owned, joining}
+use Rattle.rbd_machine.specs.Steps.{unless, not_there, on_id, on_header, on_bits, on_done, change_plan, looked, holding, owned, joining}
 
 module _ (labels : Label → Plan) where
   pub closed_not_there : (a : Answer) → IsClosed labels (not_there a)
@@ -36,7 +36,7 @@ module _ (labels : Label → Plan) where
   closed_unless (Some r) next closed = tt
 
   pub closed_change : (site : SiteId) (name : List ℕ) (sharing : Sharing) (refuses : HeaderView → Option Refusal) (act : ℕ → HeaderView → Plan)
-      → ((image : ℕ) (h : HeaderView) → IsClosed labels (act image h)) → IsClosed labels (change site name sharing refuses act)
+      → ((image : ℕ) (h : HeaderView) → IsClosed labels (act image h)) → IsClosed labels (change_plan site name sharing refuses act)
   closed_change site name sharing refuses act acts =
       closed_on_id (joining site sharing refuses act) (λ image.
       closed_on_header (looked site refuses act image) (λ h.

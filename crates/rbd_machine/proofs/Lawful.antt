@@ -19,13 +19,13 @@ use Rattle.rbd_commands.specs.declared.refusal.Refusal.{Refusal}
 use Rattle.rbd_kinds.specs.Form.{IsHeaderInForm}
 use Rattle.rbd_kinds.proofs.Images.{at_itself}
 use Rattle.rbd_machine.specs.Answers.{CanGive, CanBeFed}
-use Rattle.rbd_machine.specs.Knowledge.{Knowledge, Own, nothing_known, is_at, is_gone, own_of, header_told, first_told, left, looked_owning, learned, passed, maps_told, unmapped, ImageMaps, MapsKnown, maps_of}
+use Rattle.rbd_machine.specs.Knowledge.{Knowledge, Own, nothing_known, is_at, is_gone, own_of, header_told, first_told, owns_without, looked_under_lock, learned, known_after_wait, maps_told, unmapped, ImageMaps, MapsKnown, maps_of}
 use Rattle.rbd_machine.specs.Label.{Label}
 use Rattle.rbd_machine.specs.Lawful.{CanTell, IsLawful, known_after}
 use Rattle.rbd_machine.specs.Permits.{IsLeftOver, OwnsBy}
-use Rattle.rbd_machine.specs.Plan.{Plan, Ask, Await, Note, Return, Goto, settled, plan_after}
+use Rattle.rbd_machine.specs.Plan.{Plan, Ask, Await, Note, Return, Goto, past_label, plan_after}
 use Rattle.rbd_machine.specs.Standalone.{IsFedStandalone, IsStandalone, TellsStandalone}
-use Rattle.rbd_machine.specs.Steps.{or_else, unless, not_there, on_id, on_header, on_done, change, looked, holding, owned, joining}
+use Rattle.rbd_machine.specs.Steps.{or_else, unless, not_there, on_id, on_header, on_done, change_plan, looked, holding, owned, joining}
 use Rattle.rbd_machine.specs.Wait as wait
 
 -- ---- places
@@ -35,13 +35,13 @@ pub told_first : (s : SiteId) (image : ℕ) (m : MapsKnown) (maps : List ImageMa
 told_first s image m maps = ap (λ b. cond b m (maps_of maps s image)) (at_itself s image)
 
 -- it owns nothing more of an image that it left
-pub left_here : (s : SiteId) (image : ℕ) (owns : List Own) → own_of (left s image owns) s image ≡ None
+pub left_here : (s : SiteId) (image : ℕ) (owns : List Own) → own_of (owns_without s image owns) s image ≡ None
 left_here s image [] = refl
 left_here s image (o ∷ owns) = by (is_at s image o.site o.image) refl (left_here s image owns)
   where
-    by : (b : Bool) → is_at s image o.site o.image ≡ b → own_of (left s image owns) s image ≡ None → own_of (cond (not b) (o ∷ left s image owns) (left s image owns)) s image ≡ None
+    by : (b : Bool) → is_at s image o.site o.image ≡ b → own_of (owns_without s image owns) s image ≡ None → own_of (cond (not b) (o ∷ owns_without s image owns) (owns_without s image owns)) s image ≡ None
     by true is rest = rest
-    by false is rest = ap (λ b. cond b (Some o) (own_of (left s image owns) s image)) is ∙ rest
+    by false is rest = ap (λ b. cond b (Some o) (own_of (owns_without s image owns) s image)) is ∙ rest
 
 -- ---- a change at its look under the lock: it owns its image, by the header that this look told
 
@@ -51,13 +51,13 @@ own_at alone s image h = record { site = s; image = image; alone = alone; header
 abbrev pub unlooked : (alone : Bool) → SiteId → (image : ℕ) → Own
 unlooked alone s image = record { site = s; image = image; alone = alone; header = None }
 
-abbrev pub owning_known : (alone : Bool) → (turn : Option ℕ) → SiteId → (image : ℕ) → HeaderView → Knowledge
-owning_known alone turn s image h = record { alone = alone; owns = own_at alone s image h ∷ []; turn = turn; drawn = []; fenced = []; maps = maps_told s image unmapped []; objects = []; gone = [] }
+abbrev pub under_lock_known : (alone : Bool) → (turn : Option ℕ) → SiteId → (image : ℕ) → HeaderView → Knowledge
+under_lock_known alone turn s image h = record { alone = alone; owns = own_at alone s image h ∷ []; turn = turn; drawn = []; fenced = []; maps = maps_told s image unmapped []; objects = []; gone = [] }
 
 abbrev pub holding_known : (alone : Bool) → SiteId → (image : ℕ) → Knowledge
 holding_known alone s image = record { alone = alone; owns = unlooked alone s image ∷ []; turn = None; drawn = []; fenced = []; maps = []; objects = []; gone = [] }
 
-own_told : (alone : Bool) (s : SiteId) (image : ℕ) (h : HeaderView) → owning_known alone None s image h ≡ learned (holding_known alone s image) s (op.Header image header.Get) (answer.Header h)
+own_told : (alone : Bool) (s : SiteId) (image : ℕ) (h : HeaderView) → under_lock_known alone None s image h ≡ learned (holding_known alone s image) s (op.Header image header.Get) (answer.Header h)
 own_told alone s image h =
     ap (λ b. record {
       alone = alone;
@@ -68,10 +68,10 @@ own_told alone s image h =
       maps = maps_told s image unmapped [];
       objects = [];
       gone = [];
-    }) (sym (at_itself s image)) ∙ ap (λ b. header_told s image (first_told h) (looked_owning (cond b (Some (unlooked alone s image)) None) s image (holding_known alone s image))) (sym (at_itself s image))
+    }) (sym (at_itself s image)) ∙ ap (λ b. header_told s image (first_told h) (looked_under_lock (cond b (Some (unlooked alone s image)) None) s image (holding_known alone s image))) (sym (at_itself s image))
 
 pub own_is_found : (alone : Bool) (turn : Option ℕ) (s : SiteId) (image : ℕ) (h : HeaderView)
-    → own_of (owning_known alone turn s image h).owns s image ≡ Some (own_at alone s image h)
+    → own_of (under_lock_known alone turn s image h).owns s image ≡ Some (own_at alone s image h)
 own_is_found alone turn s image h = ap (λ b. cond b (Some (own_at alone s image h)) None) (at_itself s image)
 
 -- where neither refusal holds, the second doesn't
@@ -105,14 +105,14 @@ module _ (at : Label → Knowledge) where
   lawful_unless k (Some r) next lawful = tt
 
   pub lawful_change : (s : SiteId) (name : List ℕ) (sharing : Sharing) (refuses : HeaderView → Option Refusal) (act : ℕ → HeaderView → Plan)
-      → ((image : ℕ) (h : HeaderView) → IsHeaderInForm h → refuses h ≡ None → IsLawful at (owning_known (is_alone sharing) None s image h) (act image h))
-      → IsLawful at nothing_known (change s name sharing refuses act)
+      → ((image : ℕ) (h : HeaderView) → IsHeaderInForm h → refuses h ≡ None → IsLawful at (under_lock_known (is_alone sharing) None s image h) (act image h))
+      → IsLawful at nothing_known (change_plan s name sharing refuses act)
   lawful_change s name sharing refuses act acts = (
     tt,
     λ found can.
         lawful_on_id (learned nothing_known s (op.Directory (directory.Find name))) (joining s sharing refuses act) (λ image. (
           tt,
-          lawful_on_header s image (learned (passed nothing_known (wait.Join s image sharing)) s (op.Header image header.Get)) (looked s refuses act image) (λ h form standalone.
+          lawful_on_header s image (learned (known_after_wait nothing_known (wait.Join s image sharing)) s (op.Header image header.Get)) (looked s refuses act image) (λ h form standalone.
               lawful_unless (record nothing_known { alone = is_alone sharing }) (refuses h) (holding s refuses act image) (λ may_wait. (
                 tt,
                 lawful_on_header s image (learned (holding_known (is_alone sharing) s image) s (op.Header image header.Get)) (owned refuses act image) (λ own form standalone.
@@ -148,18 +148,18 @@ pub told_alone : {o : Op} {a : Answer} → CanGive o a → TellsStandalone a →
 told_alone can alone = record { word = can.word; form = can.form; standalone = alone }
 
 module _ (labels : Label → Plan) (at : Label → Knowledge) (lawful_there : (label : Label) → IsLawful at (at label) (labels label)) where
-  lawful_settled : (k : Knowledge) (plan : Plan) → IsLawful at k plan → IsLawful at k (settled labels plan)
+  lawful_settled : (k : Knowledge) (plan : Plan) → IsLawful at k plan → IsLawful at k (past_label labels plan)
   lawful_settled k (Ask site why op next) lawful = lawful
   lawful_settled k (Await wait next) lawful = lawful
   lawful_settled k (Note site image event next) lawful = lawful
   lawful_settled k (Return reply) lawful = lawful
   lawful_settled k (Goto label) same = subst (λ known. IsLawful at known (labels label)) (sym same) (lawful_there label)
 
-  pub stays_lawful : (k : Knowledge) (plan : Plan) (f : Fed) → CanBeFed plan f → IsFedStandalone f → IsLawful at k plan → IsLawful at (known_after k plan f) (settled labels (plan_after plan f))
+  pub stays_lawful : (k : Knowledge) (plan : Plan) (f : Fed) → CanBeFed plan f → IsFedStandalone f → IsLawful at k plan → IsLawful at (known_after k plan f) (past_label labels (plan_after plan f))
   stays_lawful k (Ask site why op next) (fed.Answer a) can alone lawful = lawful_settled (learned k site op a) (next a) (lawful.1 a (told_alone can alone))
   stays_lawful k (Ask site why op next) fed.Passed can alone lawful = absurd can
   stays_lawful k (Await wait next) (fed.Answer a) can alone lawful = absurd can
-  stays_lawful k (Await wait next) fed.Passed can alone lawful = lawful_settled (passed k wait) next lawful
+  stays_lawful k (Await wait next) fed.Passed can alone lawful = lawful_settled (known_after_wait k wait) next lawful
   stays_lawful k (Note site image event next) (fed.Answer a) can alone lawful = absurd can
   stays_lawful k (Note site image event next) fed.Passed can alone lawful = lawful_settled k next lawful
   stays_lawful k (Return reply) f can alone lawful = absurd can

@@ -13,3 +13,5 @@ pub mod Walked
 pub mod Fed
 pub mod Wanted
 pub mod Gone
+pub mod Orderly
+pub mod CourseSteps

@@ -16,9 +16,9 @@ use Rattle.rbd_commands.specs.declared.refusal.Refusal.TheVariants as refusal
 use Rattle.rbd_kinds.specs.declared.reply.Reply.{Reply}
 use Rattle.rbd_kinds.specs.declared.reply.Reply.TheVariants as reply
 use Rattle.rbd_machine.specs.Path.{Answered, IsWalk}
-use Rattle.rbd_machine.specs.Plan.{Plan, Ask, Await, Note, Return, Goto, IsLive, settled}
+use Rattle.rbd_machine.specs.Plan.{Plan, Ask, Await, Note, Return, Goto, IsLive, past_label}
 use Rattle.rbd_machine.specs.Refused.{refusal_by, only_looks, IsGiven, AreGiven, IsRefusedBy}
-use Rattle.rbd_machine.specs.Steps.{unless, on_id, on_header, change, joining, looked, holding, owned}
+use Rattle.rbd_machine.specs.Steps.{unless, on_id, on_header, change_plan, joining, looked, holding, owned}
 use Rattle.rbd_machine.proofs.Settled.{settled_goto}
 use Rattle.rbd_machine.proofs.Walked.{ended, jump_ends_otherwise}
 
@@ -83,7 +83,7 @@ module _ (refuses : HeaderView → Option Refusal) (late : Refusal → Type 0) (
 
   -- a plan that has operations left hasn't ended
   is_live : (next : Plan) (feds : List Fed) (rest before : List Answered) (last : Answered) (r : Reply)
-      → IsWalk Goto (settled Goto next) feds rest (Return r) → rest ≡ before ++ last ∷ [] → IsLive next
+      → IsWalk Goto (past_label Goto next) feds rest (Return r) → rest ≡ before ++ last ∷ [] → IsLive next
   is_live (Ask site why o next) feds rest before last r walk are = tt
   is_live (Await wait next) feds rest before last r walk are = tt
   is_live (Note site image event next) feds rest before last r walk are = tt
@@ -95,19 +95,19 @@ module _ (refuses : HeaderView → Option Refusal) (late : Refusal → Type 0) (
   is_live (Goto label) feds rest before last r walk are = jump_ends_otherwise r label feds rest walk
 
   step_more : (changed : Bool) (site : SiteId) (o : Op) (a : Answer) (next : Plan) (feds : List Fed) (rest : List Answered) (r : Reply)
-      → (IsLive next → refusal_by refuses o a ≡ None) → IsWalk Goto (settled Goto next) feds rest (Return r)
+      → (IsLive next → refusal_by refuses o a ≡ None) → IsWalk Goto (past_label Goto next) feds rest (Return r)
       → EndsBy (changed_by changed o) rest r → EndsBy changed (record { site = site; op = o; answer = a } ∷ rest) r
   step_more changed site o a next feds rest r allowed walk (inl granted) = inl granted
   step_more changed site o a next feds rest r allowed walk (inr (x, is, from)) =
       inr (x, is, one_more changed site o a rest x (allowed (is_live next feds rest from.by.before from.by.last r walk from.by.are)) from)
 
-  refusing_settled : (changed : Bool) (plan : Plan) → IsRefusing changed plan → IsRefusing changed (settled Goto plan)
+  refusing_settled : (changed : Bool) (plan : Plan) → IsRefusing changed plan → IsRefusing changed (past_label Goto plan)
   refusing_settled changed plan is = subst (IsRefusing changed) (sym (settled_goto plan)) is
 
   at_last : (changed : Bool) (site : SiteId) (o : Op) (a : Answer) (next : Plan) (feds : List Fed) (rest : List Answered) (r : Reply)
-      → EndsRefused refuses late changed o a next → IsWalk Goto (settled Goto next) feds rest (Return r) → EndsBy changed (record { site = site; op = o; answer = a } ∷ rest) r
+      → EndsRefused refuses late changed o a next → IsWalk Goto (past_label Goto next) feds rest (Return r) → EndsBy changed (record { site = site; op = o; answer = a } ∷ rest) r
   at_last changed site o a next feds rest r is walk =
-      let end = ended (reply.Refused is.why) feds rest (Return r) (subst (λ p. IsWalk Goto (settled Goto p) feds rest (Return r)) is.ends walk) in
+      let end = ended (reply.Refused is.why) feds rest (Return r) (subst (λ p. IsWalk Goto (past_label Goto p) feds rest (Return r)) is.ends walk) in
       let none : rest ≡ [] = end.0 in
       let same : Return r ≡ Return (reply.Refused is.why) = end.1 in
       inr (
@@ -127,7 +127,7 @@ module _ (refuses : HeaderView → Option Refusal) (late : Refusal → Type 0) (
       )
 
   answered : (changed : Bool) (site : SiteId) (o : Op) (a : Answer) (next : Plan) (feds : List Fed) (rest : List Answered) (r : Reply)
-      → (IsRefusing (changed_by changed o) next → EndsBy (changed_by changed o) rest r) → IsWalk Goto (settled Goto next) feds rest (Return r)
+      → (IsRefusing (changed_by changed o) next → EndsBy (changed_by changed o) rest r) → IsWalk Goto (past_label Goto next) feds rest (Return r)
       → Answers changed o a next → EndsBy changed (record { site = site; op = o; answer = a } ∷ rest) r
   answered changed site o a next feds rest r on walk (inl is) = at_last changed site o a next feds rest r is walk
   answered changed site o a next feds rest r on walk (inr (allowed, goes_on)) = step_more changed site o a next feds rest r allowed walk (on goes_on)
@@ -143,13 +143,13 @@ module _ (refuses : HeaderView → Option Refusal) (late : Refusal → Type 0) (
       let given' : AreGiven (record { site = site; op = o; answer = a } ∷ first.rest) = subst AreGiven first.is given in
       subst (λ s. EndsBy changed s r) (sym first.is)
       (answered changed site o a (next a) more first.rest r
-      (λ goes_on. ends_by more (changed_by changed o) (settled Goto (next a)) first.rest r (refusing_settled (changed_by changed o) (next a) goes_on) given'.1 walk) walk (is a given'.0))
+      (λ goes_on. ends_by more (changed_by changed o) (past_label Goto (next a)) first.rest r (refusing_settled (changed_by changed o) (next a) goes_on) given'.1 walk) walk (is a given'.0))
   ends_by (fed.Passed ∷ more) changed (Ask site why o next) steps r is given walk = absurd walk
   ends_by (fed.Passed ∷ more) changed (Await wait next) steps r is given walk =
-      ends_by more changed (settled Goto next) steps r (refusing_settled changed next is) given walk
+      ends_by more changed (past_label Goto next) steps r (refusing_settled changed next is) given walk
   ends_by (fed.Answer a ∷ more) changed (Await wait next) steps r is given walk = absurd walk
   ends_by (fed.Passed ∷ more) changed (Note site image event next) steps r is given walk =
-      ends_by more changed (settled Goto next) steps r (refusing_settled changed next is) given walk
+      ends_by more changed (past_label Goto next) steps r (refusing_settled changed next is) given walk
   ends_by (fed.Answer a ∷ more) changed (Note site image event next) steps r is given walk = absurd walk
   ends_by (f ∷ more) changed (Return s) steps r is given walk = absurd walk
   ends_by (f ∷ more) changed (Goto label) steps r is given walk = absurd walk
@@ -177,7 +177,7 @@ module _ (refuses : HeaderView → Option Refusal) (late : Refusal → Type 0) (
   refusing_header image h (Some x) next is goes_on = inl (record { why = x; is = is; ends = refl; comes = λ was. cc })
 
   pub refusing_change : (site : SiteId) (name : List ℕ) (sharing : Sharing) (act : ℕ → HeaderView → Plan)
-      → ((image : ℕ) (h : HeaderView) → refuses h ≡ None → IsRefusing false (act image h)) → IsRefusing false (change site name sharing refuses act)
+      → ((image : ℕ) (h : HeaderView) → refuses h ≡ None → IsRefusing false (act image h)) → IsRefusing false (change_plan site name sharing refuses act)
   refusing_change site name sharing act acts =
       refusing_find name (joining site sharing refuses act) (λ image.
       refusing_look image (looked site refuses act image) (λ h.

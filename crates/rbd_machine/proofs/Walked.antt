@@ -8,7 +8,7 @@ use Rattle.rbd_kinds.specs.declared.header.HeaderView.{HeaderView}
 use Rattle.rbd_kinds.specs.declared.header_op.HeaderOp.TheVariants as header
 use Rattle.rbd_kinds.specs.declared.operation.Op.TheVariants as op
 use Rattle.rbd_kinds.specs.declared.id.SiteId.{SiteId}
-use Rattle.rbd_kinds.specs.declared.journal.Event.{Event}
+use Rattle.rbd_kinds.specs.declared.journal.JournalEvent.{JournalEvent}
 use Rattle.rbd_kinds.specs.declared.machine.Fed.{Fed}
 use Rattle.rbd_kinds.specs.declared.machine.Fed.TheVariants as fed
 use Rattle.rbd_kinds.specs.declared.operation.Op.{Op}
@@ -17,7 +17,7 @@ use Rattle.rbd_kinds.specs.declared.reply.Reply.{Reply}
 use Rattle.rbd_kinds.specs.declared.reply.Reply.TheVariants as reply
 use Rattle.rbd_machine.specs.Path.{Answered, IsWalk, found, looked_at}
 use Rattle.rbd_machine.specs.Plan.{Plan, Ask, Await, Note, Return, Goto}
-use Rattle.rbd_machine.specs.Steps.{not_there, unless, on_id, on_header, on_bits, on_done, change, joining, looking, looked, holding, owning, owned}
+use Rattle.rbd_machine.specs.Steps.{not_there, unless, on_id, on_header, on_bits, on_done, change_plan, joining, looking, looked, holding, under_lock, owned}
 use Rattle.rbd_machine.specs.Label.{Label}
 use Rattle.rbd_machine.specs.Wait.{Wait}
 use Rattle.rbd_machine.specs.Wait as wait
@@ -107,7 +107,7 @@ awaited_to r wait next [] steps walk = let same = walk.1 in cc
 awaited_to r wait next (fed.Answer a ∷ more) steps walk = absurd walk
 awaited_to r wait next (fed.Passed ∷ more) steps walk = record { more = more; walk = subst (λ p. IsWalk Goto p more steps (Return r)) (settled_goto next) walk }
 
-pub noted_to : (r : Reply) (site : SiteId) (image : ℕ) (event : Event) (next : Plan) (feds : List Fed) (steps : List Answered) → IsWalk Goto (Note site image event next) feds steps (Return r) → Passed (Return r) next steps
+pub noted_to : (r : Reply) (site : SiteId) (image : ℕ) (event : JournalEvent) (next : Plan) (feds : List Fed) (steps : List Answered) → IsWalk Goto (Note site image event next) feds steps (Return r) → Passed (Return r) next steps
 noted_to r site image event next [] steps walk = let same = walk.1 in cc
 noted_to r site image event next (fed.Answer a ∷ more) steps walk = absurd walk
 noted_to r site image event next (fed.Passed ∷ more) steps walk = record { more = more; walk = subst (λ p. IsWalk Goto p more steps (Return r)) (settled_goto next) walk }
@@ -136,7 +136,7 @@ module _ (last : Plan) (kind : EndsUnrefused last) where
   awaited wait next (fed.Answer a ∷ more) steps walk = absurd walk
   awaited wait next (fed.Passed ∷ more) steps walk = record { more = more; walk = subst (λ p. IsWalk Goto p more steps last) (settled_goto next) walk }
 
-  pub noted : (site : SiteId) (image : ℕ) (event : Event) (next : Plan) (feds : List Fed) (steps : List Answered) → IsWalk Goto (Note site image event next) feds steps last → Passed last next steps
+  pub noted : (site : SiteId) (image : ℕ) (event : JournalEvent) (next : Plan) (feds : List Fed) (steps : List Answered) → IsWalk Goto (Note site image event next) feds steps last → Passed last next steps
   noted site image event next [] steps walk = absurd (subst EndsUnrefused walk.1 kind)
   noted site image event next (fed.Answer a ∷ more) steps walk = absurd walk
   noted site image event next (fed.Passed ∷ more) steps walk = record { more = more; walk = subst (λ p. IsWalk Goto p more steps last) (settled_goto next) walk }
@@ -162,7 +162,7 @@ module _ (last : Plan) (kind : EndsUnrefused last) where
   went_past (Some x) next feds steps walk = absurd (refusal_ends_otherwise x feds steps walk)
 
   pub changed : (site : SiteId) (name : List ℕ) (sharing : Sharing) (refuses : HeaderView → Option Refusal) (act : ℕ → HeaderView → Plan) (feds : List Fed) (steps : List Answered)
-      → IsWalk Goto (change site name sharing refuses act) feds steps last → Changed last site name refuses act steps
+      → IsWalk Goto (change_plan site name sharing refuses act) feds steps last → Changed last site name refuses act steps
   changed site name sharing refuses act feds steps walk =
       let w = went_on site reason.Own (op.Directory (directory.Find name)) (on_id (joining site sharing refuses act)) feds steps walk in
       let i = told_image (joining site sharing refuses act) w.answer w.more w.rest w.walk in
@@ -170,7 +170,7 @@ module _ (last : Plan) (kind : EndsUnrefused last) where
       let v = went_on site reason.Own (op.Header i.image header.Get) (on_header (looked site refuses act i.image)) j.more w.rest j.walk in
       let h = told_header (looked site refuses act i.image) v.answer v.more v.rest v.walk in
       let m = went_past (refuses h.header) (holding site refuses act i.image) v.more v.rest h.walk in
-      let l = awaited (wait.Hold site i.image) (owning site refuses act i.image) v.more v.rest m.walk in
+      let l = awaited (wait.Hold site i.image) (under_lock site refuses act i.image) v.more v.rest m.walk in
       let o = went_on site reason.Own (op.Header i.image header.Get) (on_header (owned refuses act i.image)) l.more v.rest l.walk in
       let t = told_header (owned refuses act i.image) o.answer o.more o.rest o.walk in
       let n = went_past (refuses t.header) (act i.image t.header) o.more o.rest t.walk in

@@ -4,7 +4,7 @@ use Rattle.rbd_kinds.specs.declared.machine.Fed.{Fed}
 use Rattle.rbd_kinds.specs.declared.machine.Fed.TheVariants as fed
 use Rattle.rbd_machine.specs.Label.{Label}
 use Rattle.rbd_machine.specs.Path.{Answered, IsPath, IsWalk, IsStep, at_operation, after_answer}
-use Rattle.rbd_machine.specs.Plan.{Plan, Ask, Await, Note, Return, Goto, IsAsking, settled}
+use Rattle.rbd_machine.specs.Plan.{Plan, Ask, Await, Note, Return, Goto, IsAsking, past_label}
 
 module _ (labels : Label → Plan) (asking : (label : Label) → IsAsking (labels label)) where
   at_asking : (plan : Plan) → IsAsking plan → at_operation labels plan ≡ plan
@@ -15,7 +15,7 @@ module _ (labels : Label → Plan) (asking : (label : Label) → IsAsking (label
   at_asking (Goto label) a = absurd a
 
   -- to go to a label first changes no path
-  at_settled : (plan : Plan) → at_operation labels (settled labels plan) ≡ at_operation labels plan
+  at_settled : (plan : Plan) → at_operation labels (past_label labels plan) ≡ at_operation labels plan
   at_settled (Ask site why op next) = refl
   at_settled (Await wait next) = refl
   at_settled (Note site image event next) = refl
@@ -33,13 +33,13 @@ module _ (labels : Label → Plan) (asking : (label : Label) → IsAsking (label
   walk_path [] plan steps last (none, same) = subst (IsPath labels plan) (sym none) tt
   walk_path (fed.Answer a ∷ more) (Ask site why op next) steps last (first, walk) =
       subst (IsPath labels (Ask site why op next)) (sym first.is)
-      ((refl, refl), same_path (settled labels (next a)) (next a) first.rest (at_settled (next a)) (walk_path more (settled labels (next a)) first.rest last walk))
+      ((refl, refl), same_path (past_label labels (next a)) (next a) first.rest (at_settled (next a)) (walk_path more (past_label labels (next a)) first.rest last walk))
   walk_path (fed.Passed ∷ more) (Ask site why op next) steps last walk = absurd walk
   walk_path (fed.Passed ∷ more) (Await wait next) steps last walk =
-      same_path next (Await wait next) steps refl (same_path (settled labels next) next steps (at_settled next) (walk_path more (settled labels next) steps last walk))
+      same_path next (Await wait next) steps refl (same_path (past_label labels next) next steps (at_settled next) (walk_path more (past_label labels next) steps last walk))
   walk_path (fed.Answer a ∷ more) (Await wait next) steps last walk = absurd walk
   walk_path (fed.Passed ∷ more) (Note site image event next) steps last walk =
-      same_path next (Note site image event next) steps refl (same_path (settled labels next) next steps (at_settled next) (walk_path more (settled labels next) steps last walk))
+      same_path next (Note site image event next) steps refl (same_path (past_label labels next) next steps (at_settled next) (walk_path more (past_label labels next) steps last walk))
   walk_path (fed.Answer a ∷ more) (Note site image event next) steps last walk = absurd walk
   walk_path (f ∷ more) (Return reply) steps last walk = absurd walk
   walk_path (f ∷ more) (Goto label) steps last walk = absurd walk

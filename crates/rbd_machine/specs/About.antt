@@ -1,5 +1,5 @@
--- Which operations are a request's own: a first one, which tells its image, and those of that
--- image.
+-- The operations of a request on its image: a first one, whose answer tells the image, and those of
+-- that image.
 use Rattle.std.specs.Prelude.{◌≡◌, ℕ, List, [], ◌∷◌, Option, Some, None}
 use Rattle.rbd_kinds.specs.declared.answer.Answer.TheVariants as answer
 use Rattle.rbd_kinds.specs.declared.children_op.ChildrenOp.TheVariants as child
@@ -29,13 +29,13 @@ AreOfImage site image [] = Unit {0}
 AreOfImage site image (step ∷ steps) =
     (step.site ≡ site) × (image_of step.op ≡ Some image) × AreOfImage site image steps
 
--- the first told the image, and the others are of it
+-- the first operation told the image, and the others are of that image
 pub record GoByImage (site : SiteId) (ask : Op) (first : Answered) (others : List Answered) : Type 0 where
   pub image : ℕ
   pub told : first ≡ record { site = site; op = ask; answer = answer.Id image }
   pub are : AreOfImage site image others
 
--- The first is this one, and the others are of the image that it told.
+-- The first operation is this one, and the others are of the image that it told.
 abbrev pub AreOwn : SiteId → (ask : Op) → List Answered → Type 0
 AreOwn site ask [] = Unit {0}
 AreOwn site ask (first ∷ []) = (first.site ≡ site) × (first.op ≡ ask)

@@ -119,7 +119,7 @@ pub record CanGive (o : Op) (a : Answer) : Type 0 where
   pub word : gives o a ≡ true
   pub form : IsInForm o a
 
--- A request is fed an answer that its operation can give, or has what else it waits for.
+-- A request is fed an answer that its operation can give, or that it has what else it waited for.
 abbrev pub CanBeFed : Plan → Fed → Type 0
 CanBeFed (Ask site why o next) (fed.Answer a) = CanGive o a
 CanBeFed (Await wait next) fed.Passed = Unit {0}

@@ -10,59 +10,59 @@ use Rattle.rbd_kinds.specs.declared.operation.Op.TheVariants as op
 use Rattle.rbd_commands.specs.declared.refusal.Refusal.{Refusal}
 use Rattle.rbd_machine.specs.Answers.{CanGive}
 use Rattle.rbd_machine.specs.Plan.{Plan}
-use Rattle.rbd_machine.specs.Steps.{IsGoing, refused, change, joining, looking, holding, owning}
+use Rattle.rbd_machine.specs.Steps.{IsGoing, refused, change_plan, joining, looking, holding, under_lock}
 use Rattle.rbd_machine.specs.declared.approach.Approach.{Approach}
 use Rattle.rbd_machine.specs.declared.approach.Stage.{Stage}
 use Rattle.rbd_machine.specs.declared.approach.Stage.TheVariants as stage
 use Rattle.rbd_machine.specs.declared.progress.Progress.{Progress}
 use Rattle.rbd_machine.specs.declared.progress.Progress.TheVariants as progress
 
--- what is left of it, with what the change does then
+-- what is left of the way to the look under the lock, with what the change does then
 abbrev pub rest_from : Stage → Approach → (HeaderView → Option Refusal) → (act : ℕ → HeaderView → Plan) → Plan
-rest_from stage.Finding a refuses act = change a.site a.name a.sharing refuses act
+rest_from stage.Finding a refuses act = change_plan a.site a.name a.sharing refuses act
 rest_from (stage.Joining image) a refuses act = joining a.site a.sharing refuses act image
 rest_from (stage.Looking image) a refuses act = looking a.site refuses act image
 rest_from (stage.Holding image) a refuses act = holding a.site refuses act image
-rest_from (stage.Owning image) a refuses act = owning a.site refuses act image
+rest_from (stage.UnderLock image) a refuses act = under_lock a.site refuses act image
 
 abbrev pub rest_of : Approach → (HeaderView → Option Refusal) → (act : ℕ → HeaderView → Plan) → Plan
 rest_of a refuses act = rest_from a.stage a refuses act
 
--- it wants an operation
+-- the change wants an operation at this stage
 abbrev pub IsAskingAt : Stage → Type 0
 IsAskingAt (stage.Joining image) = ⊥
 IsAskingAt (stage.Holding image) = ⊥
 IsAskingAt _ = Unit {0}
 
--- What it may be fed: an answer that its operation can give, or that it may go on.
+-- What the change may be fed: an answer that its operation can give, or that it may go on.
 abbrev pub CanBeFedAt : Stage → (name : List ℕ) → Fed → Type 0
 CanBeFedAt stage.Finding name (fed.Answer a) = CanGive (op.Directory (directory.Find name)) a
 CanBeFedAt (stage.Joining image) name fed.Passed = Unit {0}
 CanBeFedAt (stage.Looking image) name (fed.Answer a) = CanGive (op.Header image header.Get) a
 CanBeFedAt (stage.Holding image) name fed.Passed = Unit {0}
-CanBeFedAt (stage.Owning image) name (fed.Answer a) = CanGive (op.Header image header.Get) a
+CanBeFedAt (stage.UnderLock image) name (fed.Answer a) = CanGive (op.Header image header.Get) a
 CanBeFedAt _ name f = ⊥
 
--- It is at its look under the lock, and was told a header that refuses nothing.
-pub record IsOwned (refuses : HeaderView → Option Refusal) (act : ℕ → HeaderView → Plan) (image : ℕ) (h : HeaderView)
+-- The change is at its look under the lock, and was told a header that refuses nothing.
+pub record IsAllowedUnderLock (refuses : HeaderView → Option Refusal) (act : ℕ → HeaderView → Plan) (image : ℕ) (h : HeaderView)
     (to : Plan) (old : Approach) : Type 0 where
-  pub stage : old.stage ≡ stage.Owning image
+  pub stage : old.stage ≡ stage.UnderLock image
   pub may : refuses h ≡ None
   pub acts : to ≡ act image h
 
 abbrev pub OwnedBy : (HeaderView → Option Refusal) → (act : ℕ → HeaderView → Plan) → (image : ℕ) → Fed → (to : Plan)
     → (old : Approach) → Type 0
-OwnedBy refuses act image (fed.Answer (answer.Header h)) to old = IsOwned refuses act image h to old
+OwnedBy refuses act image (fed.Answer (answer.Header h)) to old = IsAllowedUnderLock refuses act image h to old
 OwnedBy refuses act image _ to old = ⊥
 
--- It went on, or has ended, or the change may do what it does.
+-- The change went on, or has ended, or may do what it does.
 abbrev pub Approaches : (HeaderView → Option Refusal) → (act : ℕ → HeaderView → Plan) → Fed → (to : Plan) → Progress ℕ
     → (old new : Approach) → Type 0
 Approaches refuses act f to progress.More old new = IsGoing to (rest_of new refuses act)
 Approaches refuses act f to (progress.Refused r) old new = to ≡ refused r
 Approaches refuses act f to (progress.Ended image) old new = OwnedBy refuses act image f to old
 
--- the image, where it is at its look under the lock
-abbrev pub owning_at : Stage → Option ℕ
-owning_at (stage.Owning image) = Some image
-owning_at _ = None
+-- the image, where the change is at its look under the lock
+abbrev pub under_lock_at : Stage → Option ℕ
+under_lock_at (stage.UnderLock image) = Some image
+under_lock_at _ = None

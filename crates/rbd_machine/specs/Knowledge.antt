@@ -26,20 +26,19 @@ use Rattle.rbd_machine.specs.Wait.{Wait}
 use Rattle.rbd_machine.specs.Wait as wait
 
 -- an image at a site
-pub record Place : Type 0 where
+pub record ImagePlace : Type 0 where
   pub site : SiteId
   pub image : ℕ
 
--- An image whose lock it waited for, whether it is alone on it, and its header: what the first look
--- behind told, with its own changes since.
+-- An image whose lock the request waited for, whether the request is alone on it, and its header:
+-- what the first look behind told, with the request's own changes since.
 pub record Own : Type 0 where
   pub site : SiteId
   pub image : ℕ
   pub alone : Bool
   pub header : Option HeaderView
 
--- The state of an object at a view, the head (None) or a snapshot, that isn't 0: this request set
--- it.
+-- An object at a view, the head (None) or a snapshot, whose state isn't 0: this request set it.
 pub record Mark : Type 0 where
   pub view : Option ℕ
   pub object : ℕ
@@ -66,7 +65,7 @@ pub record Blank : Type 0 where
 
 -- What is known of the objects of an image's head, by its own changes.
 pub record ObjectsKnown : Type 0 where
-  -- those that aren't there: it removed them
+  -- the objects that aren't there: the request removed them
   pub absent : List ℕ
   pub blank : List Blank
 
@@ -75,27 +74,27 @@ pub record ImageObjects : Type 0 where
   pub image : ℕ
   pub known : ObjectsKnown
 
--- an instance that it put into a site's blocklist
+-- an instance that the request put into a site's blocklist
 pub record Fence : Type 0 where
   pub site : SiteId
   pub instance : Instance
 
 pub record Knowledge : Type 0 where
-  -- whether it joined its line alone
+  -- whether the request joined its line alone
   pub alone : Bool
   pub owns : List Own
-  -- the object at which it has its turn
+  -- the object at which the request has its turn
   pub turn : Option ℕ
-  -- ids that it drew, and made no header of yet
-  pub drawn : List Place
-  -- instances that it fenced, and whose lock it didn't break yet
+  -- ids that the request drew, and made no header of yet
+  pub drawn : List ImagePlace
+  -- instances that the request fenced, and whose lock it didn't break yet
   pub fenced : List Fence
-  -- of images that it drew or owns, the latest first
+  -- maps of images that the request drew or owns, the latest first
   pub maps : List ImageMaps
-  -- of images that it owns, the latest first
+  -- objects of images that the request owns, the latest first
   pub objects : List ImageObjects
-  -- images whose header it removed
-  pub gone : List Place
+  -- images whose header the request removed
+  pub gone : List ImagePlace
 
 abbrev pub nothing_known : Knowledge
 nothing_known =
@@ -107,7 +106,7 @@ abbrev pub own_of : List Own → SiteId → (image : ℕ) → Option Own
 own_of [] site image = None
 own_of (o ∷ owns) site image = if is_at site image o.site o.image then Some o else own_of owns site image
 
-abbrev pub is_drawn : List Place → SiteId → (image : ℕ) → Bool
+abbrev pub is_drawn : List ImagePlace → SiteId → (image : ℕ) → Bool
 is_drawn [] site image = false
 is_drawn (d ∷ drawn) site image = if is_at site image d.site d.image then true else is_drawn drawn site image
 
@@ -121,15 +120,15 @@ maps_of (m ∷ maps) site image = if is_at site image m.site m.image then m.know
 abbrev pub untouched : ObjectsKnown
 untouched = record { absent = []; blank = [] }
 
-abbrev pub objects_of : List ImageObjects → SiteId → (image : ℕ) → ObjectsKnown
-objects_of [] site image = untouched
-objects_of (o ∷ objects) site image = if is_at site image o.site o.image then o.known else objects_of objects site image
+abbrev pub objects_known_of : List ImageObjects → SiteId → (image : ℕ) → ObjectsKnown
+objects_known_of [] site image = untouched
+objects_known_of (o ∷ objects) site image = if is_at site image o.site o.image then o.known else objects_known_of objects site image
 
--- whether it removed the image's header
-abbrev pub is_gone : List Place → SiteId → (image : ℕ) → Bool
+-- whether the request removed the image's header
+abbrev pub is_gone : List ImagePlace → SiteId → (image : ℕ) → Bool
 is_gone = is_drawn
 
--- whether it removed an object
+-- whether the request removed an object
 abbrev pub is_absent : (object : ℕ) → List ℕ → Bool
 is_absent object [] = false
 is_absent object (x ∷ absent) = if x == object then true else is_absent object absent
@@ -155,8 +154,8 @@ unmark m = record m { known = record m.known { raised = [] } }
 abbrev pub unmarked : List ImageMaps → List ImageMaps
 unmarked = map unmark
 
--- At its first look behind the lock all is forgotten that it was told of the image's maps, that it
--- knew of objects by its own changes, and that it waited for before.
+-- At its first look behind the lock the request forgets what it was told of the image's maps
+-- before, what it knew of objects by its own changes, and what it waited for.
 abbrev pub afresh : SiteId → (image : ℕ) → Knowledge → Knowledge
 afresh site image k = record k { turn = None; maps = maps_told site image unmapped (unmarked k.maps); objects = [] }
 
@@ -164,12 +163,12 @@ abbrev pub looked_by : (header : Option HeaderView) → SiteId → (image : ℕ)
 looked_by None site image k = afresh site image k
 looked_by (Some h) site image k = k
 
-abbrev pub looked_owning : Option Own → SiteId → (image : ℕ) → Knowledge → Knowledge
-looked_owning None site image k = k
-looked_owning (Some o) site image k = looked_by o.header site image k
+abbrev pub looked_under_lock : Option Own → SiteId → (image : ℕ) → Knowledge → Knowledge
+looked_under_lock None site image k = k
+looked_under_lock (Some o) site image k = looked_by o.header site image k
 
 abbrev pub looked_behind : SiteId → (image : ℕ) → Knowledge → Knowledge
-looked_behind site image k = looked_owning (own_of k.owns site image) site image k
+looked_behind site image k = looked_under_lock (own_of k.owns site image) site image k
 
 -- The first look behind the lock tells the header. Later ones tell nothing new.
 abbrev pub first_told : HeaderView → Option HeaderView → Option HeaderView
@@ -200,8 +199,8 @@ abbrev pub unfenced : SiteId → Instance → List Fence → List Fence
 unfenced site i [] = []
 unfenced site i (f ∷ fenced) = if is_fence_of site i f then fenced else f ∷ unfenced site i fenced
 
--- One fence serves to break one lock, and is then forgotten. So who goes back to ask for the lock
--- again knows what it knew before.
+-- One fence serves to break one lock, and is then forgotten. So a request that goes back to ask for
+-- the lock again knows what it knew before.
 abbrev pub without_fence : SiteId → Instance → Knowledge → Knowledge
 without_fence site i k = record k { fenced = unfenced site i k.fenced }
 
@@ -220,9 +219,9 @@ abbrev pub is_raised : Option ℕ → (object : ℕ) → List Mark → Bool
 is_raised view object [] = false
 is_raised view object (m ∷ raised) = if is_mark view object m then true else is_raised view object raised
 
--- A state other than 0 is kept in mind, and one that is set to 0 forgotten.
-abbrev pub marked : Option ℕ → (object state : ℕ) → List Mark → List Mark
-marked view object state raised =
+-- A state other than 0 is remembered, and one that is set to 0 forgotten.
+abbrev pub marks_after : Option ℕ → (object state : ℕ) → List Mark → List Mark
+marks_after view object state raised =
     if state == 0 then filter (λ m. not (is_mark view object m)) raised
     else record { view = view; object = object } ∷ raised
 
@@ -241,7 +240,7 @@ learned_of_map k site image (states.Put (Some snap) bits) answer.Done =
     with_maps site image (λ m. record m { put = Some snap }) k
 learned_of_map k site image (states.Set view object state) answer.Done =
     with_maps site image (λ m. record {
-      raised = marked view object state m.raised;
+      raised = marks_after view object state m.raised;
       states = states_set view object state m.states;
       count = m.count;
       put = None;
@@ -254,20 +253,20 @@ learned_of_map k site image _ _ = k
 abbrev pub with_objects : SiteId → (image : ℕ) → (ObjectsKnown → ObjectsKnown) → Knowledge → Knowledge
 with_objects site image change k =
     record k {
-      objects = record { site = site; image = image; known = change (objects_of k.objects site image) }
+      objects = record { site = site; image = image; known = change (objects_known_of k.objects site image) }
           ∷ k.objects;
     }
 
--- it may be there, and have any bytes
+-- an object that may be there, with any bytes
 abbrev pub forgotten : (object : ℕ) → ObjectsKnown → ObjectsKnown
 forgotten object o =
     record { absent = filter (λ x. not (x == object)) o.absent; blank = filter (λ b. not (b.object == object)) o.blank }
 
--- some of its places became zeros
+-- an object of which some places became zeros
 abbrev pub blanked : (object : ℕ) → Option (List Part) → ObjectsKnown → ObjectsKnown
 blanked object parts o = record o { blank = record { object = object; parts = parts } ∷ o.blank }
 
--- it went
+-- an object that was removed
 abbrev pub removed : (object : ℕ) → ObjectsKnown → ObjectsKnown
 removed object o = blanked object None (record o { absent = object ∷ o.absent })
 
@@ -293,9 +292,9 @@ abbrev pub learned_of_directory : Knowledge → SiteId → DirectoryOp → Answe
 learned_of_directory k site (directory.Add name) (answer.Id image) = with_drawn site image k
 learned_of_directory k site _ _ = k
 
--- without what it knows of an image
-abbrev pub left : SiteId → (image : ℕ) → List Own → List Own
-left site image owns = filter (λ o. not (is_at site image o.site o.image)) owns
+-- the images that a request knows, without one
+abbrev pub owns_without : SiteId → (image : ℕ) → List Own → List Own
+owns_without site image owns = filter (λ o. not (is_at site image o.site o.image)) owns
 
 -- the head's map is there, and nothing else is known
 abbrev pub only_there : MapsKnown
@@ -304,7 +303,7 @@ only_there = record { raised = []; states = None; count = Some 0; put = None }
 -- An image without a header is nobody's any more. The map of its head is still there.
 abbrev pub removed_header : SiteId → (image : ℕ) → Knowledge → Knowledge
 removed_header site image k = record k {
-  owns = left site image k.owns;
+  owns = owns_without site image k.owns;
   maps = maps_told site image only_there k.maps;
   gone = record { site = site; image = image } ∷ k.gone;
 }
@@ -334,16 +333,16 @@ learned k site _ a = k
 
 -- ---- what a wait teaches
 
--- What it knew of the image before it has the lock is forgotten.
-abbrev pub held : Knowledge → SiteId → (image : ℕ) → List Own
-held k site image = record { site = site; image = image; alone = k.alone; header = None } ∷ left site image k.owns
+-- A request forgets, when it has the lock, what it knew of the image before.
+abbrev pub owns_when_held : Knowledge → SiteId → (image : ℕ) → List Own
+owns_when_held k site image = record { site = site; image = image; alone = k.alone; header = None } ∷ owns_without site image k.owns
 
--- What is known once it may go on. A turn lasts up to the next, or up to the end of its event, and
--- what it knows of an object by its own changes as long: another request may lower a state, or
--- change the object, in its own turn.
-abbrev pub passed : Knowledge → Wait → Knowledge
-passed k (wait.Join site image sharing) = record k { alone = is_alone sharing }
-passed k (wait.Hold site image) = record k { owns = held k site image; objects = [] }
-passed k (wait.Turn object) = record k { turn = Some object; maps = unmarked k.maps; objects = [] }
-passed k (wait.Applied site image) = record k { turn = None; maps = unmarked k.maps; objects = [] }
-passed k (wait.Leave site image) = record k { owns = left site image k.owns }
+-- What is known once the request may go on. A turn lasts up to the next one, or up to the end of
+-- the request's event. What the request knows of an object by its own changes lasts as long, since
+-- another request may lower a state, or change the object, in its own turn.
+abbrev pub known_after_wait : Knowledge → Wait → Knowledge
+known_after_wait k (wait.Join site image sharing) = record k { alone = is_alone sharing }
+known_after_wait k (wait.Hold site image) = record k { owns = owns_when_held k site image; objects = [] }
+known_after_wait k (wait.Turn object) = record k { turn = Some object; maps = unmarked k.maps; objects = [] }
+known_after_wait k (wait.Applied site image) = record k { turn = None; maps = unmarked k.maps; objects = [] }
+known_after_wait k (wait.Leave site image) = record k { owns = owns_without site image k.owns }

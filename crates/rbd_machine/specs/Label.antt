@@ -2,7 +2,7 @@
 use Rattle.std.specs.Prelude.{ℕ}
 use Rattle.rbd_kinds.specs.declared.header.HeaderView.{HeaderView}
 
--- with what the part rests on
+-- labels, each with what its part rests on
 pub data Label : Type 0 where
   -- the whole request
   Begin : Label

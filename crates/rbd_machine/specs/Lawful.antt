@@ -6,7 +6,7 @@ use Rattle.rbd_kinds.specs.declared.machine.Fed.TheVariants as fed
 use Rattle.rbd_kinds.specs.AnswerForm.{IsInForm}
 use Rattle.rbd_kinds.specs.declared.operation.Op.{Op}
 use Rattle.rbd_machine.specs.Answers.{gives}
-use Rattle.rbd_machine.specs.Knowledge.{Knowledge, nothing_known, learned, passed}
+use Rattle.rbd_machine.specs.Knowledge.{Knowledge, nothing_known, learned, known_after_wait}
 use Rattle.rbd_machine.specs.Label.{Label}
 use Rattle.rbd_machine.specs.Permits.{Permits}
 use Rattle.rbd_machine.specs.Plan.{Plan, Ask, Await, Note, Return, Goto, Standing}
@@ -18,12 +18,13 @@ pub record CanTell (o : Op) (a : Answer) : Type 0 where
   pub form : IsInForm o a
   pub standalone : TellsStandalone a
 
--- Each operation is permitted by what is known there, whatever those before it were answered of
--- what they can tell. A label is gone to with what is known at it.
+-- Each operation is permitted by what is known where it is asked for, whatever the operations
+-- before it were answered of what they can tell. A request goes to a label only with what is known
+-- at that label.
 abbrev pub IsLawful : (at : Label → Knowledge) → Knowledge → Plan → Type 0
 IsLawful at k (Ask site why op next) =
     Permits k site op × ((answer : Answer) → CanTell op answer → IsLawful at (learned k site op answer) (next answer))
-IsLawful at k (Await wait next) = IsLawful at (passed k wait) next
+IsLawful at k (Await wait next) = IsLawful at (known_after_wait k wait) next
 IsLawful at k (Note site image event next) = IsLawful at k next
 IsLawful at k (Return reply) = Unit {0}
 IsLawful at k (Goto label) = k ≡ at label
@@ -37,5 +38,5 @@ pub record IsLawfulRequest (standing : Standing) : Type 0 where
 -- what is known after what it was fed
 abbrev pub known_after : Knowledge → Plan → Fed → Knowledge
 known_after k (Ask site why op next) (fed.Answer answer) = learned k site op answer
-known_after k (Await wait next) fed.Passed = passed k wait
+known_after k (Await wait next) fed.Passed = known_after_wait k wait
 known_after k plan _ = k

@@ -15,3 +15,6 @@ pub mod Permits
 pub mod Lawful
 pub mod About
 pub mod Refused
+pub mod Begun
+pub mod Course
+pub mod Orderly

@@ -1,13 +1,13 @@
--- Walks with jumps: one pass after another, each of them a walk without.
+-- Walks that go to labels: one pass after another, of which each is a walk without a jump.
 use Rattle.std.specs.List.{flat_map}
 use Rattle.std.specs.Prelude.{◌≡◌, ℕ, ◌+◌, List, [], ◌∷◌, ◌++◌}
 use Rattle.rbd_kinds.specs.declared.machine.Fed.{Fed}
 use Rattle.rbd_kinds.specs.declared.machine.Fed.TheVariants as fed
 use Rattle.rbd_machine.specs.Label.{Label}
 use Rattle.rbd_machine.specs.Path.{Answered, IsWalk}
-use Rattle.rbd_machine.specs.Plan.{Plan, Ask, Await, Note, Goto, settled}
+use Rattle.rbd_machine.specs.Plan.{Plan, Ask, Await, Note, Goto, past_label}
 
--- A pass from a plan to a label: its steps are these.
+-- A pass leads from a plan to a label by these steps.
 pub record GoesTo (plan : Plan) (pass : List Answered) : Type 0 where
   pub label : Label
   pub feds : List Fed
@@ -20,8 +20,8 @@ ArePasses labels plan [] left = left ≡ plan
 ArePasses labels plan (pass ∷ passes) left =
     (goes : GoesTo plan pass) × ArePasses labels (labels goes.label) passes left
 
-abbrev pub joined : List (List Answered) → List Answered
-joined = flat_map (λ pass. pass)
+abbrev pub steps_of_passes : List (List Answered) → List Answered
+steps_of_passes = flat_map (λ pass. pass)
 
 -- The steps of a walk are those of passes, each to a label, and then those of a walk without a
 -- jump.
@@ -30,7 +30,7 @@ pub record EndsInPass (labels : Label → Plan) (plan : Plan) (steps : List Answ
   pub left : Plan
   pub pass : List Answered
   pub feds : List Fed
-  pub are : steps ≡ joined passes ++ pass
+  pub are : steps ≡ steps_of_passes passes ++ pass
   pub before : ArePasses labels plan passes left
   pub walk : IsWalk Goto left feds pass last
 
@@ -42,7 +42,7 @@ jumps_at plan = 0
 abbrev pub jumps : (Label → Plan) → Plan → List Fed → ℕ
 jumps labels plan [] = 0
 jumps labels (Ask site why op next) (fed.Answer answer ∷ more) =
-    jumps_at (next answer) + jumps labels (settled labels (next answer)) more
-jumps labels (Await wait next) (fed.Passed ∷ more) = jumps_at next + jumps labels (settled labels next) more
-jumps labels (Note site image event next) (fed.Passed ∷ more) = jumps_at next + jumps labels (settled labels next) more
+    jumps_at (next answer) + jumps labels (past_label labels (next answer)) more
+jumps labels (Await wait next) (fed.Passed ∷ more) = jumps_at next + jumps labels (past_label labels next) more
+jumps labels (Note site image event next) (fed.Passed ∷ more) = jumps_at next + jumps labels (past_label labels next) more
 jumps labels plan (f ∷ more) = 0

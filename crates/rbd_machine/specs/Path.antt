@@ -11,7 +11,7 @@ use Rattle.rbd_kinds.specs.declared.machine.Fed.TheVariants as fed
 use Rattle.rbd_kinds.specs.declared.operation.Op.{Op}
 use Rattle.rbd_kinds.specs.declared.operation.Op.TheVariants as op
 use Rattle.rbd_machine.specs.Label.{Label}
-use Rattle.rbd_machine.specs.Plan.{Plan, Ask, Await, Note, Return, Goto, settled}
+use Rattle.rbd_machine.specs.Plan.{Plan, Ask, Await, Note, Return, Goto, past_label}
 
 -- an operation that was done at a site, and its answer
 pub record Answered : Type 0 where
@@ -60,10 +60,10 @@ pub record IsFirstStep (site : SiteId) (op : Op) (answer : Answer) (steps : List
 abbrev pub IsWalk : (Label → Plan) → Plan → List Fed → (steps : List Answered) → (last : Plan) → Type 0
 IsWalk labels plan [] steps last = (steps ≡ []) × (last ≡ plan)
 IsWalk labels (Ask site why op next) (fed.Answer answer ∷ more) steps last =
-    (first : IsFirstStep site op answer steps) × IsWalk labels (settled labels (next answer)) more first.rest last
-IsWalk labels (Await wait next) (fed.Passed ∷ more) steps last = IsWalk labels (settled labels next) more steps last
+    (first : IsFirstStep site op answer steps) × IsWalk labels (past_label labels (next answer)) more first.rest last
+IsWalk labels (Await wait next) (fed.Passed ∷ more) steps last = IsWalk labels (past_label labels next) more steps last
 IsWalk labels (Note site image event next) (fed.Passed ∷ more) steps last =
-    IsWalk labels (settled labels next) more steps last
+    IsWalk labels (past_label labels next) more steps last
 IsWalk labels plan (f ∷ more) steps last = ⊥
 
 -- The plan has at most n operations, whatever they are answered, up to its end or to a label.

@@ -28,10 +28,10 @@ use Rattle.rbd_kinds.specs.Striping.{byte_at, object_of, offset_of}
 use Rattle.rbd_header.specs.Header.{context_of, is_full, snap_in}
 use Rattle.rbd_layout.specs.Pieces.{IsIn, IsPart}
 use Rattle.rbd_map.specs.States.{states_of}
-use Rattle.rbd_machine.specs.Knowledge.{Knowledge, MapsKnown, ObjectsKnown, own_of, is_absent, is_drawn, is_fenced_by, is_gone, is_raised, maps_of, objects_of}
+use Rattle.rbd_machine.specs.Knowledge.{Knowledge, MapsKnown, ObjectsKnown, own_of, is_absent, is_drawn, is_fenced_by, is_gone, is_raised, maps_of, objects_known_of}
 
--- It has the image's lock, and by its look under the lock, with its own changes since, the header
--- meets a condition.
+-- The request has the image's lock, and the header that it knows, by its look under the lock and
+-- its own changes since, meets a condition.
 pub record OwnsBy (k : Knowledge) (site : SiteId) (image : ℕ) (condition : (alone : Bool) → HeaderView → Type 0)
     : Type 0 where
   pub alone : Bool
@@ -39,7 +39,7 @@ pub record OwnsBy (k : Knowledge) (site : SiteId) (image : ℕ) (condition : (al
   pub is : own_of k.owns site image ≡ Some (record { site = site; image = image; alone = alone; header = Some header })
   pub meets : condition alone header
 
--- the same, of an image on which it is alone
+-- the same, of an image on which the request is alone
 abbrev pub OwnsAlone : Knowledge → SiteId → (image : ℕ) → (HeaderView → Type 0) → Type 0
 OwnsAlone k site image condition = OwnsBy k site image (λ alone h. (alone ≡ true) × condition h)
 
@@ -59,17 +59,17 @@ pub record IsMappedFor (m : MapsKnown) (layout : Layout) (size : ℕ) : Type 0 w
 abbrev pub HasState : MapsKnown → (number : ℕ) → Type 0
 HasState m number = is_raised None number m.raised ≡ true
 
--- The id was drawn by it, so that nobody else knows the image, and the map has at most 2^20
+-- The request drew the id, so that nobody else knows the image, and the map has at most 2^20
 -- objects.
 pub record MayMakeMap (k : Knowledge) (site : SiteId) (image count : ℕ) : Type 0 where
   pub drawn : is_drawn k.drawn site image ≡ true
   pub few : count ≤ 2 ^ 20
 
--- The map of an image's head becomes longer, by who made the image and by who is alone on it.
+-- The map of an image's head becomes longer, by a request that made the image or is alone on it.
 abbrev pub MayLengthen : Knowledge → SiteId → (image count : ℕ) → Type 0
 MayLengthen k site image count = MayMakeMap k site image count ⊎ OwnsAlone k site image (λ h. count ≤ 2 ^ 20)
 
--- A map of the next snapshot is put, with the states of the head that it was told.
+-- The request puts the map of the next snapshot, with the states of the head that it was told.
 pub record MayPut (m : MapsKnown) (snap : ℕ) (bits : List ℕ) (h : HeaderView) : Type 0 where
   pub next : snap ≡ h.snap_seq + 1
   pub told : m.states ≡ Some (states_of bits (4 * length bits))
@@ -77,8 +77,8 @@ pub record MayPut (m : MapsKnown) (snap : ℕ) (bits : List ℕ) (h : HeaderView
 
 -- ---- headers
 
--- The id was drawn by it, and the header is a new one, with neither parent nor journal. The image's
--- map is there, and has all of its objects.
+-- The request drew the id, and the header is a new one, with neither parent nor journal. The
+-- image's map is there, and has all of its objects.
 pub record MayMake (k : Knowledge) (site : SiteId) (image : ℕ) (view : HeaderView) : Type 0 where
   pub drawn : is_drawn k.drawn site image ≡ true
   pub new : IsNewHeader view
@@ -93,12 +93,12 @@ pub record IsZeroByState (m : MapsKnown) (h : HeaderView) (x : ℕ) : Type 0 whe
   pub told : m.states ≡ Some states
   pub none : slice_index states (object_of h.layout x) ≡ 0
 
-abbrev pub IsAmong : Option (List Part) → (x : ℕ) → Type 0
-IsAmong None x = Unit {0}
-IsAmong (Some parts) x = Any (IsIn x) parts
+abbrev pub IsInParts : Option (List Part) → (x : ℕ) → Type 0
+IsInParts None x = Unit {0}
+IsInParts (Some parts) x = Any (IsIn x) parts
 
 abbrev pub IsZeroByChange : ObjectsKnown → HeaderView → (x : ℕ) → Type 0
-IsZeroByChange o h x = Any (λ b. (b.object ≡ object_of h.layout x) × IsAmong b.parts x) o.blank
+IsZeroByChange o h x = Any (λ b. (b.object ≡ object_of h.layout x) × IsInParts b.parts x) o.blank
 
 -- The size keeps its limits. Where it grows, the head's map has the new objects; where it shrinks,
 -- the bytes that go are zeros, so that an image which grows again shows zeros there.
@@ -108,7 +108,7 @@ pub record MaySize (m : MapsKnown) (o : ObjectsKnown) (to : ℕ) (h : HeaderView
   pub zeroed : (x : ℕ) → to ≤ x → x < h.size → IsZeroByState m h x ⊎ IsZeroByChange o h x
 
 -- The name isn't listed, and one more snapshot can be. The snapshot's map was put.
-pub record MayTake (m : MapsKnown) (name : List ℕ) (h : HeaderView) : Type 0 where
+pub record MayTakeSnap (m : MapsKnown) (name : List ℕ) (h : HeaderView) : Type 0 where
   pub unlisted : snap_named h.snaps name ≡ None
   pub has_room : is_full h ≡ false
   pub put : m.put ≡ Some (h.snap_seq + 1)
@@ -121,14 +121,14 @@ pub record MayRemove (snap : ℕ) (h : HeaderView) : Type 0 where
 
 -- ---- locks
 
--- It waited for the image's lock, alone, and hasn't looked at the header behind it. So it relies on
--- none, and may give the lock up.
+-- The request waited for the image's lock, alone, and hasn't looked at the header since. So it
+-- relies on no header, and may give the lock up.
 pub record HoldsUnlooked (k : Knowledge) (site : SiteId) (image : ℕ) : Type 0 where
   pub is : own_of k.owns site image ≡ Some (record { site = site; image = image; alone = true; header = None })
 
 -- ---- objects
 
--- It is alone on the image, or has its turn at the object.
+-- The request is alone on the image, or has its turn at the object.
 abbrev pub HasTurn : (alone : Bool) → Option ℕ → (number : ℕ) → Type 0
 HasTurn true turn number = Unit {0}
 HasTurn false turn number = turn ≡ Some number
@@ -176,8 +176,8 @@ pub record MayEmpty (m : MapsKnown) (turn : Option ℕ) (number : ℕ) (context 
   pub raised : HasState m number
 
 -- no byte of the object is inside the overlap
-abbrev pub IsOutside : HeaderView → (number : ℕ) → Type 0
-IsOutside h number = (link : ParentLink) → h.parent ≡ Some link → link.overlap ≤ byte_at h.layout number 0
+abbrev pub IsOutsideOverlap : HeaderView → (number : ℕ) → Type 0
+IsOutsideOverlap h number = (link : ParentLink) → h.parent ≡ Some link → link.overlap ≤ byte_at h.layout number 0
 
 -- An object goes, unless its parent's bytes would show then.
 pub record MayRemoveObject (turn : Option ℕ) (number : ℕ) (context : SnapContext) (alone : Bool)
@@ -185,7 +185,7 @@ pub record MayRemoveObject (turn : Option ℕ) (number : ℕ) (context : SnapCon
   pub under : context ≡ context_of h
   pub within : IsObjectOf h number
   pub at_turn : HasTurn alone turn number
-  pub outside : IsOutside h number
+  pub outside : IsOutsideOverlap h number
 
 -- An object becomes these bytes, of which those past the size are zeros, behind its state.
 pub record MayReplace (m : MapsKnown) (turn : Option ℕ) (number : ℕ) (context : SnapContext) (bytes : List ℕ)
@@ -197,14 +197,15 @@ pub record MayReplace (m : MapsKnown) (turn : Option ℕ) (number : ℕ) (contex
   pub long : length bytes ≤ h.layout.object
   pub clear : (x : ℕ) → h.size ≤ x → object_of h.layout x ≡ number → slice_index bytes (offset_of h.layout x) ≡ 0
 
--- What is left of an image that it removed may go: it owns it no more.
+-- What is left of an image whose header the request removed may go: the request doesn't own the
+-- image any more.
 pub record IsLeftOver (k : Knowledge) (site : SiteId) (image : ℕ) : Type 0 where
   pub gone : is_gone k.gone site image ≡ true
   pub unowned : own_of k.owns site image ≡ None
 
 -- ---- all operations
 
--- A name is freed by who is alone on its image.
+-- A name is freed by a request that is alone on its image.
 abbrev pub PermitsOnDirectory : Knowledge → SiteId → DirectoryOp → Type 0
 PermitsOnDirectory k site (directory.Find name) = Unit {0}
 PermitsOnDirectory k site (directory.Add name) = Unit {0}
@@ -218,9 +219,9 @@ abbrev pub PermitsOnHeader : Knowledge → SiteId → (image : ℕ) → HeaderOp
 PermitsOnHeader k site image header.Get = Unit {0}
 PermitsOnHeader k site image (header.Create view) = MayMake k site image view
 PermitsOnHeader k site image (header.SetSize to) =
-    OwnsAlone k site image (MaySize (maps_of k.maps site image) (objects_of k.objects site image) to)
+    OwnsAlone k site image (MaySize (maps_of k.maps site image) (objects_known_of k.objects site image) to)
 PermitsOnHeader k site image header.Remove = OwnsAlone k site image (λ h. h.snaps ≡ [])
-PermitsOnHeader k site image (header.SnapAdd name) = OwnsAlone k site image (MayTake (maps_of k.maps site image) name)
+PermitsOnHeader k site image (header.SnapAdd name) = OwnsAlone k site image (MayTakeSnap (maps_of k.maps site image) name)
 PermitsOnHeader k site image (header.SnapRemove snap) = OwnsAlone k site image (MayRemove snap)
 PermitsOnHeader k site image header.LockTake = Unit {0}
 PermitsOnHeader k site image header.LockDrop = HoldsUnlooked k site image
@@ -253,7 +254,7 @@ PermitsOnMap k site image (states.Get view) = Unit {0}
 PermitsOnMap k site image (states.Put (Some snap) bits) =
     OwnsAlone k site image (MayPut (maps_of k.maps site image) snap bits)
 PermitsOnMap k site image (states.Set None object state) =
-    OwnsBy k site image (MaySet (objects_of k.objects site image) k.turn object state)
+    OwnsBy k site image (MaySet (objects_known_of k.objects site image) k.turn object state)
 PermitsOnMap k site image (states.Remove None) = IsLeftOver k site image × IsSome (maps_of k.maps site image).count
 PermitsOnMap k site image (states.Remove (Some snap)) =
     IsLeftOver k site image ⊎ OwnsAlone k site image (λ h. snap_in h.snaps snap ≡ None)

@@ -2,11 +2,11 @@
 use Rattle.std.specs.Prelude.{◌≡◌, ℕ}
 use Rattle.rbd_kinds.specs.declared.answer.Answer.{Answer}
 use Rattle.rbd_kinds.specs.declared.id.SiteId.{SiteId}
-use Rattle.rbd_kinds.specs.declared.journal.Event.{Event}
+use Rattle.rbd_kinds.specs.declared.journal.JournalEvent.{JournalEvent}
 use Rattle.rbd_kinds.specs.declared.machine.Fed.{Fed}
 use Rattle.rbd_kinds.specs.declared.machine.Fed.TheVariants as fed
-use Rattle.rbd_kinds.specs.declared.machine.Turn.{Turn}
-use Rattle.rbd_kinds.specs.declared.machine.Turn.TheVariants as turn
+use Rattle.rbd_kinds.specs.declared.machine.Flow.{Flow}
+use Rattle.rbd_kinds.specs.declared.machine.Flow.TheVariants as flow
 use Rattle.rbd_kinds.specs.declared.machine.Want.{Want}
 use Rattle.rbd_kinds.specs.declared.machine.Want.TheVariants as want
 use Rattle.rbd_kinds.specs.declared.operation.Op.{Op}
@@ -24,7 +24,7 @@ pub data Plan : Type 0 where
   -- something else that it waits for, and how it goes on once it has it
   Await : Wait → Plan → Plan
   -- its event is to be noted in the journal of an image
-  Note : SiteId → (image : ℕ) → Event → Plan → Plan
+  Note : SiteId → (image : ℕ) → JournalEvent → Plan → Plan
   -- it has ended
   Return : Reply → Plan
   Goto : Label → Plan
@@ -81,19 +81,19 @@ plan_after (Await wait next) fed.Passed = next
 plan_after (Note site image event next) fed.Passed = next
 plan_after plan _ = plan
 
-abbrev pub settled : (Label → Plan) → Plan → Plan
-settled labels (Goto label) = labels label
-settled labels plan = plan
+abbrev pub past_label : (Label → Plan) → Plan → Plan
+past_label labels (Goto label) = labels label
+past_label labels plan = plan
 
 -- It stands where it was to go on, and wants something there.
 pub record IsLeft (labels : Label → Plan) (to : Plan) (new : Standing) : Type 0 where
   pub live : IsLive new.plan
-  pub stands : new ≡ record { labels = labels; plan = settled labels to }
+  pub stands : new ≡ record { labels = labels; plan = past_label labels to }
 
 -- A machine that was to go on with a plan went on there, or is done with the plan's reply.
-abbrev pub GoesOn : (Label → Plan) → (to : Plan) → Turn → (new : Standing) → Type 0
-GoesOn labels to turn.More new = IsLeft labels to new
-GoesOn labels to (turn.Done reply) new = to ≡ Return reply
+abbrev pub GoesOn : (Label → Plan) → (to : Plan) → Flow → (new : Standing) → Type 0
+GoesOn labels to flow.More new = IsLeft labels to new
+GoesOn labels to (flow.Done reply) new = to ≡ Return reply
 
 -- Each label that is gone to stands at an operation.
 abbrev pub IsClosed : (Label → Plan) → Plan → Type 0

@@ -103,11 +103,11 @@ look site image next = own site (op.Header image header.Get) (on_header next)
 abbrev pub owned : (HeaderView → Option Refusal) → (act : ℕ → HeaderView → Plan) → (image : ℕ) → HeaderView → Plan
 owned refuses act image h = unless (refuses h) (act image h)
 
-abbrev pub owning : SiteId → (HeaderView → Option Refusal) → (act : ℕ → HeaderView → Plan) → (image : ℕ) → Plan
-owning site refuses act image = look site image (owned refuses act image)
+abbrev pub under_lock : SiteId → (HeaderView → Option Refusal) → (act : ℕ → HeaderView → Plan) → (image : ℕ) → Plan
+under_lock site refuses act image = look site image (owned refuses act image)
 
 abbrev pub holding : SiteId → (HeaderView → Option Refusal) → (act : ℕ → HeaderView → Plan) → (image : ℕ) → Plan
-holding site refuses act image = Await (wait.Hold site image) (owning site refuses act image)
+holding site refuses act image = Await (wait.Hold site image) (under_lock site refuses act image)
 
 abbrev pub looked : SiteId → (HeaderView → Option Refusal) → (act : ℕ → HeaderView → Plan) → (image : ℕ)
     → HeaderView → Plan
@@ -120,9 +120,9 @@ abbrev pub joining : SiteId → Sharing → (HeaderView → Option Refusal) → 
     → (image : ℕ) → Plan
 joining site sharing refuses act image = Await (wait.Join site image sharing) (looking site refuses act image)
 
-abbrev pub change : SiteId → (name : List ℕ) → Sharing → (HeaderView → Option Refusal)
+abbrev pub change_plan : SiteId → (name : List ℕ) → Sharing → (HeaderView → Option Refusal)
     → (act : ℕ → HeaderView → Plan) → Plan
-change site name sharing refuses act = find site name (joining site sharing refuses act)
+change_plan site name sharing refuses act = find site name (joining site sharing refuses act)
 
 -- ---- refusals
 

@@ -4,8 +4,8 @@ ghost use Rattle.rbd_kinds.specs.declared.header.HeaderView.{HeaderView};
 ghost use Rattle.rbd_kinds.specs.declared.machine.Fed.TheVariants as fed_with;
 ghost use Rattle.rbd_commands.specs.declared.refusal.Refusal.{Refusal};
 ghost use Rattle.rbd_machine.specs.Plan.{Plan, Wants, Asks, plan_after};
-ghost use Rattle.rbd_machine.specs.Steps.{change};
-ghost use Rattle.rbd_machine.specs.Approach.{rest_of, Approaches, owning_at, IsAskingAt, CanBeFedAt};
+ghost use Rattle.rbd_machine.specs.Steps.{change_plan};
+ghost use Rattle.rbd_machine.specs.Approach.{rest_of, Approaches, under_lock_at, IsAskingAt, CanBeFedAt};
 
 use crate::looks::{dir_find, header_get};
 use crate::progress::Progress;
@@ -34,7 +34,7 @@ pub trait Refuses {
 ///    │ header
 /// Holding   the lock
 ///    │
-/// Owning    header-get   ──none──▶ NoImage, or a refusal by this header
+/// UnderLock    header-get   ──none──▶ NoImage, or a refusal by this header
 ///    │ header
 ///    ▼
 /// what the change does
@@ -56,7 +56,7 @@ pub enum Stage {
     Joining(ImageId),
     Looking(ImageId),
     Holding(ImageId),
-    Owning(ImageId),
+    UnderLock(ImageId),
 }
 
 impl Approach {
@@ -64,7 +64,7 @@ impl Approach {
     /// image's line, or is alone there. It takes no memory.
     pub fn new(site: SiteId, name: Name, sharing: Sharing) -> Self
         ensures { (refuses : HeaderView → Option Refusal) (act : ℕ → HeaderView → Plan)
-            → rest_of result refuses act ≡ change site name sharing refuses act }
+            → rest_of result refuses act ≡ change_plan site name sharing refuses act }
     {
         Approach {
             site,
@@ -98,7 +98,7 @@ impl Approach {
                 site,
                 image: *image,
             },
-            Stage::Owning(_) => Want::Op {
+            Stage::UnderLock(_) => Want::Op {
                 site,
                 kind: OpKind::HeaderGet,
             },
@@ -116,16 +116,16 @@ impl Approach {
             Stage::Joining(_) => unreachable!(),
             Stage::Looking(image) => Ok(header_get(*image)),
             Stage::Holding(_) => unreachable!(),
-            Stage::Owning(image) => Ok(header_get(*image)),
+            Stage::UnderLock(image) => Ok(header_get(*image)),
         }
     }
 
     /// The image, where it is at its look under the lock.
-    pub fn owning(&self) -> Option<ImageId>
-        ensures { result ≡ owning_at self.now.stage }
+    pub fn under_lock(&self) -> Option<ImageId>
+        ensures { result ≡ under_lock_at self.now.stage }
     {
         match &self.stage {
-            Stage::Owning(image) => Some(*image),
+            Stage::UnderLock(image) => Some(*image),
             _ => None,
         }
     }
@@ -159,10 +159,10 @@ impl Approach {
             }
             Stage::Looking(_) => unreachable!(),
             Stage::Holding(image) => {
-                self.stage = Stage::Owning(*image);
+                self.stage = Stage::UnderLock(*image);
                 Progress::More
             }
-            Stage::Owning(_) => unreachable!(),
+            Stage::UnderLock(_) => unreachable!(),
         }
     }
 
@@ -195,7 +195,7 @@ impl Approach {
                 Err(refusal) => Progress::Refused(refusal),
             },
             Stage::Holding(_) => unreachable!(),
-            Stage::Owning(image) => match told_header(answer) {
+            Stage::UnderLock(image) => match told_header(answer) {
                 Ok(header) => match rule.refusal(header) {
                     None => Progress::Ended(*image),
                     Some(refusal) => Progress::Refused(refusal),

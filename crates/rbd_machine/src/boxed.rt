@@ -3,7 +3,7 @@ ghost use Rattle.std.specs.Prelude.{◌≡◌, IfOk};
 
 use crate::machine::Machine;
 use crate::reason::Reason;
-use rbd_kinds::{Fed, NoMemory, Op, Turn, Want};
+use rbd_kinds::{Fed, Flow, NoMemory, Op, Want};
 use std::alloc::Global;
 use std::marker::Model;
 
@@ -59,7 +59,7 @@ impl<M: Machine + Drop> Machine for Boxed<M> {
         self.held.ready(alloc, fed)
     }
 
-    fn feed(&mut self, fed: &Fed) -> Turn {
+    fn feed(&mut self, fed: &Fed) -> Flow {
         self.held.feed(fed)
     }
 }

@@ -11,7 +11,7 @@ ghost use Rattle.rbd_kinds.specs.declared.map_op.MapOp.TheVariants.{Remove as Re
 ghost use Rattle.rbd_kinds.specs.declared.operation.Op.{Op};
 ghost use Rattle.rbd_kinds.specs.declared.operation.Op.TheVariants.{BlockAdd, Data, Directory, Header, Map};
 ghost use Rattle.rbd_header.specs.Header.{context_of, snap_in};
-ghost use Rattle.rbd_machine.specs.Knowledge.{Knowledge, is_absent, is_fenced_by, is_gone, is_raised, learned, maps_of, objects_of, only_there, own_of, same_site};
+ghost use Rattle.rbd_machine.specs.Knowledge.{Knowledge, is_absent, is_fenced_by, is_gone, is_raised, learned, maps_of, objects_known_of, only_there, own_of, same_site};
 ghost use Rattle.rbd_machine.specs.Permits.{Permits};
 ghost use Rattle.rbd_kinds.specs.declared.header.HeaderView.{HeaderView};
 ghost use Rattle.rbd_kinds.specs.declared.id.Instance.{Instance};
@@ -26,12 +26,12 @@ ghost use Rattle.rbd_kinds.specs.declared.answer.Answer.{Answer};
 ghost use Rattle.rbd_kinds.specs.declared.answer.Answer.TheVariants.{Changed, Done};
 ghost use Rattle.rbd_machine.specs.Answers.{CanBeFed};
 ghost use Rattle.rbd_machine.specs.Lawful.{IsLawful, known_after};
-ghost use Rattle.rbd_machine.specs.Plan.{Plan, Ask, IsAsking, IsLive, IsNoting, Wants, settled, plan_after};
+ghost use Rattle.rbd_machine.specs.Plan.{Plan, Ask, IsAsking, IsLive, IsNoting, Wants, past_label, plan_after};
 ghost use Rattle.rbd_machine.specs.declared.reason.Reason.{Reason};
 ghost use Rattle.rbd_machine.specs.Path.{Answered, IsPath, IsPass, IsWalk, IsBounded};
 ghost use Rattle.rbd_machine.specs.Passes.{EndsInPass, jumps};
 ghost use Rattle.rbd_machine.specs.Standalone.{IsFedStandalone};
-ghost use Rattle.rbd_machine.specs.Steps.{change};
+ghost use Rattle.rbd_machine.specs.Steps.{change_plan};
 
 /// A request that wants an operation has one to ask for, and where one wants an event noted, its
 /// plan says which.
@@ -43,7 +43,7 @@ pub fn what_is_wanted_is_there()
 {}
 
 /// The operations that a request asks for, with the answers that it is fed, are a path of its plan,
-/// whatever it is fed between. Each label of the plan stands at an operation.
+/// whatever else it is fed in between. Each label of the plan stands at an operation.
 pub fn walks_are_paths()
     ensures { (labels : Label → Plan) → ((label : Label) → IsAsking (labels label))
         → (feds : List Fed) (plan : Plan) (steps : List Answered) (last : Plan)
@@ -55,16 +55,16 @@ pub fn paths_keep_bounds()
     ensures { (n : ℕ) (plan : Plan) (path : List Answered) → IsBounded plan n → IsPass plan path → length path ≤ n }
 {}
 
-/// A walk that goes to labels is passes one after another: each goes from where the one before went
-/// to its own label, and the last, which ends where the walk does, goes to none. Its steps are
-/// theirs.
+/// A walk that goes to labels consists of passes: each begins where the one before it went to its
+/// own label, and the last one ends where the walk does, and goes to no label. The steps of the
+/// walk are those of its passes.
 pub fn walks_end_in_a_pass()
     ensures { (labels : Label → Plan) (plan : Plan) (feds : List Fed) (steps : List Answered) (last : Plan)
         → IsWalk labels plan feds steps last → EndsInPass labels plan steps last }
 {}
 
-/// A walk has at most as many operations as its plan, and for each label that it goes to as many as
-/// the plan at a label.
+/// A walk has at most as many operations as its plan, and beside these, for each label that it goes
+/// to, at most as many as the plan at a label.
 pub fn walks_keep_bounds()
     ensures { (labels : Label → Plan) (plan : Plan) (feds : List Fed) (steps : List Answered) (last : Plan) (n each : ℕ)
         → IsBounded plan n → ((label : Label) → IsBounded (labels label) each) → IsWalk labels plan feds steps last
@@ -76,12 +76,12 @@ pub fn changes_look_twice()
     ensures { (site : SiteId) (name : List ℕ) (sharing : Sharing) (refuses : HeaderView → Option Refusal)
         (act : ℕ → HeaderView → Plan) (n : ℕ)
         → ((image : ℕ) (h : HeaderView) → IsBounded (act image h) n)
-        → IsBounded (change site name sharing refuses act) (n + 3) }
+        → IsBounded (change_plan site name sharing refuses act) (n + 3) }
 {}
 
 /// A request changes an image only after it read the header under the lock: before, no bytes are
 /// written, cleared or replaced, no size is set, no snapshot is taken or removed, no name is freed
-/// and no header removed. An object is removed with its image, or by who owns that.
+/// and no header removed. An object is removed with its image, or by the owner of the image.
 pub fn what_is_not_owned_is_left()
     ensures bytes { (k : Knowledge) (site : SiteId) (image number : ℕ) (context : SnapContext) (must : Bool)
         (parts : List Part) (bytes : List ℕ)
@@ -108,9 +108,9 @@ pub fn what_is_not_owned_is_left()
         → own_of k.owns site image ≡ None → Permits k site (Header image RemoveHeader) → ⊥ }
 {}
 
-/// By its look under the lock a request may not write under another snapshot context than that
-/// look's, nor remove a snapshot that it lists as protected.
-pub fn the_own_look_decides()
+/// A request that goes by its look under the lock may neither write under another snapshot context
+/// than that look's, nor remove a snapshot that the look lists as protected.
+pub fn the_look_under_lock_decides()
     ensures context { (k : Knowledge) (site : SiteId) (image number : ℕ) (alone : Bool) (h : HeaderView)
         (context : SnapContext) (must : Bool) (parts : List Part) (bytes : List ℕ)
         → own_of k.owns site image ≡ Some (record { site = site; image = image; alone = alone; header = Some h })
@@ -136,7 +136,7 @@ pub fn maps_come_first()
         → is_raised None number (maps_of k.maps site image).raised ≡ false
         → Permits k site (Data image number (WriteFull context bytes)) → ⊥ }
     ensures lowering { (k : Knowledge) (site : SiteId) (image number : ℕ)
-        → is_absent number (objects_of k.objects site image).absent ≡ false
+        → is_absent number (objects_known_of k.objects site image).absent ≡ false
         → Permits k site (Map image (Set None number 0)) → ⊥ }
     ensures taking { (k : Knowledge) (site : SiteId) (image : ℕ) (name : List ℕ)
         → (maps_of k.maps site image).put ≡ None → Permits k site (Header image (SnapAdd name)) → ⊥ }
@@ -176,9 +176,9 @@ pub fn locks_end_by_what_is_known()
         → Permits k site (Header image LockDrop) → ⊥ }
 {}
 
-/// A fence that was put up is known to be that instance's at that site, and nobody else's. Once the
-/// lock was broken, or wasn't the owner's any more, it is forgotten, and what is known is what was
-/// known before the fence.
+/// A fence that was put up is known of that instance at that site, and of no other. Once the lock
+/// was broken, or wasn't the owner's any more, the fence is forgotten: what is known then is what
+/// was known before it.
 pub fn fences_serve_once()
     ensures known { (k : Knowledge) (site : SiteId) (i : Instance)
         → is_fenced_by (learned k site (BlockAdd i) Done).fenced site i ≡ true }
@@ -192,8 +192,8 @@ pub fn fences_serve_once()
         → learned (learned k site (BlockAdd i) Done) site (Header image (LockBreak i)) Changed ≡ k }
 {}
 
-/// A lawful request asks only for what it may by what it knows, and stays lawful by what it then
-/// knows, whatever it is fed, as long as no header that it is told has a parent or a journal.
+/// A lawful request asks only for what it may by what it knows. It stays lawful by what it knows
+/// then, whatever it is fed, as long as no header that it is told has a parent or a journal.
 pub fn lawful_requests_stay_lawful()
     ensures asks { (at : Label → Knowledge) (k : Knowledge) (site : SiteId) (why : Reason) (op : Op)
         (next : Answer → Plan)
@@ -202,5 +202,5 @@ pub fn lawful_requests_stay_lawful()
         → ((label : Label) → IsLawful at (at label) (labels label))
         → (k : Knowledge) (plan : Plan) (f : Fed)
         → CanBeFed plan f → IsFedStandalone f → IsLawful at k plan
-        → IsLawful at (known_after k plan f) (settled labels (plan_after plan f)) }
+        → IsLawful at (known_after k plan f) (past_label labels (plan_after plan f)) }
 {}

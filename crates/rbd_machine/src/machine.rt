@@ -6,7 +6,7 @@ ghost use Rattle.rbd_machine.specs.Answers.{CanBeFed};
 ghost use Rattle.rbd_machine.specs.Ready.{IsReadyFor};
 
 use crate::reason::Reason;
-use rbd_kinds::{Fed, NoMemory, Op, Turn, Want};
+use rbd_kinds::{Fed, Flow, NoMemory, Op, Want};
 use std::alloc::Global;
 
 /// A request as a machine that wants one thing at a time. It does nothing itself: whoever holds it
@@ -19,7 +19,7 @@ use std::alloc::Global;
 ///      wants ──Op──────▶ next ──▶ the operation is done ──answer──▶ ready, feed ──More──┐
 ///        │                                                              ▲              │
 ///        ├──Note───────▶ it is noted ───────────────────────────────────┤              │
-///        └──Join, Hold, Turn, Applied, Leave ──▶ it may go on ──Passed──┘     ┌─Done───┴──▶ its reply
+///        └──Join, Hold, Flow, Applied, Leave ──▶ it may go on ──Passed──┘     ┌─Done───┴──▶ its reply
 /// ```
 ///
 /// Contracts see where it stands: the plan that is left. What it wants stays the same until it is
@@ -56,7 +56,7 @@ pub trait Machine {
 
     /// Goes on with what it is fed. Where it isn't done there is something that it wants. It takes
     /// no memory.
-    fn feed(&mut self, fed: &Fed) -> Turn
+    fn feed(&mut self, fed: &Fed) -> Flow
         requires can { CanBeFed (stands self.old).plan fed.now }
         requires ready { IsReadyFor (is_ready self.old) fed.now }
         ensures { GoesOn (stands self.old).labels (plan_after (stands self.old).plan fed.now)

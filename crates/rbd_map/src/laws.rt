@@ -4,9 +4,9 @@ ghost use Rattle.rbd_kinds.specs.States.{HoldStates, state_at};
 ghost use Rattle.rbd_map.specs.States.{AreStates, bits_of, states_of};
 ghost use Rattle.rbd_map.specs.Covers.{Covers};
 
-/// The states come back from their bytes, and each object's state alone does. There are as many
-/// bytes as four objects in each need, and none of them holds a state 3, past the last object
-/// either.
+/// The states are read back from their bytes, all together and each object's alone. There are as
+/// many bytes as four objects in each need, and no two bits of them say state 3, not even past the
+/// last object.
 pub fn bits_and_states()
     ensures back { (states : List ℕ) → AreStates states → states_of (bits_of states) (length states) ≡ states }
 
@@ -17,8 +17,9 @@ pub fn bits_and_states()
     ensures form { (states : List ℕ) → AreStates states → HoldStates (bits_of states) }
 {}
 
-/// A map goes on to cover the objects where it grows, where an object's state is raised, whatever
-/// happens to this object, and where the state of an object that isn't there becomes 0.
+/// A map that covers the objects goes on to do so where it grows, where the state of an object is
+/// raised, whatever happens to that object, and where the state of an object that isn't there
+/// becomes 0.
 pub fn covering_is_kept()
     ensures first { Covers [] (λ object. false) }
 

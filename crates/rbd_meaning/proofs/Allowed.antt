@@ -9,7 +9,7 @@ use Rattle.rbd_commands.specs.declared.refusal.Refusal.TheVariants as refusal
 use Rattle.rbd_kinds.specs.Header.{snap_named}
 use Rattle.rbd_header.specs.Header.{is_full}
 use Rattle.rbd_machine.specs.Knowledge.{MapsKnown}
-use Rattle.rbd_machine.specs.Permits.{MayTake}
+use Rattle.rbd_machine.specs.Permits.{MayTakeSnap}
 use Rattle.rbd_machine.specs.Steps.{non_primary}
 use Rattle.rbd_machine.proofs.Lawful.{or_else_none}
 use Rattle.rbd_meaning.specs.Removals.{image_removal_refuses, snaps_refuse}
@@ -25,7 +25,7 @@ pub takes_one_more : (snap : List ℕ) (h : HeaderView) → create_refuses snap 
 takes_one_more snap h none = unlisted (snap_named h.snaps snap) (is_full h) (or_else_none (non_primary h.role) _ none)
 
 -- so the snapshot may be taken behind its map
-pub may_take : (m : MapsKnown) (snap : List ℕ) (h : HeaderView) → create_refuses snap h ≡ None → m.put ≡ Some (h.snap_seq + 1) → MayTake m snap h
+pub may_take : (m : MapsKnown) (snap : List ℕ) (h : HeaderView) → create_refuses snap h ≡ None → m.put ≡ Some (h.snap_seq + 1) → MayTakeSnap m snap h
 may_take m snap h none put =
     let are = takes_one_more snap h none in
     record { unlisted = are.0; has_room = are.1; put = put }

@@ -18,7 +18,7 @@ use Rattle.rbd_machine.specs.Path.{Answered, IsWalk, found, looked_at}
 use Rattle.rbd_machine.specs.Plan.{Plan, Return, Goto}
 use Rattle.rbd_machine.specs.Refused.{AreAllowed, AreGiven, AreLooks, IsGiven, IsRefusedBy, refusal_by}
 use Rattle.rbd_kinds.proofs.Results.{same_refusal}
-use Rattle.rbd_machine.specs.Steps.{on_id, on_header, unless, change, joining, looking, looked, holding, owning, owned}
+use Rattle.rbd_machine.specs.Steps.{on_id, on_header, unless, change_plan, joining, looking, looked, holding, under_lock, owned}
 use Rattle.rbd_machine.specs.Wait as wait
 use Rattle.rbd_machine.specs.declared.reason.Reason.TheVariants as reason
 use Rattle.rbd_machine.proofs.Walked.{Changed, ended, asked_to, awaited_to}
@@ -90,7 +90,7 @@ module _ (r : Reply) (site : SiteId) (name : List ℕ) (sharing : Sharing) (refu
       → (x : Option Refusal) → refuses first ≡ x → IsWalk Goto (unless x (holding site refuses act image)) feds rest (Return r) → Left
   at_first image first feds rest are (Some y) is walk = stop y (found site name image ∷ []) (looked_at site image first) feds rest are walk (refl, tt) (refl, tt) (λ given. is) (omega arith)
   at_first image first feds rest are None may_wait walk =
-      let l = awaited_to r (wait.Hold site image) (owning site refuses act image) feds rest walk in
+      let l = awaited_to r (wait.Hold site image) (under_lock site refuses act image) feds rest walk in
       let o = asked_to r site reason.Own (op.Header image header.Get) (on_header (owned refuses act image)) l.more rest l.walk in
       go o.answer o.more o.rest (are ∙ ap (λ s. found site name image ∷ looked_at site image first ∷ s) o.are) o.walk
     where
@@ -119,7 +119,7 @@ module _ (r : Reply) (site : SiteId) (name : List ℕ) (sharing : Sharing) (refu
       go answer.Absent more last are w = stop refusal.NoImage (found site name image ∷ []) (asked (op.Header image header.Get) answer.Absent) more last are w (refl, tt) (refl, tt) (λ given. refl) (omega arith)
       go _ more last are w = stop refusal.NoImage (found site name image ∷ []) _ more last are w (refl, tt) (refl, tt) (λ given. let no = given.can.word in cc) (omega arith)
 
-  pub change_ends : (feds : List Fed) → IsWalk Goto (change site name sharing refuses act) feds steps (Return r) → Left
+  pub change_ends : (feds : List Fed) → IsWalk Goto (change_plan site name sharing refuses act) feds steps (Return r) → Left
   change_ends feds walk =
       let w = asked_to r site reason.Own (look_up name) (on_id (joining site sharing refuses act)) feds steps walk in
       go w.answer w.more w.rest w.are w.walk

@@ -15,7 +15,7 @@ use Rattle.rbd_commands.specs.declared.refusal.Refusal.TheVariants as refusal
 use Rattle.rbd_kinds.specs.declared.reply.Reply.{Reply}
 use Rattle.rbd_kinds.specs.declared.reply.Reply.TheVariants as reply
 use Rattle.rbd_machine.specs.About.{look_up}
-use Rattle.rbd_machine.specs.Passes.{joined}
+use Rattle.rbd_machine.specs.Passes.{steps_of_passes}
 use Rattle.rbd_machine.specs.Path.{Answered, looked_at}
 use Rattle.rbd_machine.specs.declared.seat.Seat.{Seat}
 use Rattle.rbd_machine.specs.Refused.{refusal_by, never, by_fence, IsRefusedBy, IsRefused}
@@ -211,8 +211,8 @@ rollback_for_nothing site name snap (reply.Refused x) refuses = absurd (refused_
 rollback_for_nothing site name snap _ meant = absurd meant
 
 read_for_nothing : (site : SiteId) (name : List ℕ) (snap : Option (List ℕ)) (e : Extent) (r : Reply) → ReadMeans site name snap e [] r → r ≡ reply.Refused refusal.BadShape
-read_for_nothing site name snap e (reply.Bytes bytes) meant = absurd (some_steps [] _ _ (none_left (joined meant.passes) meant.pass meant.are ∙ meant.shows.pass.are))
-read_for_nothing site name snap e (reply.Refused x) refused = absurd (refused_by_one _ _ refused.pass x (none_left (joined refused.passes) refused.pass refused.are) refused.by.by)
+read_for_nothing site name snap e (reply.Bytes bytes) meant = absurd (some_steps [] _ _ (none_left (steps_of_passes meant.passes) meant.pass meant.are ∙ meant.shows.pass.are))
+read_for_nothing site name snap e (reply.Refused x) refused = absurd (refused_by_one _ _ refused.pass x (none_left (steps_of_passes refused.passes) refused.pass refused.are) refused.by.by)
 read_for_nothing site name snap e _ meant = absurd meant
 
 list_for_nothing : (site : SiteId) (r : Reply) → ListMeans site [] r → r ≡ reply.Refused refusal.BadShape
@@ -319,10 +319,10 @@ named image name is = cc
 
 -- a pass that saw another header has more than one operation
 one_pass : (site : SiteId) (name : List ℕ) (snap : Option (List ℕ)) (e : Extent) (passes : List (List Answered)) (pass : List Answered) (step : Answered)
-    → SeeOthers site name snap e passes → step ∷ [] ≡ joined passes ++ pass → step ∷ [] ≡ pass
+    → SeeOthers site name snap e passes → step ∷ [] ≡ steps_of_passes passes ++ pass → step ∷ [] ≡ pass
 one_pass site name snap e [] pass step see are = are
 one_pass site name snap e (p ∷ passes) pass step (sees, see) are =
-    let longer = are ∙ ap (λ q. (q ++ joined passes) ++ pass) sees.pass.are in cc
+    let longer = are ∙ ap (λ q. (q ++ steps_of_passes passes) ++ pass) sees.pass.are in cc
 
 pub unknown_image : (seat : Seat) (c : Command) (name : List ℕ) (step : Answered) → looks_up c ≡ Some name → IsMeantBy seat c (step ∷ []) (reply.Refused refusal.NoImage)
     → step ≡ record { site = seat.home; op = look_up name; answer = answer.Absent }

@@ -23,15 +23,15 @@ use Rattle.rbd_layout.specs.declared.types.Piece.{Piece}
 use Rattle.rbd_header.specs.Header.{view_of}
 use Rattle.rbd_header.specs.declared.view.View.{View}
 use Rattle.rbd_machine.specs.About.{look_up, AreOwn}
-use Rattle.rbd_machine.specs.Passes.{joined}
+use Rattle.rbd_machine.specs.Passes.{steps_of_passes}
 use Rattle.rbd_machine.specs.Path.{Answered, found, looked_at}
 use Rattle.rbd_machine.specs.declared.seat.Seat.{Seat}
 use Rattle.rbd_machine.specs.Refused.{refusal_by, AreAllowed, refuses_none, never, by_fence, IsRefusedBy, IsRefused}
 use Rattle.rbd_meaning.specs.Arrange.{bytes_of_extent}
 use Rattle.rbd_meaning.specs.Closes.{lock_dropped, release_told, watch_ended, bytes_told, ClosesBy, Closes, LooksTwice, Finds, Says, gone_or_fenced, CloseMeans, QuiesceMeans, ResumeMeans, TellMeans}
-use Rattle.rbd_meaning.specs.Creates.{CreateMeans, Makes, IsOutside, IsNotMade}
+use Rattle.rbd_meaning.specs.Creates.{CreateMeans, Makes, IsOutsideLimits, IsNotMade}
 use Rattle.rbd_meaning.specs.Discards.{DiscardMeans, DiscardsWhole, RefusesDiscard}
-use Rattle.rbd_meaning.specs.Listings.{listed, renamed, shown_snaps, used_among, ListMeans, InfoMeans, RenameMeans, SnapListMeans, ShowsHeader, ShowsUsed, UsedMeans}
+use Rattle.rbd_meaning.specs.Listings.{names_told, renamed_to, shown_snaps, used_among, ListMeans, InfoMeans, RenameMeans, SnapListMeans, ShowsHeader, ShowsUsed, UsedMeans}
 use Rattle.rbd_meaning.specs.Meant.{IsMeantBy}
 use Rattle.rbd_meaning.specs.Range.{extent_at}
 use Rattle.rbd_meaning.specs.Reads.{ReadMeans, ShowsAtLast, RefusedAtLast, IsPassTo, AreRead, bytes_read, view_refuses, read_refuses}
@@ -92,7 +92,7 @@ done_once T _ s one other = absurd one
 
 module _ (site : SiteId) (name : List ℕ) (size : ℕ) (shape : Shape) (steps : List Answered) where
   abbrev CreateRefused : Refusal → Type 0
-  CreateRefused x = IsOutside size shape steps x ⊎ IsNotMade site name size shape steps x
+  CreateRefused x = IsOutsideLimits size shape steps x ⊎ IsNotMade site name size shape steps x
 
   create_is : (r : Reply) → CreateMeans site name size shape steps r → Is (DoneBy (Makes site name size shape steps)) CreateRefused r
   create_is reply.Done meant = inl meant
@@ -151,7 +151,7 @@ module _ (site : SiteId) (name : List ℕ) (at : ℕ) (bytes : List ℕ) where
 
 module _ (site : SiteId) (steps : List Answered) where
   abbrev NamesBy : Reply → Type 0
-  NamesBy (reply.Names names) = steps ≡ listed site names ∷ []
+  NamesBy (reply.Names names) = steps ≡ names_told site names ∷ []
   NamesBy _ = ⊥
 
   abbrev ListRefused : Refusal → Type 0
@@ -165,7 +165,7 @@ module _ (site : SiteId) (steps : List Answered) where
   names_once : (r s : Reply) → NamesBy r → NamesBy s → r ≡ s
   names_once (reply.Names names) (reply.Names others) one other =
       let same = sym one ∙ other in
-      let step : listed site names ≡ listed site others = cc in
+      let step : names_told site names ≡ names_told site others = cc in
       let told = ap (λ (t : Answered). t.answer) step in
       cc
   names_once (reply.Names names) _ one other = absurd other
@@ -254,12 +254,12 @@ module _ (site : SiteId) (from to : List ℕ) (steps : List Answered) where
   abbrev NameRefused : Refusal → Type 0
   NameRefused = IsRefused site (op.Directory (directory.Rename from to)) refuses_none never steps
 
-  rename_is : (r : Reply) → RenameMeans site from to steps r → Is (DoneBy (steps ≡ renamed site from to ∷ [])) NameRefused r
+  rename_is : (r : Reply) → RenameMeans site from to steps r → Is (DoneBy (steps ≡ renamed_to site from to ∷ [])) NameRefused r
   rename_is reply.Done meant = inl meant
   rename_is (reply.Refused x) refused = inr (x, refl, refused)
   rename_is _ meant = absurd meant
 
-  rename_apart : (r : Reply) (x : Refusal) → DoneBy (steps ≡ renamed site from to ∷ []) r → NameRefused x → ⊥
+  rename_apart : (r : Reply) (x : Refusal) → DoneBy (steps ≡ renamed_to site from to ∷ []) r → NameRefused x → ⊥
   rename_apart reply.Done x are refused = unrefused refuses_none never steps [] _ x are refl refused.by
   rename_apart _ x are refused = absurd are
 
@@ -524,9 +524,9 @@ module _ (site : SiteId) (name : List ℕ) (snap : Option (List ℕ)) (e : Exten
         let q = b.shows.pass in
         let c = closes p.image (answer.Header a.shows.closing) in
         let d = closes q.image (answer.Header b.shows.closing) in
-        let same = sym (a.are ∙ ap (λ r. joined a.passes ++ r) p.are) ∙ (b.are ∙ ap (λ r. joined b.passes ++ r) q.are) in
+        let same = sym (a.are ∙ ap (λ r. steps_of_passes a.passes ++ r) p.are) ∙ (b.are ∙ ap (λ r. steps_of_passes b.passes ++ r) q.are) in
         let tails : looked_at site p.image p.first ∷ (p.reads ++ c ∷ []) ≡ looked_at site q.image q.first ∷ (q.reads ++ d ∷ []) =
-        same_begin (joined a.passes) (joined b.passes) (found site name p.image) (found site name q.image) _ _ refl refl
+        same_begin (steps_of_passes a.passes) (steps_of_passes b.passes) (found site name p.image) (found site name q.image) _ _ refl refl
         (find_nothing_more (behind a.pass _ p) (c ∷ []) (behind_finds_nothing a.pass _ p) (refl, tt))
         (find_nothing_more (behind b.pass _ q) (d ∷ []) (behind_finds_nothing b.pass _ q) (refl, tt)) same in
         let step : looked_at site p.image p.first ≡ looked_at site q.image q.first = cc in
@@ -544,12 +544,12 @@ module _ (site : SiteId) (name : List ℕ) (snap : Option (List ℕ)) (e : Exten
     bytes_once _ s one other = absurd one
 
     -- all steps but the last, which refused it
-    refused_steps : (x : Refusal) (r : RefusedAtLast site name snap e steps x) → steps ≡ (joined r.passes ++ r.by.by.before) ++ r.by.by.last ∷ []
-    refused_steps x r = r.are ∙ ap (λ q. joined r.passes ++ q) r.by.by.are ∙ sym (append_assoc (joined r.passes) r.by.by.before (r.by.by.last ∷ []))
+    refused_steps : (x : Refusal) (r : RefusedAtLast site name snap e steps x) → steps ≡ (steps_of_passes r.passes ++ r.by.by.before) ++ r.by.by.last ∷ []
+    refused_steps x r = r.are ∙ ap (λ q. steps_of_passes r.passes ++ q) r.by.by.are ∙ sym (append_assoc (steps_of_passes r.passes) r.by.by.before (r.by.by.last ∷ []))
 
     read_alike : (x y : Refusal) → RefusedAtLast site name snap e steps x → RefusedAtLast site name snap e steps y → x ≡ y
     read_alike x y a b =
-        let last = same_last (joined a.passes ++ a.by.by.before) (joined b.passes ++ b.by.by.before) a.by.by.last b.by.by.last (sym (refused_steps x a) ∙ refused_steps y b) in
+        let last = same_last (steps_of_passes a.passes ++ a.by.by.before) (steps_of_passes b.passes ++ b.by.by.before) a.by.by.last b.by.by.last (sym (refused_steps x a) ∙ refused_steps y b) in
         let is = subst (λ (t : Answered). refusal_by (read_refuses snap e) t.op t.answer ≡ Some x) last a.by.by.refused in
         let too = b.by.by.refused in
         cc
@@ -557,12 +557,12 @@ module _ (site : SiteId) (name : List ℕ) (snap : Option (List ℕ)) (e : Exten
     -- a pass that is refused early ends at its find or behind it, and one that shows bytes later
     too_short : (passes : List (List Answered)) (f : List Answered) (image : ℕ) (closing : HeaderView) (p : IsPassTo site name snap e f (answer.Header closing)) (others : List (List Answered)) (before : List Answered) (last : Answered)
         → closes p.image (answer.Header closing) ≡ last → AreOwn site (look_up name) (before ++ last ∷ []) → length (before ++ last ∷ []) ≤ 2
-        → joined passes ++ (found site name p.image ∷ behind f (answer.Header closing) p) ≡ joined others ++ before → ⊥
+        → steps_of_passes passes ++ (found site name p.image ∷ behind f (answer.Header closing) p) ≡ steps_of_passes others ++ before → ⊥
     too_short passes f image closing p others [] last is own short same = let asks = own.1 in let o = ap (λ (t : Answered). t.op) is in cc
     too_short passes f image closing p others (g ∷ []) last is own short same =
         let finds : is_find g.op ≡ true = ap (λ (t : Answered). is_find t.op) own.told in
         let none : behind f (answer.Header closing) p ≡ [] =
-        same_begin (joined passes) (joined others) (found site name p.image) g (behind f (answer.Header closing) p) [] refl finds (behind_finds_nothing f (answer.Header closing) p) tt same in
+        same_begin (steps_of_passes passes) (steps_of_passes others) (found site name p.image) g (behind f (answer.Header closing) p) [] refl finds (behind_finds_nothing f (answer.Header closing) p) tt same in
         cc
     too_short passes f image closing p others (g ∷ h ∷ before) last is own short same = let some = some_length before last in absurd (omega (arith, some, short))
 
@@ -571,14 +571,14 @@ module _ (site : SiteId) (name : List ℕ) (snap : Option (List ℕ)) (e : Exten
         let p = a.shows.pass in
         let c = closes p.image (answer.Header a.shows.closing) in
         let front = found site name p.image ∷ behind a.pass (answer.Header a.shows.closing) p in
-        let shown : steps ≡ (joined a.passes ++ front) ++ c ∷ [] = a.are ∙ ap (λ q. joined a.passes ++ q) p.are ∙ sym (append_assoc (joined a.passes) front (c ∷ [])) in
+        let shown : steps ≡ (steps_of_passes a.passes ++ front) ++ c ∷ [] = a.are ∙ ap (λ q. steps_of_passes a.passes ++ q) p.are ∙ sym (append_assoc (steps_of_passes a.passes) front (c ∷ [])) in
         let same = sym shown ∙ refused_steps x r in
-        let last : c ≡ r.by.by.last = same_last (joined a.passes ++ front) (joined r.passes ++ r.by.by.before) c r.by.by.last same in
+        let last : c ≡ r.by.by.last = same_last (steps_of_passes a.passes ++ front) (steps_of_passes r.passes ++ r.by.by.before) c r.by.by.last same in
         let refuses : read_refuses snap e a.shows.closing ≡ Some x = subst (λ (t : Answered). refusal_by (read_refuses snap e) t.op t.answer ≡ Some x) (sym last) r.by.by.refused in
         too_short a.passes a.pass p.image a.shows.closing p r.passes r.by.by.before r.by.by.last last
         (subst (AreOwn site (look_up name)) r.by.by.are r.by.own)
         (subst (λ q. length q ≤ 2) r.by.by.are (r.early (λ fenced. never_fenced a.shows.closing (subst (λ y. read_refuses snap e a.shows.closing ≡ Some y) fenced refuses))))
-        (same_front (joined a.passes ++ front) (joined r.passes ++ r.by.by.before) c r.by.by.last same)
+        (same_front (steps_of_passes a.passes ++ front) (steps_of_passes r.passes ++ r.by.by.before) c r.by.by.last same)
     read_apart _ x a r = absurd a
 
     one_read : (r s : Reply) → ReadMeans site name snap e steps r → ReadMeans site name snap e steps s → r ≡ s

@@ -17,7 +17,7 @@ use Rattle.rbd_commands.specs.declared.refusal.Refusal.{Refusal}
 use Rattle.rbd_commands.specs.declared.refusal.Refusal.TheVariants as refusal
 use Rattle.rbd_kinds.specs.declared.reply.Reply.TheVariants as reply
 use Rattle.rbd_layout.specs.declared.types.Piece.{Piece}
-use Rattle.rbd_machine.specs.Passes.{joined}
+use Rattle.rbd_machine.specs.Passes.{steps_of_passes}
 use Rattle.rbd_machine.specs.Path.{Answered}
 use Rattle.rbd_machine.specs.declared.seat.Seat.{Seat}
 use Rattle.rbd_machine.specs.Refused.{by_fence, refusal_by, only_looks, AreLooks, IsRefusedBy}
@@ -89,15 +89,15 @@ pass_changes_nothing site name snap e steps closing pass =
     subst ChangeNothing (sym pass.are)
     (inl refl, (inl refl, nothing_after pass.reads (_ ∷ []) (reads_change_nothing _ pass.reads site pass.image pass.view.snap pass.read) (inl refl, tt)))
 
-pub passes_change_nothing : (site : SiteId) (name : List ℕ) (snap : Option (List ℕ)) (e : Extent) (passes : List (List Answered)) → SeeOthers site name snap e passes → ChangeNothing (joined passes)
+pub passes_change_nothing : (site : SiteId) (name : List ℕ) (snap : Option (List ℕ)) (e : Extent) (passes : List (List Answered)) → SeeOthers site name snap e passes → ChangeNothing (steps_of_passes passes)
 passes_change_nothing site name snap e [] see = tt
 passes_change_nothing site name snap e (pass ∷ passes) (sees, see) =
-    nothing_after pass (joined passes) (pass_changes_nothing site name snap e pass sees.closing sees.pass) (passes_change_nothing site name snap e passes see)
+    nothing_after pass (steps_of_passes passes) (pass_changes_nothing site name snap e pass sees.closing sees.pass) (passes_change_nothing site name snap e passes see)
 
 read_changes_nothing : (site : SiteId) (name : List ℕ) (snap : Option (List ℕ)) (e : Extent) (steps : List Answered) (x : Refusal) → RefusedAtLast site name snap e steps x → ChangeNothing steps
 read_changes_nothing site name snap e steps x refused =
     subst ChangeNothing (sym refused.are)
-    (nothing_after (joined refused.passes) refused.pass (passes_change_nothing site name snap e refused.passes refused.before) (refused_changes_nothing _ _ x refused.pass refused.by.by (λ late. late)))
+    (nothing_after (steps_of_passes refused.passes) refused.pass (passes_change_nothing site name snap e refused.passes refused.before) (refused_changes_nothing _ _ x refused.pass refused.by.by (λ late. late)))
 
 -- ---- the removal of an image
 

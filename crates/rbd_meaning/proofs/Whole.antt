@@ -23,10 +23,10 @@ use Rattle.rbd_header.specs.Header.{context_of}
 use Rattle.rbd_machine.specs.Objects.{data_read}
 use Rattle.rbd_machine.specs.Path.{Answered}
 use Rattle.rbd_machine.specs.Refused.{refusal_by, AreAllowed, IsRefusedBy}
-use Rattle.rbd_zero.specs.Full.{cut_bytes, replaced_by}
-use Rattle.rbd_zero.specs.Shrink.{pieces_from}
-use Rattle.rbd_zero.specs.Size.{pieces_zeroed, IsResizedBy}
-use Rattle.rbd_zero.specs.Zero.{all_zeroed, is_inside, is_whole, some_zeroed, zeroed, zeroed_by}
+use Rattle.rbd_pieces.specs.Full.{cut_bytes, replaced_by}
+use Rattle.rbd_pieces.specs.Shrink.{pieces_from}
+use Rattle.rbd_pieces.specs.Size.{pieces_zeroed, IsResizedBy}
+use Rattle.rbd_pieces.specs.Zero.{all_zeroed, is_inside, is_whole, some_zeroed, zeroed_steps, zeroed_by}
 use Rattle.rbd_meaning.specs.Discards.{DiscardsWhole}
 use Rattle.rbd_meaning.specs.Reads.{bytes_shown}
 use Rattle.rbd_meaning.specs.Removals.{is_watched_beside, removal, removal_refusal_by, watchers_refuse, AllowRemoval, AreRemovals, IsRemovedBy, RefusesRemovalOf, RemovesImage}
@@ -67,7 +67,7 @@ module _ (refuses : HeaderView → Option Refusal) where
   pieces_allowed : (site : SiteId) (image : ℕ) (h : HeaderView) (pieces : List Piece) → AreAllowed refuses (pieces_zeroed site image h pieces)
   pieces_allowed site image h [] = tt
   pieces_allowed site image h (p ∷ pieces) =
-      both_allowed (zeroed site image h p) (pieces_zeroed site image h pieces) (zeroed_allowed site image (context_of h) p (is_whole h p) (is_inside h p.object)) (pieces_allowed site image h pieces)
+      both_allowed (zeroed_steps site image h p) (pieces_zeroed site image h pieces) (zeroed_allowed site image (context_of h) p (is_whole h p) (is_inside h p.object)) (pieces_allowed site image h pieces)
 
   resized_allowed : (site : SiteId) (image : ℕ) (h : HeaderView) (to objects : ℕ) (grows : Bool) (steps : List Answered) → IsResizedBy grows site image h to objects steps → AreAllowed refuses steps
   resized_allowed site image h to objects true steps are = subst (AreAllowed refuses) (sym are) (refl, (refl, tt))

@@ -34,13 +34,13 @@ pub record Makes (site : SiteId) (name : List ℕ) (size : ℕ) (shape : Shape) 
   pub made : MakesOne site name (new_header (layout_of shape) size) steps
 
 -- The shape is outside the limits, and no operation was done.
-pub record IsOutside (size : ℕ) (shape : Shape) (steps : List Answered) (x : Refusal) : Type 0 where
+pub record IsOutsideLimits (size : ℕ) (shape : Shape) (steps : List Answered) (x : Refusal) : Type 0 where
   pub outside : KeepsLimits (layout_of shape) size → ⊥
   pub none : steps ≡ []
   pub is : x ≡ refusal.BadShape
 
--- The shape is within them, and the last answer refused it. Before, its id was drawn and its map
--- made at most.
+-- The shape is within the limits, and the last answer refused the request. Before that at most its
+-- id was drawn and its map made.
 pub record IsNotMade (site : SiteId) (name : List ℕ) (size : ℕ) (shape : Shape) (steps : List Answered) (x : Refusal) : Type 0 where
   pub within : KeepsLimits (layout_of shape) size
   pub by : IsRefused site (op.Directory (directory.Add name)) refuses_none by_fence steps x
@@ -48,5 +48,5 @@ pub record IsNotMade (site : SiteId) (name : List ℕ) (size : ℕ) (shape : Sha
 
 abbrev pub CreateMeans : SiteId → (name : List ℕ) → (size : ℕ) → Shape → List Answered → Reply → Type 0
 CreateMeans site name size shape steps reply.Done = Makes site name size shape steps
-CreateMeans site name size shape steps (reply.Refused x) = IsOutside size shape steps x ⊎ IsNotMade site name size shape steps x
+CreateMeans site name size shape steps (reply.Refused x) = IsOutsideLimits size shape steps x ⊎ IsNotMade site name size shape steps x
 CreateMeans site name size shape steps _ = ⊥

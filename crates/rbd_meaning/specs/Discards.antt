@@ -13,10 +13,11 @@ use Rattle.rbd_machine.specs.Path.{Answered, found, looked_at}
 use Rattle.rbd_machine.specs.Refused.{by_fence, AreLooks, IsRefused}
 use Rattle.rbd_meaning.specs.Partly.{IsFrontOf}
 use Rattle.rbd_meaning.specs.Writes.{write_refuses}
-use Rattle.rbd_zero.specs.Size.{pieces_zeroed}
+use Rattle.rbd_pieces.specs.Size.{pieces_zeroed}
 
--- It found its image, looked at the header twice, and neither look refused it; then each piece of
--- its extent became zeros by the second, its own, one after another, and nothing else was done.
+-- The request found its image and looked at the header twice, and neither look refused it. Then, by
+-- its look under the lock, each piece of its extent became zeros, one after another, and nothing
+-- else was done.
 pub record DiscardsWhole (site : SiteId) (name : List ℕ) (e : Extent) (steps : List Answered) : Type 0 where
   pub image : ℕ
   pub first : HeaderView
@@ -25,7 +26,7 @@ pub record DiscardsWhole (site : SiteId) (name : List ℕ) (e : Extent) (steps :
   pub may : write_refuses e own ≡ None
   pub are : steps ≡ found site name image ∷ looked_at site image first ∷ looked_at site image own ∷ pieces_zeroed site image own (pieces_of own.layout e)
 
--- It was refused, and before had only looked, or zeroed its first pieces.
+-- The request was refused, and had only looked before, or zeroed its first pieces.
 pub record RefusesDiscard (site : SiteId) (name : List ℕ) (e : Extent) (steps : List Answered) (x : Refusal) : Type 0 where
   pub refused : IsRefused site (look_up name) (write_refuses e) by_fence steps x
   pub so_far : AreLooks refused.by.before ⊎ IsFrontOf (DiscardsWhole site name e) refused.by.before

@@ -1,5 +1,5 @@
--- `ls`, `info`, `snap ls` and `du`: what is shown of what was told, and what their replies mean; and
--- what those of `rename` mean.
+-- `ls`, `info`, `snap ls` and `du`: what is shown of what was told, and what their replies mean;
+-- and what those of `rename` mean.
 use Rattle.std.specs.Prelude.{◌≡◌, ℕ, nat_lt, List, [], ◌∷◌, filter, length}
 use Rattle.rbd_kinds.specs.declared.answer.Answer.TheVariants as answer
 use Rattle.rbd_kinds.specs.declared.directory_op.DirectoryOp.TheVariants as directory
@@ -16,8 +16,8 @@ use Rattle.rbd_meaning.specs.Removals.{used_objects}
 use Rattle.rbd_meaning.specs.Snaps.{map_told}
 
 -- The site told the names.
-abbrev pub listed : SiteId → (names : List (List ℕ)) → Answered
-listed site names = record { site = site; op = op.Directory directory.List; answer = answer.Names names }
+abbrev pub names_told : SiteId → (names : List (List ℕ)) → Answered
+names_told site names = record { site = site; op = op.Directory directory.List; answer = answer.Names names }
 
 abbrev pub shown_snaps : HeaderView → Reply
 shown_snaps h = reply.Snaps h.snaps
@@ -30,7 +30,7 @@ pub record ShowsHeader (site : SiteId) (name : List ℕ) (shown : HeaderView →
   pub shows : reply ≡ shown header
 
 abbrev pub ListMeans : SiteId → List Answered → Reply → Type 0
-ListMeans site steps (reply.Names names) = steps ≡ listed site names ∷ []
+ListMeans site steps (reply.Names names) = steps ≡ names_told site names ∷ []
 ListMeans site steps (reply.Refused x) = IsRefused site (op.Directory directory.List) refuses_none never steps x
 ListMeans site steps _ = ⊥
 
@@ -50,8 +50,8 @@ SnapListMeans site image steps _ = ⊥
 abbrev pub used_among : (count : ℕ) → (bits : List ℕ) → ℕ
 used_among count bits = length (filter (λ object. nat_lt object count) (used_objects bits))
 
--- The image of the name was found, its header told a size, and its head's map the states: so many of
--- the objects of the size are in use.
+-- The image of the name was found, its header told a size, and its head's map the states: so many
+-- of the objects of the size are in use.
 pub record ShowsUsed (site : SiteId) (name : List ℕ) (used of : ℕ) (steps : List Answered) : Type 0 where
   pub image : ℕ
   pub header : HeaderView
@@ -68,10 +68,10 @@ UsedMeans site image steps _ = ⊥
 -- ---- rename
 
 -- the name of an image became another
-abbrev pub renamed : SiteId → (from to : List ℕ) → Answered
-renamed site from to = record { site = site; op = op.Directory (directory.Rename from to); answer = answer.Done }
+abbrev pub renamed_to : SiteId → (from to : List ℕ) → Answered
+renamed_to site from to = record { site = site; op = op.Directory (directory.Rename from to); answer = answer.Done }
 
 abbrev pub RenameMeans : SiteId → (from to : List ℕ) → List Answered → Reply → Type 0
-RenameMeans site from to steps reply.Done = steps ≡ renamed site from to ∷ []
+RenameMeans site from to steps reply.Done = steps ≡ renamed_to site from to ∷ []
 RenameMeans site from to steps (reply.Refused x) = IsRefused site (op.Directory (directory.Rename from to)) refuses_none never steps x
 RenameMeans site from to steps _ = ⊥

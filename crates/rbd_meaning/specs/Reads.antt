@@ -20,7 +20,7 @@ use Rattle.rbd_header.specs.Header.{view_of}
 use Rattle.rbd_header.specs.declared.view.View.{View}
 use Rattle.rbd_machine.specs.About.{look_up}
 use Rattle.rbd_machine.specs.Objects.{data_read}
-use Rattle.rbd_machine.specs.Passes.{joined}
+use Rattle.rbd_machine.specs.Passes.{steps_of_passes}
 use Rattle.rbd_machine.specs.Path.{Answered, found, looked_at}
 use Rattle.rbd_machine.specs.Refused.{never, IsRefused}
 use Rattle.rbd_meaning.specs.Arrange.{bytes_of_extent}
@@ -50,13 +50,13 @@ AreRead site image snap (p ∷ pieces) (step ∷ steps) =
     (step.site ≡ site) × (step.op ≡ data_read image snap p) × IsSome (bytes_shown p.parts step.answer) × AreRead site image snap pieces steps
 AreRead site image snap _ _ = ⊥
 
--- what they showed, one piece after another
+-- the bytes that the pieces showed, one piece after another
 abbrev pub bytes_read : List Piece → List Answered → List ℕ
 bytes_read (p ∷ pieces) (step ∷ steps) = unwrap_or (bytes_shown p.parts step.answer) [] ++ bytes_read pieces steps
 bytes_read _ _ = []
 
--- It found its image and looked at the header, in which the extent fits into the view; it read each
--- piece of the extent there; and it looked again, and was told this.
+-- The request found its image and looked at the header, by which the extent fits into the view; it
+-- read each piece of the extent there; and it looked again, and was told this.
 pub record IsPassTo (site : SiteId) (name : List ℕ) (snap : Option (List ℕ)) (e : Extent) (steps : List Answered) (closing : Answer) : Type 0 where
   pub image : ℕ
   pub first : HeaderView
@@ -69,7 +69,7 @@ pub record IsPassTo (site : SiteId) (name : List ℕ) (snap : Option (List ℕ))
       ≡ found site name image ∷ looked_at site image first ∷ (reads ++ record { site = site; op = op.Header image header.Get; answer = closing } ∷ [])
   pub read : AreRead site image view.snap (pieces_of first.layout e) reads
 
--- The second look was told a header with the same generation. The bytes are what the pass read.
+-- The closing look was told a header with the same generation. The bytes are what the pass read.
 pub record ShowsBetween (site : SiteId) (name : List ℕ) (snap : Option (List ℕ)) (e : Extent) (steps : List Answered) (bytes : List ℕ) : Type 0 where
   pub closing : HeaderView
   pub pass : IsPassTo site name snap e steps (answer.Header closing)
@@ -78,13 +78,13 @@ pub record ShowsBetween (site : SiteId) (name : List ℕ) (snap : Option (List �
 
 -- ---- beginning again
 
--- the header is gone, or another
+-- the header is gone, or has another generation
 abbrev pub IsOther : (generation : ℕ) → Answer → Type 0
 IsOther generation (answer.Header h) = h.generation ≡ generation → ⊥
 IsOther generation answer.Absent = Unit {0}
 IsOther generation _ = ⊥
 
--- The second look was told another header, or none, and the read begins again.
+-- The closing look was told another header, or none, and the read begins again.
 pub record SeesAnother (site : SiteId) (name : List ℕ) (snap : Option (List ℕ)) (e : Extent) (steps : List Answered) : Type 0 where
   pub closing : Answer
   pub pass : IsPassTo site name snap e steps closing
@@ -96,20 +96,20 @@ SeeOthers site name snap e (pass ∷ passes) = SeesAnother site name snap e pass
 
 -- ---- what its replies mean
 
--- However often it began again, it shows what its last pass did.
+-- However often the read began again, it shows what its last pass did.
 pub record ShowsAtLast (site : SiteId) (name : List ℕ) (snap : Option (List ℕ)) (e : Extent) (steps : List Answered) (bytes : List ℕ) : Type 0 where
   pub passes : List (List Answered)
   pub pass : List Answered
-  pub are : steps ≡ joined passes ++ pass
+  pub are : steps ≡ steps_of_passes passes ++ pass
   pub before : SeeOthers site name snap e passes
   pub shows : ShowsBetween site name snap e pass bytes
 
--- However often it began again, its last pass refused it; and but for the fence, which may come at
--- any time, that was no later than at its first look.
+-- However often the read began again, its last pass refused it: at its first look at the latest,
+-- but for the fence, which may come at any time.
 pub record RefusedAtLast (site : SiteId) (name : List ℕ) (snap : Option (List ℕ)) (e : Extent) (steps : List Answered) (x : Refusal) : Type 0 where
   pub passes : List (List Answered)
   pub pass : List Answered
-  pub are : steps ≡ joined passes ++ pass
+  pub are : steps ≡ steps_of_passes passes ++ pass
   pub before : SeeOthers site name snap e passes
   pub by : IsRefused site (look_up name) (read_refuses snap e) never pass x
   pub early : (x ≡ refusal.Fenced → ⊥) → length pass ≤ 2

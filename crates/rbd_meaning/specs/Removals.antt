@@ -52,7 +52,7 @@ abbrev pub removal_refusal_by : (session : ℕ) → Op → Answer → Option Ref
 removal_refusal_by session (op.Header image header.WatchersGet) (answer.Instances watchers) = watchers_refuse session watchers
 removal_refusal_by session o a = refusal_by image_removal_refuses o a
 
--- no answer refuses it
+-- no answer refuses the removal
 abbrev pub AllowRemoval : (session : ℕ) → List Answered → Type 0
 AllowRemoval session [] = Unit {0}
 AllowRemoval session (step ∷ steps) = (removal_refusal_by session step.op step.answer ≡ None) × AllowRemoval session steps
@@ -112,7 +112,7 @@ may_be_gone (op.Children (child.Remove parent snap image)) = true
 may_be_gone (op.Map image (states.Remove (Some snap))) = true
 may_be_gone _ = false
 
--- it went, or was gone
+-- what was to go went, or was gone
 abbrev pub IsRemovedBy : Op → Answer → Type 0
 IsRemovedBy o answer.Done = Unit {0}
 IsRemovedBy o answer.Absent = may_be_gone o ≡ true
@@ -130,8 +130,9 @@ AreRemovals site _ _ = ⊥
 abbrev pub watchers_told : SiteId → (image : ℕ) → List Instance → Answered
 watchers_told site image watchers = record { site = site; op = op.Header image header.WatchersGet; answer = answer.Instances watchers }
 
--- It found its image, and looked at the header and at the watchers, twice; no look refused it. Then
--- all went that the image was, by the second header, its own, and by the states of the head's map.
+-- The request found its image, and looked at the header and at the watchers, twice; no look refused
+-- it. Then all went that the image was, by the header of its look under the lock and by the states
+-- of the head's map.
 pub record RemovesImage (site : SiteId) (session : ℕ) (name : List ℕ) (steps : List Answered) : Type 0 where
   pub image : ℕ
   pub first : HeaderView
@@ -148,8 +149,9 @@ pub record RemovesImage (site : SiteId) (session : ℕ) (name : List ℕ) (steps
   pub are : steps ≡ found site name image ∷ looked_at site image first ∷ watchers_told site image watchers
       ∷ looked_at site image own ∷ watchers_told site image others ∷ map_told site image bits ∷ removed
 
--- The answer to its last operation refused it, and none before. Unless that was the fence, it had
--- only looked; and else it had done the first operations of a whole one.
+-- The answer to the last operation refused the request, and none before. Unless that was the fence,
+-- the request had only looked; with the fence it may have done the first operations of a whole
+-- removal.
 pub record RefusesRemovalOf (site : SiteId) (session : ℕ) (name : List ℕ) (steps : List Answered) (x : Refusal) : Type 0 where
   pub own : AreOwn site (look_up name) steps
   pub before : List Answered

@@ -9,7 +9,7 @@ abbrev pub is_done : Reply → Bool
 is_done reply.Done = true
 is_done _ = false
 
--- what it is answered when it isn't refused
+-- whether this reply is one to the command, where it isn't refused
 abbrev pub grants : Command → Reply → Bool
 grants (command.Create image size shape) r = is_done r
 grants (command.Write image at bytes) r = is_done r

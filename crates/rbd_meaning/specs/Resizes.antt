@@ -13,7 +13,7 @@ use Rattle.rbd_machine.specs.Path.{Answered, found, looked_at}
 use Rattle.rbd_machine.specs.Refused.{by_fence, AreLooks, IsRefused}
 use Rattle.rbd_machine.specs.Steps.{or_else, non_primary}
 use Rattle.rbd_meaning.specs.Partly.{IsFrontOf}
-use Rattle.rbd_zero.specs.Size.{IsResized}
+use Rattle.rbd_pieces.specs.Size.{IsResized}
 
 -- An image has at most 2^20 objects: its size ends at the first byte of the next one, or before.
 abbrev pub has_few_objects : Layout → (size : ℕ) → Bool
@@ -22,8 +22,8 @@ has_few_objects layout size = nat_le size (byte_at layout (2 ^ 20) 0)
 abbrev pub resize_refuses : (to : ℕ) → HeaderView → Option Refusal
 resize_refuses to h = or_else (non_primary h.role) (if has_few_objects h.layout to then None else Some refusal.BadShape)
 
--- It found its image, looked at the header twice, and neither look refused it; then it set the size
--- by the second, its own, and nothing else was done.
+-- The request found its image and looked at the header twice, and neither look refused it. Then it
+-- set the size by its look under the lock, and nothing else was done.
 pub record ResizesWhole (site : SiteId) (name : List ℕ) (to : ℕ) (steps : List Answered) : Type 0 where
   pub image : ℕ
   pub first : HeaderView
@@ -36,7 +36,8 @@ pub record ResizesWhole (site : SiteId) (name : List ℕ) (to : ℕ) (steps : Li
   pub is_resized : IsResized site image own to objects resized
   pub are : steps ≡ found site name image ∷ looked_at site image first ∷ looked_at site image own ∷ resized
 
--- It was refused, and before had only looked, or done the first operations of a whole one.
+-- The request was refused, and had only looked before, or done the first operations of a whole
+-- resize.
 pub record RefusesResize (site : SiteId) (name : List ℕ) (to : ℕ) (steps : List Answered) (x : Refusal) : Type 0 where
   pub refused : IsRefused site (look_up name) (resize_refuses to) by_fence steps x
   pub so_far : AreLooks refused.by.before ⊎ IsFrontOf (ResizesWhole site name to) refused.by.before

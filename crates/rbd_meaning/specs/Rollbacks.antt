@@ -20,9 +20,9 @@ use Rattle.rbd_machine.specs.Refused.{by_fence, AreLooks, IsRefused}
 use Rattle.rbd_machine.specs.Steps.{or_else, non_primary}
 use Rattle.rbd_meaning.specs.Partly.{IsFrontOf}
 use Rattle.rbd_meaning.specs.Reads.{bytes_shown}
-use Rattle.rbd_zero.specs.Full.{replaced}
-use Rattle.rbd_zero.specs.Size.{IsResized}
-use Rattle.rbd_zero.specs.Zero.{head_of}
+use Rattle.rbd_pieces.specs.Full.{replaced}
+use Rattle.rbd_pieces.specs.Size.{IsResized}
+use Rattle.rbd_pieces.specs.Zero.{head_of}
 
 abbrev pub listing_refusal : Option SnapView → Option Refusal
 listing_refusal None = Some refusal.NoSnap
@@ -42,7 +42,7 @@ pub record IsRestored (site : SiteId) (image : ℕ) (h : HeaderView) (snap : ℕ
   pub shown : bytes_shown p.parts answer ≡ Some bytes
   pub are : steps ≡ record { site = site; op = data_read image (Some snap) p; answer = answer } ∷ replaced site image h p bytes
 
--- the first was, and the others behind it
+-- the first piece was restored, and the others behind it
 pub record AreRestoredBy (IsFirst AreOthers : List Answered → Type 0) (steps : List Answered) : Type 0 where
   pub first : List Answered
   pub others : List Answered
@@ -50,14 +50,14 @@ pub record AreRestoredBy (IsFirst AreOthers : List Answered → Type 0) (steps :
   pub are_others : AreOthers others
   pub are : steps ≡ first ++ others
 
--- the pieces were, one after another
+-- the pieces were restored, one after another
 abbrev pub AreRestored : SiteId → (image : ℕ) → HeaderView → (snap : ℕ) → List Piece → List Answered → Type 0
 AreRestored site image h snap [] steps = steps ≡ []
 AreRestored site image h snap (p ∷ pieces) steps = AreRestoredBy (IsRestored site image h snap p) (AreRestored site image h snap pieces) steps
 
--- It found its image, looked at the header twice, and neither look refused it. Then, by the second,
--- its own, it set the size to that of the snapshot which this lists under the name, and each object
--- of the head became what it was at the snapshot.
+-- The request found its image and looked at the header twice, and neither look refused it. Then, by
+-- its look under the lock, it set the size to that of the snapshot which the header lists under the
+-- name, and each object of the head became what it was at the snapshot.
 pub record RollsBack (site : SiteId) (name snap : List ℕ) (steps : List Answered) : Type 0 where
   pub image : ℕ
   pub first : HeaderView
@@ -74,7 +74,8 @@ pub record RollsBack (site : SiteId) (name snap : List ℕ) (steps : List Answer
   pub are_restored : AreRestored site image (at_size listed.size own) listed.id (pieces_of own.layout (head_of (at_size listed.size own))) restored
   pub are : steps ≡ found site name image ∷ looked_at site image first ∷ looked_at site image own ∷ (resized ++ restored)
 
--- It was refused, and before had only looked, or done the first operations of a whole one.
+-- The request was refused, and had only looked before, or done the first operations of a whole
+-- rollback.
 pub record RefusesRollback (site : SiteId) (name snap : List ℕ) (steps : List Answered) (x : Refusal) : Type 0 where
   pub refused : IsRefused site (look_up name) (rollback_refuses snap) by_fence steps x
   pub so_far : AreLooks refused.by.before ⊎ IsFrontOf (RollsBack site name snap) refused.by.before

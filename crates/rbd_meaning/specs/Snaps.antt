@@ -50,7 +50,7 @@ remove_refuses snap h = or_else (non_primary h.role) (removal_refusal (snap_name
 abbrev pub map_told : SiteId → (image : ℕ) → (bits : List ℕ) → Answered
 map_told site image bits = record { site = site; op = op.Map image (states.Get None); answer = answer.Bits bits }
 
--- they became the map of a snapshot
+-- the told states became the map of a snapshot
 abbrev pub map_put : SiteId → (image snap : ℕ) → (bits : List ℕ) → Answered
 map_put site image snap bits = record { site = site; op = op.Map image (states.Put (Some snap) bits); answer = answer.Done }
 
@@ -58,14 +58,14 @@ map_put site image snap bits = record { site = site; op = op.Map image (states.P
 abbrev pub map_removed : SiteId → (image snap : ℕ) → Answer → Answered
 map_removed site image snap a = record { site = site; op = op.Map image (states.Remove (Some snap)); answer = a }
 
--- it is gone, whether it was there or not
+-- the map is gone, whether it was there or not
 abbrev pub IsGone : Answer → Type 0
 IsGone answer.Done = Unit {0}
 IsGone answer.Absent = Unit {0}
 IsGone _ = ⊥
 
--- It found its image and looked at the header twice, and neither look refused it; then the head's
--- map was copied for the next snapshot, and the header took the snapshot.
+-- The request found its image and looked at the header twice, and neither look refused it; then the
+-- head's map was copied for the next snapshot, and the header took the snapshot.
 pub record TakesOne (site : SiteId) (image_name snap : List ℕ) (steps : List Answered) : Type 0 where
   pub image : ℕ
   pub first : HeaderView
@@ -108,7 +108,7 @@ pub record RemovesListed (site : SiteId) (image_name snap : List ℕ) (steps : L
   pub is_listed : snap_named own.snaps snap ≡ Some listed
   pub are : steps ≡ found site image_name image ∷ looked_at site image first ∷ looked_at site image own ∷ snap_removed site image listed.id ∷ []
 
--- It was refused, and before had only looked, or removed the snapshot.
+-- The request was refused, and had only looked before, or removed the snapshot.
 pub record RefusesRemoval (site : SiteId) (image_name snap : List ℕ) (steps : List Answered) (x : Refusal) : Type 0 where
   pub refused : IsRefused site (look_up image_name) (remove_refuses snap) by_fence steps x
   pub so_far : AreLooks refused.by.before ⊎ RemovesListed site image_name snap refused.by.before

@@ -9,7 +9,7 @@ use Rattle.rbd_machine.specs.Path.{Answered}
 use Rattle.rbd_machine.specs.Refused.{never, by_fence, only_looks}
 use Rattle.rbd_meaning.specs.Closes.{gone_or_fenced}
 
--- the answer says that it wasn't done
+-- whether the answer says that the operation wasn't done
 abbrev pub tells_undone : Answer → Bool
 tells_undone answer.Absent = true
 tells_undone answer.Exists = true
@@ -37,7 +37,7 @@ ComesLate (command.SnapRollback image snap) = by_fence
 ComesLate (command.Close image) = gone_or_fenced
 ComesLate _ = never
 
--- It drops a lock, and what comes behind that may find the image gone.
+-- The command drops a lock, and after that it may find the image gone.
 abbrev pub lets_go : Command → Bool
 lets_go (command.Close image) = true
 lets_go _ = false

@@ -37,13 +37,13 @@ pieces_written site image h at bytes [] = []
 pieces_written site image h at bytes (p ∷ pieces) = state_raised site image p ∷ piece_written site image h at bytes p ∷ pieces_written site image h at bytes pieces
 
 -- Nothing was done for the pieces that are left, or the state of the first one's object was raised.
-abbrev pub IsBegun : SiteId → (image : ℕ) → (left : List Piece) → (begun : List Answered) → Type 0
-IsBegun site image left [] = Unit {0}
-IsBegun site image (p ∷ left) (step ∷ []) = step ≡ state_raised site image p
-IsBegun site image left begun = ⊥
+abbrev pub IsPieceBegun : SiteId → (image : ℕ) → (left : List Piece) → (begun : List Answered) → Type 0
+IsPieceBegun site image left [] = Unit {0}
+IsPieceBegun site image (p ∷ left) (step ∷ []) = step ≡ state_raised site image p
+IsPieceBegun site image left begun = ⊥
 
--- It found its image, looked at the header twice, and neither look refused it; then it wrote each
--- piece of its extent by the second, its own, and nothing else.
+-- The request found its image and looked at the header twice, and neither look refused it. Then, by
+-- its look under the lock, it wrote each piece of its extent, and did nothing else.
 pub record WritesWhole (site : SiteId) (name : List ℕ) (at : ℕ) (bytes : List ℕ) (steps : List Answered) : Type 0 where
   pub image : ℕ
   pub first : HeaderView
@@ -53,8 +53,8 @@ pub record WritesWhole (site : SiteId) (name : List ℕ) (at : ℕ) (bytes : Lis
   pub are : steps ≡ found site name image ∷ looked_at site image first ∷ looked_at site image own
       ∷ pieces_written site image own at bytes (pieces_of own.layout (extent_at at bytes))
 
--- The same, up to some of its pieces: the first of them were written, and the next one was begun at
--- most.
+-- The same, up to some of its pieces: the first of them were written, and at most the next one was
+-- begun.
 pub record WritesSome (site : SiteId) (name : List ℕ) (at : ℕ) (bytes : List ℕ) (steps : List Answered) : Type 0 where
   pub image : ℕ
   pub first : HeaderView
@@ -65,11 +65,11 @@ pub record WritesSome (site : SiteId) (name : List ℕ) (at : ℕ) (bytes : List
   pub left : List Piece
   pub pieces : pieces_of own.layout (extent_at at bytes) ≡ written ++ left
   pub begun : List Answered
-  pub is_begun : IsBegun site image left begun
+  pub is_begun : IsPieceBegun site image left begun
   pub are : steps ≡ found site name image ∷ looked_at site image first ∷ looked_at site image own
       ∷ (pieces_written site image own at bytes written ++ begun)
 
--- It was refused, and before had only looked, or written its first pieces.
+-- The request was refused, and had only looked before, or written its first pieces.
 pub record RefusesWrite (site : SiteId) (name : List ℕ) (at : ℕ) (bytes : List ℕ) (steps : List Answered) (x : Refusal) : Type 0 where
   pub refused : IsRefused site (look_up name) (write_refuses (extent_at at bytes)) by_fence steps x
   pub so_far : AreLooks refused.by.before ⊎ WritesSome site name at bytes refused.by.before

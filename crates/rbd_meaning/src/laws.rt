@@ -28,32 +28,33 @@ ghost use Rattle.rbd_meaning.specs.Resizes.{has_few_objects};
 ghost use Rattle.rbd_meaning.specs.Snaps.{TakesOne, RemovesOne};
 ghost use Rattle.rbd_meaning.specs.Undone.{lets_go, ChangeNothing, ComesLate};
 
-/// The pieces of a size are as many as its objects. A size is one of few objects exactly where its
-/// bytes lie in the first 2^20.
+/// A size has as many pieces as objects. It has few objects exactly where its bytes lie in the
+/// first 2^20 of them.
 pub fn counts_are_counts()
     ensures count { (l : Layout) (size : ℕ) → IsLayout l → IsObjectCount l size (object_count l size) }
     ensures few { (l : Layout) (size : ℕ) → IsLayout l → (has_few_objects l size ≡ true) ↔ HasFewObjects l size }
 {}
 
-/// No reply of one kind is meant for a command of another.
+/// A command means only replies of its own kind.
 pub fn replies_are_of_their_command()
     ensures { (seat : Seat) (command : Command) (steps : List Answered) (reply : Reply) → IsMeantBy seat command steps reply → may_answer command reply ≡ true }
 {}
 
-/// Behind the same operations one reply is meant.
+/// After the same operations a command means one reply.
 pub fn one_reply_is_meant()
     ensures { (seat : Seat) (command : Command) (steps : List Answered) (one other : Reply)
         → IsMeantBy seat command steps one → IsMeantBy seat command steps other → one ≡ other }
 {}
 
-/// Behind no operation at all only BadShape is meant: nothing is done or shown for nothing.
+/// After no operation at all a command means nothing but BadShape: nothing is done or shown without
+/// an operation.
 pub fn nothing_is_granted_for_nothing()
     ensures { (seat : Seat) (command : Command) (reply : Reply) → IsMeantBy seat command [] reply → reply ≡ Refused BadShape }
 {}
 
-/// A request that was refused has changed nothing that users see, unless its refusal may come late:
-/// the fence's, which may come at any time, of a command that does more behind a change; and of a
-/// close, that its image is gone, which its notice or the end of its watch may still find.
+/// A refused request has changed nothing that users see, with two exceptions. Fenced may come at
+/// any time, also to a command that goes on after a change. And a `close` may be told that its
+/// image is gone by its notice or by the end of its watch, after its drop.
 pub fn refusals_change_nothing()
     ensures early { (seat : Seat) (command : Command) (steps : List Answered) (x : Refusal)
         → IsMeantBy seat command steps (Refused x) → (ComesLate command x → ⊥) → ChangeNothing steps }
@@ -61,15 +62,15 @@ pub fn refusals_change_nothing()
         → lets_go command ≡ false → IsMeantBy seat command steps (Refused x) → (x ≡ Fenced → ⊥) → ChangeNothing steps }
 {}
 
-/// A name that isn't there is the command's own: where NoImage is told behind one operation, that
-/// was the look-up of its image, at its site, and it was answered none.
+/// NoImage after a single operation says that the command's own name isn't there: the operation was
+/// the look-up of its image, at its site, and was answered none.
 pub fn unknown_names_are_looked_up()
     ensures { (seat : Seat) (command : Command) (name : List ℕ) (step : Answered) → looks_up command ≡ Some name
         → IsMeantBy seat command (step ∷ []) (Refused NoImage) → step ≡ record { site = seat.home; op = look_up name; answer = Absent } }
 {}
 
-/// Where a look refused it the first refusal of that header is told: at a secondary, that clients
-/// don't change it, whatever else holds there.
+/// A change that is refused by a look at the header of a secondary is refused with NonPrimary,
+/// whatever else refuses it there.
 pub fn secondaries_refuse_first()
     ensures write { (seat : Seat) (there : SiteId) (image : List ℕ) (at : ℕ) (bytes : List ℕ) (before : List Answered) (id : ℕ) (h : HeaderView) (x : Refusal)
         → IsMeantBy seat (Write image at bytes) (before ++ looked_at there id h ∷ []) (Refused x) → h.role ≡ Secondary → x ≡ NonPrimary }
@@ -92,7 +93,7 @@ pub fn secondaries_refuse_first()
 /// What was done was allowed by the look under the lock: the name of a snapshot that was taken
 /// wasn't listed there, a snapshot that was removed wasn't protected there, and an image that was
 /// removed had no snapshot there.
-pub fn the_own_look_allowed()
+pub fn the_look_under_lock_allowed()
     ensures taken { (site : SiteId) (image snap : List ℕ) (steps : List Answered) (takes : TakesOne site image snap steps) → snap_named takes.own.snaps snap ≡ None }
     ensures removed { (site : SiteId) (image snap : List ℕ) (steps : List Answered) (removes : RemovesOne site image snap steps) → removes.listed.status ≡ Unprotected }
     ensures image { (site : SiteId) (session : ℕ) (image : List ℕ) (steps : List Answered) (removes : RemovesImage site session image steps) → removes.own.snaps ≡ [] }

@@ -10,7 +10,7 @@ use Rattle.rbd_parts.specs.declared.parts.TheConstants.{LARGEST_OBJECT}
 use Rattle.rbd_pages.specs.Sheaves.{Exchanged, Stock}
 use Rattle.rbd_pages.specs.Sheets.{in_use}
 use Rattle.rbd_pages.specs.Listed.{Listed, touched}
-use Rattle.rbd_object.specs.Shared.{IsHead, begun, bytes_of, len_of, sheaves_of, written_touch, zeroed_touch}
+use Rattle.rbd_object.specs.Shared.{IsHead, begun_head, bytes_of, len_of, sheaves_of, written_touch, zeroed_touch}
 use Rattle.rbd_parts.proofs.ContentsLemmas.{length_overwritten}
 use Rattle.rbd_object.proofs.HeadLemmas.{empty_content}
 use Rattle.rbd_pages.proofs.ListsLemmas.{exchanged_refl, exchanged_trans}
@@ -42,10 +42,10 @@ pub record IsWritingParts (parts : List Part) (bytes : List ℕ) (old : Stock) (
   pub long : length rest ≡ parts_len (drop i parts)
   pub used : in_use new.sheets + written_touch (len_of head) (drop i parts) ≤ in_use old.sheets + written_touch (len_of before) parts
 
-pub parts_begun : (parts : List Part) (bytes : List ℕ) (a : Stock) (before head : Option Listed) → head ≡ begun before → IsHead a before
+pub parts_begun : (parts : List Part) (bytes : List ℕ) (a : Stock) (before head : Option Listed) → head ≡ begun_head before → IsHead a before
     → length bytes ≡ parts_len parts → IsWritingParts parts bytes a before 0 bytes a head
 parts_begun parts bytes a before head e is long = subst (IsWritingParts parts bytes a before 0 bytes a) (sym e) (go before is) where
-  go : (before : Option Listed) → IsHead a before → IsWritingParts parts bytes a before 0 bytes a (begun before)
+  go : (before : Option Listed) → IsHead a before → IsWritingParts parts bytes a before 0 bytes a (begun_head before)
   go None is = record { exchanged = exchanged_refl a []; is = empty_content a; there = refl; left = refl; long = long; used = omega arith }
   go (Some c) is = record { exchanged = exchanged_refl a c.sheaves; is = is; there = refl; left = refl; long = long; used = omega arith }
 

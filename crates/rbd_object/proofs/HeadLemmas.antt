@@ -3,10 +3,10 @@ use Rattle.std.proofs.Common.{◌≡◌, ℕ, ◌+◌, ◌-◌, ◌/◌, ◌%◌
 use Rattle.std.proofs.lemmas.List.{nil_from_length}
 use Rattle.std.proofs.lemmas.List.FromFn.{fill_by_all}
 use Rattle.rbd_parts.specs.Contents.{overwritten, is_within}
-use Rattle.rbd_pages.specs.Paging.{occurs, byte_at, AreApart, AreCounted}
+use Rattle.rbd_pages.specs.Paging.{occurs, byte_on_pages, AreApart, AreCounted}
 use Rattle.rbd_pages.specs.Sheaves.{Exchanged, IsSame, Stock}
-use Rattle.rbd_pages.specs.Listed.{Listed, IsContent, bytes_in, pages_on}
-use Rattle.rbd_object.specs.Shared.{IsHead, IsKept, bytes_of, sheaves_of}
+use Rattle.rbd_pages.specs.Listed.{Listed, IsContent, listed_bytes, pages_on}
+use Rattle.rbd_object.specs.Shared.{IsHead, KeepsHead, bytes_of, sheaves_of}
 use Rattle.rbd_pages.proofs.PagingLemmas.{bytes_on_past, framed_byte}
 use Rattle.rbd_pages.proofs.SheavesLemmas.{occurs-append, same_refl, same_trans}
 use Rattle.rbd_pages.proofs.ListsLemmas.{exchanged_refl, framed_full, framed_list}
@@ -15,11 +15,11 @@ use Rattle.rbd_pages.proofs.ListedLemmas.{bytes_same, length-bytes_in}
 -- ---- a content whose sheaves stay the same is the same
 
 pub framed : (a b : Stock) (c : Listed) → ((s : ℕ) → 0 < occurs s c.sheaves → IsSame a b s)
-    → IsContent a c → IsContent b c × (bytes_in b c ≡ bytes_in a c)
+    → IsContent a c → IsContent b c × (listed_bytes b c ≡ listed_bytes a c)
 framed a b c same content =
     let frame = framed_list a b c.sheaves same in
-    let byte : (i : ℕ) → byte_at b.sheets (pages_on b c) i ≡ byte_at a.sheets (pages_on a c) i =
-    λ i. ap (λ pages. byte_at b.sheets pages i) frame.0
+    let byte : (i : ℕ) → byte_on_pages b.sheets (pages_on b c) i ≡ byte_on_pages a.sheets (pages_on a c) i =
+    λ i. ap (λ pages. byte_on_pages b.sheets pages i) frame.0
     ∙ ap (λ bytes. get_or bytes (i % 4096) 0) (framed_byte a.sheets b.sheets (pages_on a c) (i / 4096) frame.1) in (
       record {
         held = content.held;
@@ -60,7 +60,7 @@ choice_is a false head kept e is = (subst (IsHead a) (sym e) tt, ap (bytes_of a)
 -- shared, and then changed
 pub kept_change : (wanted : Bool) (a b c : Stock) (head after kept : Option Listed) → AreCounted a.sheaves (sheaves_of head) → IsHead a head
     → Exchanged a [] b (sheaves_of kept) → kept ≡ cond wanted head None → Exchanged b (sheaves_of head) c (sheaves_of after) → IsHead c after
-    → IsKept wanted a head c after kept
+    → KeepsHead wanted a head c after kept
 kept_change wanted a b c head after kept counted is shared e changed after_is =
     let before = head_after a b head (sheaves_of kept) counted is shared in
     let choice = choice_is b wanted head kept e before.0 in
@@ -79,14 +79,14 @@ kept_change wanted a b c head after kept counted is shared e changed after_is =
 
 -- what was kept is counted
 pub counted_kept : (wanted : Bool) (a c : Stock) (head after kept : Option Listed) → AreCounted a.sheaves (sheaves_of head)
-    → IsKept wanted a head c after kept → AreCounted c.sheaves (sheaves_of kept)
+    → KeepsHead wanted a head c after kept → AreCounted c.sheaves (sheaves_of kept)
 counted_kept wanted a c head after kept counted is = record {
   each = λ s.
       let x = is.exchanged.counts s in let y = counted.each s in let sum = occurs-append (sheaves_of after) (sheaves_of kept) s in omega arith;
 }
 
 pub counted_after : (wanted : Bool) (a c : Stock) (head after kept : Option Listed) → AreCounted a.sheaves (sheaves_of head)
-    → IsKept wanted a head c after kept → AreCounted c.sheaves (sheaves_of after)
+    → KeepsHead wanted a head c after kept → AreCounted c.sheaves (sheaves_of after)
 counted_after wanted a c head after kept counted is = record {
   each = λ s.
       let x = is.exchanged.counts s in let y = counted.each s in let sum = occurs-append (sheaves_of after) (sheaves_of kept) s in omega arith;
@@ -94,9 +94,9 @@ counted_after wanted a c head after kept counted is = record {
 
 -- what was held is kept after all, or let go
 pub kept_if : (w wanted : Bool) (a b c : Stock) (head after held kept : Option Listed) → AreCounted a.sheaves (sheaves_of head)
-    → IsKept w a head b after held → Exchanged b (sheaves_of held) c (sheaves_of kept) → IsHead c kept
+    → KeepsHead w a head b after held → Exchanged b (sheaves_of held) c (sheaves_of kept) → IsHead c kept
     → bytes_of c kept ≡ cond wanted (bytes_of a head) None
-    → IsKept wanted a head c after kept × (bytes_of c after ≡ bytes_of b after)
+    → KeepsHead wanted a head c after kept × (bytes_of c after ≡ bytes_of b after)
 kept_if w wanted a b c head after held kept counted is exchanged kept_is bytes =
     let now = framed_head b c after
     (λ s named. exchanged.others s (let x = is.exchanged.counts s in let y = counted.each s in let sum = occurs-append (sheaves_of after) (sheaves_of held) s in omega arith))
@@ -118,13 +118,13 @@ kept_if w wanted a b c head after held kept counted is exchanged kept_is bytes =
     )
 
 pub undone : (w : Bool) (a b c : Stock) (head after held : Option Listed) → AreCounted a.sheaves (sheaves_of head)
-    → IsKept w a head b after held → Exchanged b (sheaves_of held) c [] → IsKept false a head c after None × (bytes_of c after ≡ bytes_of b after)
+    → KeepsHead w a head b after held → Exchanged b (sheaves_of held) c [] → KeepsHead false a head c after None × (bytes_of c after ≡ bytes_of b after)
 undone w a b c head after held counted is exchanged = kept_if w false a b c head after held None counted is exchanged tt refl
 
 -- the head as it was takes the place of one that was changed in part
 pub restored : (a b c : Stock) (head after held : Option Listed) → AreCounted a.sheaves (sheaves_of head)
-    → IsKept true a head b after held → Exchanged b (sheaves_of after) c []
-    → IsKept false a head c held None × (bytes_of c held ≡ bytes_of a head)
+    → KeepsHead true a head b after held → Exchanged b (sheaves_of after) c []
+    → KeepsHead false a head c held None × (bytes_of c held ≡ bytes_of a head)
 restored a b c head after held counted is exchanged =
     let now = framed_head b c held
     (λ s named. exchanged.others s (let x = is.exchanged.counts s in let y = counted.each s in let sum = occurs-append (sheaves_of after) (sheaves_of held) s in omega arith))
@@ -147,7 +147,7 @@ restored a b c head after held counted is exchanged =
 
 -- nothing was done but what leaves this head alone
 pub untouched : (a b : Stock) (head : Option Listed) → AreCounted a.sheaves (sheaves_of head) → IsHead a head → Exchanged a [] b []
-    → IsKept false a head b head None × (bytes_of b head ≡ bytes_of a head)
+    → KeepsHead false a head b head None × (bytes_of b head ≡ bytes_of a head)
 untouched a b head counted is exchanged =
     let now = head_after a b head [] counted is exchanged in
     (kept_change false a b b head head None counted is exchanged refl (exchanged_refl b (sheaves_of head)) now.0, now.1)
@@ -156,7 +156,7 @@ untouched a b head counted is exchanged =
 
 pub replaced : (wanted : Bool) (a b c : Stock) (head next kept : Option Listed) → AreCounted a.sheaves (sheaves_of head) → IsHead a head
     → Exchanged a [] b (sheaves_of next) → Exchanged b (sheaves_of head ++ sheaves_of next) c (sheaves_of next ++ sheaves_of kept)
-    → IsHead c next → IsHead c kept → bytes_of c kept ≡ cond wanted (bytes_of b head) None → IsKept wanted a head c next kept
+    → IsHead c next → IsHead c kept → bytes_of c kept ≡ cond wanted (bytes_of b head) None → KeepsHead wanted a head c next kept
 replaced wanted a b c head next kept counted is made exchanged next_is kept_is bytes = record {
   exchanged = record {
     counts = λ s.
@@ -204,20 +204,20 @@ empty_content a = record {
   small = omega arith;
 }
 
-pub no_sheaves : (a b : Stock) (old new : Listed) → IsContent b new → bytes_in b new ≡ bytes_in a old → old.len ≡ 0 → new.sheaves ≡ []
+pub no_sheaves : (a b : Stock) (old new : Listed) → IsContent b new → listed_bytes b new ≡ listed_bytes a old → old.len ≡ 0 → new.sheaves ≡ []
 no_sheaves a b old new content same none =
     let long : new.len ≡ 0 = sym (length-bytes_in b new) ∙ ap length same ∙ length-bytes_in a old ∙ none in
     let held = content.held in
     nil_from_length new.sheaves (omega arith)
 
 pub exchanged_refused : (a b : Stock) (old new : Listed) → old ≡ record { sheaves = []; len = 0 } → Exchanged a old.sheaves b new.sheaves
-    → IsContent b new → bytes_in b new ≡ bytes_in a old → Exchanged a [] b []
+    → IsContent b new → listed_bytes b new ≡ listed_bytes a old → Exchanged a [] b []
 exchanged_refused a b old new blank exchanged content same =
     subst (λ p. Exchanged a p b []) (ap (λ (c : Listed). c.sheaves) blank)
     (subst (Exchanged a old.sheaves b) (no_sheaves a b old new content same (ap (λ (c : Listed). c.len) blank)) exchanged)
 
-pub filled_bytes : (a : Stock) (old : Listed) (bytes : List ℕ) → old ≡ record { sheaves = []; len = 0 } → overwritten (bytes_in a old) 0 bytes ≡ bytes
+pub filled_bytes : (a : Stock) (old : Listed) (bytes : List ℕ) → old ≡ record { sheaves = []; len = 0 } → overwritten (listed_bytes a old) 0 bytes ≡ bytes
 filled_bytes a old bytes blank =
-    ap (λ c. overwritten (bytes_in a c) 0 bytes) blank
+    ap (λ c. overwritten (listed_bytes a c) 0 bytes) blank
     ∙ sym (fill_by_all (λ i. cond (is_within 0 (length bytes) i) (get_or bytes (i - 0) 0) (get_or [] i 0)) bytes (max 0 (0 + length bytes)) 0
     (omega arith) (λ k h. grind arith))

@@ -7,7 +7,7 @@ use Rattle.std.specs.Cmp.{unsigned_tied}
 use Rattle.std.specs.Ordering.{nat_cmp}
 use Rattle.std.specs.FinMap.{FinMap, get, get-insert, get-empty, get-retain_keys, retain_keys, same_map, nat_cmp-IsAntisymmetric}
 use Rattle.rbd_kinds.proofs.Plain.{eqb_flip}
-use Rattle.rbd_object.specs.Kept.{Kept, AreNewest, AreUsed, is_used, is_listed, keep_each, kept_by, live_part}
+use Rattle.rbd_object.specs.Kept.{Kept, AreNewest, AreUsed, is_needed, is_listed, keep_each, kept_by, live_part}
 
 cond_or : {A : Type 0} (a b : Bool) (x y : A) → cond a x (cond b x y) ≡ cond (a || b) x y
 cond_or true b x y = refl
@@ -89,14 +89,14 @@ kept_by-retained R live f says (v ∷ old) new r =
 
 -- the same `retain_mut` leaves versions that are for some snapshot, where it drops the others
 pub AreUsed-retained : {F : Type 0} (R : F → Kept → Bool → F → Kept → Type 0) (f : F)
-    → ((v : Kept) (stays : Bool) (g : F) (w : Kept) → R f v stays g w → (g ≡ f) × (stays ≡ true → IsTrue (is_used w)))
+    → ((v : Kept) (stays : Bool) (g : F) (w : Kept) → R f v stays g w → (g ≡ f) × (stays ≡ true → IsTrue (is_needed w)))
     → (old new : List Kept) → RetainsInTurn R f old new → AreUsed new
 AreUsed-retained R f says [] new r = subst AreUsed (sym r) refl
 AreUsed-retained R f says (v ∷ old) new r =
     let said = says v r.0 r.1 r.2 r.3 in
     subst AreUsed (sym r.6)
     (go r.0 said.1 (AreUsed-retained R f says old r.4 (subst (λ g. RetainsInTurn R g old r.4) said.0 r.5))) where
-      go : (stays : Bool) → (stays ≡ true → IsTrue (is_used r.2)) → AreUsed r.4 → AreUsed (cond stays (r.2 ∷ r.4) r.4)
+      go : (stays : Bool) → (stays ≡ true → IsTrue (is_needed r.2)) → AreUsed r.4 → AreUsed (cond stays (r.2 ∷ r.4) r.4)
       go true used rest = rw (used refl) rest
       go false used rest = rest
 
@@ -106,13 +106,13 @@ abbrev pub AreEmpty : List Kept → Type 0
 AreEmpty [] = Unit {0}
 AreEmpty (v ∷ versions) = (v.bytes ≡ []) × AreEmpty versions
 
-used_both : (v : Kept) (versions : List Kept) → AreUsed (v ∷ versions) → IsTrue (is_used v) × AreUsed versions
-used_both v versions used = go (is_used v) refl where
-  go : (test : Bool) → is_used v ≡ test → IsTrue (is_used v) × AreUsed versions
-  go true e = (e, sym (ap (λ t. t && list_all is_used versions) e) ∙ used)
-  go false e = let clash : false ≡ true = sym (ap (λ t. t && list_all is_used versions) e) ∙ used in cc
+used_both : (v : Kept) (versions : List Kept) → AreUsed (v ∷ versions) → IsTrue (is_needed v) × AreUsed versions
+used_both v versions used = go (is_needed v) refl where
+  go : (test : Bool) → is_needed v ≡ test → IsTrue (is_needed v) × AreUsed versions
+  go true e = (e, sym (ap (λ t. t && list_all is_needed versions) e) ∙ used)
+  go false e = let clash : false ≡ true = sym (ap (λ t. t && list_all is_needed versions) e) ∙ used in cc
 
-first_kept : (bytes snaps : List ℕ) (rest : FinMap nat_cmp (List ℕ)) → IsTrue (is_used (record { snaps = snaps; bytes = bytes }))
+first_kept : (bytes snaps : List ℕ) (rest : FinMap nat_cmp (List ℕ)) → IsTrue (is_needed (record { snaps = snaps; bytes = bytes }))
     → ((snap : ℕ) (found : List ℕ) → get (keep_each bytes snaps rest) snap ≡ Some found → found ≡ []) → bytes ≡ []
 first_kept bytes [] rest used empty = cc
 first_kept bytes (s ∷ snaps) rest used empty =

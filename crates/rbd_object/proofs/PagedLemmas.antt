@@ -7,18 +7,18 @@ use Rattle.rbd_kinds.specs.declared.header.SnapContext.{SnapContext}
 use Rattle.rbd_pages.specs.Sheaves.{AreStocked, IsSame, Stock, named_in}
 use Rattle.rbd_pages.specs.Sheets.{Sheet, bytes_at, count_at, in_use}
 use Rattle.rbd_pages.specs.Paging.{occurs, pages_for, AreCounted}
-use Rattle.rbd_pages.specs.Listed.{Listed, IsContent, bytes_in, pages_on}
-use Rattle.rbd_object.specs.Shared.{Stored, AreContents, AreNamed, AreShared, IsHead, IsKept, bytes_of, dead_named, dead_sheaves, is_live, kept_in, len_of, live_versions, named, sheaves_of, view_in}
+use Rattle.rbd_pages.specs.Listed.{Listed, IsContent, listed_bytes, pages_on}
+use Rattle.rbd_object.specs.Shared.{Stored, AreContents, AreNamed, AreShared, IsHead, KeepsHead, bytes_of, dead_named, dead_sheaves, is_live, kept_in, len_of, live_versions, named, sheaves_of, view_in}
 use Rattle.rbd_object.specs.Paged.{IsPaged, Paged, paged_of}
-use Rattle.rbd_object.specs.Changes.{takes}
-use Rattle.rbd_object.specs.declared.change.Change.{Change}
+use Rattle.rbd_object.specs.Changes.{pages_taken}
+use Rattle.rbd_object.specs.declared.change.ObjectChange.{ObjectChange}
 use Rattle.rbd_object.proofs.EachLemmas.{len_is}
 use Rattle.rbd_object.proofs.VersionLemmas.{live_next}
 use Rattle.rbd_object.proofs.KeptLemmas.{AreEmpty, get-live_versions, get_kept_by, is_listed-filter, kept_by-live, kept_empty}
 use Rattle.std.specs.List.{list_any}
-use Rattle.rbd_object.specs.Kept.{AreNewest, AreUsed, Kept, is_listed, is_used, keep_each, kept_by, live_part, new_version}
+use Rattle.rbd_object.specs.Kept.{AreNewest, AreUsed, Kept, is_listed, is_needed, keep_each, kept_by, live_part, new_version}
 use Rattle.rbd_object.specs.Versioned.{view}
-use Rattle.rbd_object.specs.Mapped.{IsSound, Mapped, due_snaps, looked, mapped_change, mapped_copy_up, mapped_trim, value_of}
+use Rattle.rbd_object.specs.Mapped.{IsSound, Mapped, due_snaps, versioned, mapped_change, mapped_copy_up, mapped_trim, value_of}
 use Rattle.rbd_object.proofs.HeadLemmas.{framed, framed_head}
 use Rattle.rbd_pages.proofs.ListedLemmas.{length-bytes_in}
 use Rattle.rbd_pages.proofs.SheavesLemmas.{counted_pages, occurs-append}
@@ -79,7 +79,7 @@ made_version (s ∷ snaps) wanted (Some x) kept w k = ap (option_map (λ (bytes 
 
 -- what a change leaves of the rest: nothing but the head's pages moved
 step_shared : (wanted : Bool) (a b : Stock) (head after kept : Option Listed) (snaps : List ℕ) (versions : List Stored)
-    → AreShared a head versions → IsKept wanted a head b after kept
+    → AreShared a head versions → KeepsHead wanted a head b after kept
     → AreShared b after (option_to_list (stored_of snaps kept) ++ versions) × (map (kept_in b) versions ≡ map (kept_in a) versions)
 step_shared wanted a b head after kept snaps versions shared is =
     let frame = framed_versions a b versions (λ s there. is.exchanged.others s (let x = shared.counts s in omega arith)) shared.contents in (
@@ -105,7 +105,7 @@ pub step_paged : (wanted : Bool) (c : SnapContext) (o : Mapped) (a b : Stock) (h
     (version : Option Stored) (versions room items : List Stored)
     → value_of (bytes_of a head) seq (map (kept_in a) versions) ≡ o
     → new_version o.head snaps ≡ new_version o.head (due_snaps c o.seq) → wanted ≡ has_any snaps
-    → IsKept wanted a head b after kept → version ≡ stored_of snaps kept → room ≡ versions
+    → KeepsHead wanted a head b after kept → version ≡ stored_of snaps kept → room ≡ versions
     → items ≡ option_to_list version ++ room → next ≡ max seq c.seq → IsPaged a head seq versions
     → IsPaged b after next items
     × (value_of (bytes_of b after) next (map (kept_in b) items) ≡ mapped_change c (bytes_of b after) o)
@@ -133,7 +133,7 @@ step_paged wanted c o a b head after kept seq next snaps version versions room i
 
 -- a refused change
 pub refused_paged : (a b : Stock) (head after : Option Listed) (seq : ℕ) (versions room : List Stored)
-    → IsKept false a head b after None → bytes_of b after ≡ bytes_of a head → room ≡ versions → IsPaged a head seq versions
+    → KeepsHead false a head b after None → bytes_of b after ≡ bytes_of a head → room ≡ versions → IsPaged a head seq versions
     → IsPaged b after seq room
     × (value_of (bytes_of b after) seq (map (kept_in b) room) ≡ value_of (bytes_of a head) seq (map (kept_in a) versions))
 refused_paged a b head after seq versions room k bytes same paged =
@@ -147,30 +147,30 @@ refused_paged a b head after seq versions room k bytes same paged =
     )
 
 pub quiet_paged : (a b : Stock) (head after : Option Listed) (seq : ℕ) (versions : List Stored)
-    → IsKept false a head b after None → IsPaged a head seq versions
+    → KeepsHead false a head b after None → IsPaged a head seq versions
     → IsPaged b after seq versions × (map (kept_in b) versions ≡ map (kept_in a) versions)
 quiet_paged a b head after seq versions k paged =
     let step = step_shared false a b head after None [] versions paged.shared k in
     (record { shared = step.0; sound = subst (IsSound seq) (sym step.1) paged.sound }, step.1)
 
 pub filled_paged : (a b : Stock) (head after : Option Listed) (seq : ℕ) (versions : List Stored) (bytes : List ℕ) (o : Mapped)
-    → IsKept false a None b after None → head ≡ None → bytes_of b after ≡ Some bytes
+    → KeepsHead false a None b after None → head ≡ None → bytes_of b after ≡ Some bytes
     → value_of (bytes_of a head) seq (map (kept_in a) versions) ≡ o → IsPaged a head seq versions
     → IsPaged b after seq versions × (value_of (bytes_of b after) seq (map (kept_in b) versions) ≡ mapped_copy_up bytes o)
 filled_paged a b head after seq versions bytes o k none filled is paged =
-    let step = quiet_paged a b head after seq versions (subst (λ h. IsKept false a h b after None) (sym none) k) paged in (
+    let step = quiet_paged a b head after seq versions (subst (λ h. KeepsHead false a h b after None) (sym none) k) paged in (
       step.0,
       ap (λ held. value_of held seq (map (kept_in b) versions)) filled
           ∙ ap (value_of (Some bytes) seq) step.1
           ∙ ap (mapped_copy_up bytes) (ap (λ h. value_of (bytes_of a h) seq (map (kept_in a) versions)) (sym none) ∙ is),
     )
 
-pub pages_step : (a b : Stock) (head : Option Listed) (seq : ℕ) (versions : List Stored) (o : Paged) (change : Change)
-    → paged_of a head seq versions ≡ o → in_use b.sheets ≤ in_use a.sheets + takes change (len_of head)
-    → in_use b.sheets ≤ o.pages + takes change (length (unwrap_or o.shown.head []))
+pub pages_step : (a b : Stock) (head : Option Listed) (seq : ℕ) (versions : List Stored) (o : Paged) (change : ObjectChange)
+    → paged_of a head seq versions ≡ o → in_use b.sheets ≤ in_use a.sheets + pages_taken change (len_of head)
+    → in_use b.sheets ≤ o.pages + pages_taken change (length (unwrap_or o.shown.head []))
 pages_step a b head seq versions o change is few =
-    subst (λ (x : Paged). in_use b.sheets ≤ x.pages + takes change (length (unwrap_or x.shown.head []))) is
-    (subst (λ n. in_use b.sheets ≤ in_use a.sheets + takes change n) (len_is a head) few)
+    subst (λ (x : Paged). in_use b.sheets ≤ x.pages + pages_taken change (length (unwrap_or x.shown.head []))) is
+    (subst (λ n. in_use b.sheets ≤ in_use a.sheets + pages_taken change n) (len_is a head) few)
 
 pub wanted_is : (n : ℕ) (snaps : List ℕ) (empty : Bool) → empty ≡ eqb n 0 → n ≡ length snaps → not empty ≡ has_any snaps
 wanted_is n [] empty e long = grind arith
@@ -208,11 +208,11 @@ dropped_snaps p (s ∷ snaps) none = go (p s) refl (dropped_snaps p snaps) where
   go true e rest = let clash : true ≡ false = sym (ap (λ t. t || list_any p snaps) e) ∙ none in cc
   go false e rest = let here = rest (sym (ap (λ t. t || list_any p snaps) e) ∙ none) in grind arith
 
-left_snaps : (p : ℕ → Bool) (snaps : List ℕ) (bytes : List ℕ) → list_any p snaps ≡ true → is_used (record { snaps = filter p snaps; bytes = bytes }) ≡ true
+left_snaps : (p : ℕ → Bool) (snaps : List ℕ) (bytes : List ℕ) → list_any p snaps ≡ true → is_needed (record { snaps = filter p snaps; bytes = bytes }) ≡ true
 left_snaps p [] bytes some = cc
 left_snaps p (s ∷ snaps) bytes some = go (p s) refl (left_snaps p snaps bytes) where
-  go : (test : Bool) → p s ≡ test → (list_any p snaps ≡ true → is_used (record { snaps = filter p snaps; bytes = bytes }) ≡ true)
-      → is_used (record { snaps = filter p (s ∷ snaps); bytes = bytes }) ≡ true
+  go : (test : Bool) → p s ≡ test → (list_any p snaps ≡ true → is_needed (record { snaps = filter p snaps; bytes = bytes }) ≡ true)
+      → is_needed (record { snaps = filter p (s ∷ snaps); bytes = bytes }) ≡ true
   go true e rest = rw e refl
   go false e rest = let here = rest (sym (ap (λ t. t || list_any p snaps) e) ∙ some) in rw e here
 
@@ -225,11 +225,11 @@ kept_live a live (v ∷ versions) = go (is_live live v) refl (kept_live a live v
       → kept_by (map (kept_in a) (live_versions live (v ∷ versions))) ≡ kept_by (map (live_part live) (map (kept_in a) (v ∷ versions)))
   go true e rest =
       ap (λ xs. kept_by (map (kept_in a) xs)) (live_next live v versions true e)
-      ∙ ap (keep_each (bytes_in a v.content) (filter (is_listed live) v.snaps)) rest
+      ∙ ap (keep_each (listed_bytes a v.content) (filter (is_listed live) v.snaps)) rest
   go false e rest =
       ap (λ xs. kept_by (map (kept_in a) xs)) (live_next live v versions false e)
       ∙ rest
-      ∙ sym (ap (λ snaps. keep_each (bytes_in a v.content) snaps (kept_by (map (live_part live) (map (kept_in a) versions)))) (dropped_snaps (is_listed live) v.snaps e))
+      ∙ sym (ap (λ snaps. keep_each (listed_bytes a v.content) snaps (kept_by (map (live_part live) (map (kept_in a) versions)))) (dropped_snaps (is_listed live) v.snaps e))
 
 used_live : (a : Stock) (live : List ℕ) (versions : List Stored) → AreUsed (map (kept_in a) (live_versions live versions))
 used_live a live [] = refl
@@ -238,7 +238,7 @@ used_live a live (v ∷ versions) = go (is_live live v) refl (used_live a live v
       → AreUsed (map (kept_in a) (live_versions live (v ∷ versions)))
   go true e rest =
       subst (λ xs. AreUsed (map (kept_in a) xs)) (sym (live_next live v versions true e))
-      (let first = left_snaps (is_listed live) v.snaps (bytes_in a v.content) e in rw first rest)
+      (let first = left_snaps (is_listed live) v.snaps (listed_bytes a v.content) e in rw first rest)
   go false e rest = subst (λ xs. AreUsed (map (kept_in a) xs)) (sym (live_next live v versions false e)) rest
 
 abbrev no_bytes : Option (List ℕ)
@@ -305,24 +305,24 @@ find-map f passes (x ∷ xs) = one (passes (f x)) (find-map f passes xs) where
   one false rest = rest
 
 found_bytes : (a : Stock) (snap : ℕ) (versions : List Stored)
-    → option_map (bytes_in a) (option_map (λ (v : Stored). v.content) (find (λ (v : Stored). is_listed v.snaps snap) versions))
+    → option_map (listed_bytes a) (option_map (λ (v : Stored). v.content) (find (λ (v : Stored). is_listed v.snaps snap) versions))
     ≡ get (kept_by (map (kept_in a) versions)) snap
 found_bytes a snap versions =
     same (find (λ (v : Stored). is_listed v.snaps snap) versions)
     ∙ ap (option_map (λ (k : Kept). k.bytes)) (sym (find-map (kept_in a) (λ (k : Kept). is_listed k.snaps snap) versions))
     ∙ sym (get_kept_by (map (kept_in a) versions) snap)
   where
-    same : (o : Option Stored) → option_map (bytes_in a) (option_map (λ (v : Stored). v.content) o) ≡ option_map (λ (k : Kept). k.bytes) (option_map (kept_in a) o)
+    same : (o : Option Stored) → option_map (listed_bytes a) (option_map (λ (v : Stored). v.content) o) ≡ option_map (λ (k : Kept). k.bytes) (option_map (kept_in a) o)
     same None = refl
     same (Some v) = refl
 
 pub shown_is : (a : Stock) (head : Option Listed) (seq : ℕ) (versions : List Stored) (snap : Option ℕ) (o : Mapped) (found : Option Listed)
     → value_of (bytes_of a head) seq (map (kept_in a) versions) ≡ o → found ≡ view_in head seq versions snap
-    → view (looked o) snap ≡ bytes_of a found
-shown_is a head seq versions None o found value is = ap (λ (x : Mapped). view (looked x) None) (sym value) ∙ sym (ap (bytes_of a) is)
+    → view (versioned o) snap ≡ bytes_of a found
+shown_is a head seq versions None o found value is = ap (λ (x : Mapped). view (versioned x) None) (sym value) ∙ sym (ap (bytes_of a) is)
 shown_is a head seq versions (Some snap) o found value is =
-    ap (λ (x : Mapped). view (looked x) (Some snap)) (sym value) ∙ go (ltb seq snap) refl ∙ sym (ap (bytes_of a) is) where
-      go : (test : Bool) → ltb seq snap ≡ test → view (looked (value_of (bytes_of a head) seq (map (kept_in a) versions))) (Some snap) ≡ bytes_of a (view_in head seq versions (Some snap))
+    ap (λ (x : Mapped). view (versioned x) (Some snap)) (sym value) ∙ go (ltb seq snap) refl ∙ sym (ap (bytes_of a) is) where
+      go : (test : Bool) → ltb seq snap ≡ test → view (versioned (value_of (bytes_of a head) seq (map (kept_in a) versions))) (Some snap) ≡ bytes_of a (view_in head seq versions (Some snap))
       go true e = rw e refl
       go false e = rw e (sym (found_bytes a snap versions))
 
@@ -390,14 +390,14 @@ at_most (s ∷ sheets) pages few =
 
 -- the pages of what is shown
 pub pages_least : (a : Stock) (head : Option Listed) (seq : ℕ) (versions : List Stored) (o : Mapped) (snap : Option ℕ) (bytes : List ℕ)
-    → value_of (bytes_of a head) seq (map (kept_in a) versions) ≡ o → AreStocked a → IsPaged a head seq versions → view (looked o) snap ≡ Some bytes
+    → value_of (bytes_of a head) seq (map (kept_in a) versions) ≡ o → AreStocked a → IsPaged a head seq versions → view (versioned o) snap ≡ Some bytes
     → pages_for (length bytes) ≤ in_use a.sheets
 pages_least a head seq versions o snap bytes value stocked paged some =
     go (view_in head seq versions snap) refl where
       go : (found : Option Listed) → found ≡ view_in head seq versions snap → pages_for (length bytes) ≤ in_use a.sheets
       go None is = let clash : Some bytes ≡ None = sym some ∙ shown_is a head seq versions snap o None value is in cc
       go (Some c) is =
-          let same : bytes ≡ bytes_in a c = let e : Some bytes ≡ Some (bytes_in a c) = sym some ∙ shown_is a head seq versions snap o (Some c) value is in cc in
+          let same : bytes ≡ listed_bytes a c = let e : Some bytes ≡ Some (listed_bytes a c) = sym some ∙ shown_is a head seq versions snap o (Some c) value is in cc in
           let sound = shown_sound a head seq versions snap c is paged in
           let long : length bytes ≡ c.len = ap length same ∙ length-bytes_in a c in
           let fits : pages_for c.len ≤ length (pages_on a c) = sound.1.fits in
@@ -407,7 +407,7 @@ pages_least a head seq versions o snap bytes value stocked paged some =
 
 -- ---- no page where there is no byte
 
-no_sheaves_in : (a : Stock) (c : Listed) → IsContent a c → bytes_in a c ≡ [] → c.sheaves ≡ []
+no_sheaves_in : (a : Stock) (c : Listed) → IsContent a c → listed_bytes a c ≡ [] → c.sheaves ≡ []
 no_sheaves_in a c content none =
     let long : c.len ≡ 0 = sym (length-bytes_in a c) ∙ ap length none in
     let held = content.held in
@@ -423,7 +423,7 @@ unnamed a (v ∷ versions) s are empty =
 head_unnamed : (a : Stock) (head : Option Listed) (s : ℕ) → IsHead a head → ((bytes : List ℕ) → bytes_of a head ≡ Some bytes → bytes ≡ [])
     → occurs s (sheaves_of head) ≡ 0
 head_unnamed a None s is empty = refl
-head_unnamed a (Some c) s is empty = ap (occurs s) (no_sheaves_in a c is (empty (bytes_in a c) refl))
+head_unnamed a (Some c) s is empty = ap (occurs s) (no_sheaves_in a c is (empty (listed_bytes a c) refl))
 
 named_nowhere : (sheaves : List Sheet) (x : ℕ) → ((s : ℕ) → bytes_at sheaves s ≡ []) → named_in x sheaves ≡ 0
 named_nowhere [] x none = refl
@@ -441,12 +441,12 @@ sheaf_of_pages (s ∷ sheaves) sheets stocked some = omega arith
 
 pub pages_none : (a : Stock) (head : Option Listed) (seq : ℕ) (versions : List Stored) (o : Mapped)
     → value_of (bytes_of a head) seq (map (kept_in a) versions) ≡ o → AreStocked a → IsPaged a head seq versions
-    → ((snap : Option ℕ) (bytes : List ℕ) → view (looked o) snap ≡ Some bytes → bytes ≡ []) → in_use a.sheets ≡ 0
+    → ((snap : Option ℕ) (bytes : List ℕ) → view (versioned o) snap ≡ Some bytes → bytes ≡ []) → in_use a.sheets ≡ 0
 pages_none a head seq versions o value stocked paged empty =
     let first : (bytes : List ℕ) → bytes_of a head ≡ Some bytes → bytes ≡ [] =
     λ bytes is. empty None bytes (ap (λ (x : Mapped). x.head) (sym value) ∙ is) in
     let kept : (snap : ℕ) (bytes : List ℕ) → get (kept_by (map (kept_in a) versions)) snap ≡ Some bytes → bytes ≡ [] =
-    λ snap bytes is. empty (Some snap) bytes (ap (λ (x : Mapped). view (looked x) (Some snap)) (sym value) ∙ seen snap bytes is (ltb seq snap) refl) in
+    λ snap bytes is. empty (Some snap) bytes (ap (λ (x : Mapped). view (versioned x) (Some snap)) (sym value) ∙ seen snap bytes is (ltb seq snap) refl) in
     let all = kept_empty (map (kept_in a) versions) paged.sound.used paged.sound.newest kept in
     unused a.sheets (λ x.
     stocked.counts x
@@ -458,7 +458,7 @@ pages_none a head seq versions o value stocked paged empty =
     omega arith)))
   where
     seen : (snap : ℕ) (bytes : List ℕ) → get (kept_by (map (kept_in a) versions)) snap ≡ Some bytes → (test : Bool) → ltb seq snap ≡ test
-        → view (looked (value_of (bytes_of a head) seq (map (kept_in a) versions))) (Some snap) ≡ Some bytes
+        → view (versioned (value_of (bytes_of a head) seq (map (kept_in a) versions))) (Some snap) ≡ Some bytes
     seen snap bytes is true e = let clash : None ≡ Some bytes = sym (paged.sound.tidy.above snap (grind arith)) ∙ is in cc
     seen snap bytes is false e = rw e is
 

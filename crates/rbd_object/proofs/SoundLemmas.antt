@@ -4,14 +4,14 @@ use Rattle.std.specs.Ordering.{nat_cmp}
 use Rattle.std.specs.FinMap.{get-empty, retain_keys}
 use Rattle.rbd_kinds.specs.declared.header.SnapContext.{SnapContext}
 use Rattle.rbd_object.specs.Kept.{AreNewest, AreUsed, Kept, is_listed, kept_by, new_version}
-use Rattle.rbd_object.specs.Versioned.{Versioned, IsTidy, is_due, change, trim}
-use Rattle.rbd_object.specs.Mapped.{IsSound, Mapped, value_of, looked, keep_head, due_snaps, mapped_change}
+use Rattle.rbd_object.specs.Versioned.{Versioned, IsTidy, is_version_due, change, trim}
+use Rattle.rbd_object.specs.Mapped.{IsSound, Mapped, value_of, versioned, keep_head, due_snaps, mapped_change}
 use Rattle.rbd_object.proofs.KeptLemmas.{is_listed-filter}
 use Rattle.rbd_object.proofs.MappedLemmas.{looked-mapped_change, looked-mapped_trim}
 
 pub due_snaps_past : (c : SnapContext) (seq : ℕ) → c.seq ≤ seq → due_snaps c seq ≡ []
 due_snaps_past c seq past = go c.snaps where
-  go : (snaps : List ℕ) → filter (is_due seq c.seq) snaps ≡ []
+  go : (snaps : List ℕ) → filter (is_version_due seq c.seq) snaps ≡ []
   go [] = refl
   go (s ∷ snaps) = grind (arith, go snaps)
 
@@ -39,11 +39,11 @@ changed_value c head new seq next versions version v n =
 
 tidy_changed : (c : SnapContext) (head : Option (List ℕ)) (seq next : ℕ) (versions : List Kept) (version : Option Kept)
     → version ≡ new_version head (due_snaps c seq) → next ≡ max seq c.seq
-    → IsTidy (looked (value_of None seq versions)) → IsTidy (looked (value_of None next (option_to_list version ++ versions)))
+    → IsTidy (versioned (value_of None seq versions)) → IsTidy (versioned (value_of None next (option_to_list version ++ versions)))
 tidy_changed c head seq next versions version v n tidy =
     subst IsTidy
-    (sym (ap looked (changed_value c head None seq next versions version v n) ∙ looked-mapped_change c None (value_of head seq versions)))
-    (tidy_change c None (looked (value_of head seq versions)) (record { above = tidy.above }))
+    (sym (ap versioned (changed_value c head None seq next versions version v n) ∙ looked-mapped_change c None (value_of head seq versions)))
+    (tidy_change c None (versioned (value_of head seq versions)) (record { above = tidy.above }))
 
 used_changed : (head : Option (List ℕ)) (snaps : List ℕ) (versions : List Kept)
     → AreUsed versions → AreUsed (option_to_list (new_version head snaps) ++ versions)
@@ -52,7 +52,7 @@ used_changed (Some bytes) [] versions used = used
 used_changed (Some bytes) (s ∷ snaps) versions used = used
 
 -- the snapshots for which a change is the first have nothing kept
-newest_changed : (c : SnapContext) (head : Option (List ℕ)) (seq : ℕ) (versions : List Kept) → IsTidy (looked (value_of None seq versions))
+newest_changed : (c : SnapContext) (head : Option (List ℕ)) (seq : ℕ) (versions : List Kept) → IsTidy (versioned (value_of None seq versions))
     → AreNewest versions → AreNewest (option_to_list (new_version head (due_snaps c seq)) ++ versions)
 newest_changed c None seq versions tidy newest = newest
 newest_changed c (Some bytes) seq versions tidy newest = go (due_snaps c seq) refl where
@@ -60,8 +60,8 @@ newest_changed c (Some bytes) seq versions tidy newest = go (due_snaps c seq) re
   go [] e = newest
   go (s ∷ snaps) e = (
     λ snap listed.
-        let due : (is_due seq c.seq snap && is_listed c.snaps snap) ≡ true =
-        sym (is_listed-filter (is_due seq c.seq) c.snaps snap) ∙ ap (λ xs. is_listed xs snap) (sym e) ∙ listed in
+        let due : (is_version_due seq c.seq snap && is_listed c.snaps snap) ≡ true =
+        sym (is_listed-filter (is_version_due seq c.seq) c.snaps snap) ∙ ap (λ xs. is_listed xs snap) (sym e) ∙ listed in
         tidy.above snap (grind arith),
     newest,
   )
@@ -71,8 +71,8 @@ pub sound_trimmed : (live : List ℕ) (seq : ℕ) (old new : List Kept)
 sound_trimmed live seq old new kept used newest sound = record {
   tidy =
       subst IsTidy
-      (sym (ap (λ k. looked (record { head = None; seq = seq; kept = k })) kept ∙ looked-mapped_trim live (value_of None seq old)))
-      (tidy_trim live (looked (value_of None seq old)) sound.tidy);
+      (sym (ap (λ k. versioned (record { head = None; seq = seq; kept = k })) kept ∙ looked-mapped_trim live (value_of None seq old)))
+      (tidy_trim live (versioned (value_of None seq old)) sound.tidy);
   used = used;
   newest = newest;
 }

@@ -7,11 +7,11 @@ use Rattle.rbd_pages.specs.Paging.{pages_for}
 use Rattle.rbd_pages.specs.Listed.{touched}
 use Rattle.rbd_object.specs.Shared.{written_touch, zeroed_touch}
 use Rattle.rbd_parts.specs.declared.parts.TheConstants.{LARGEST_OBJECT}
-use Rattle.rbd_object.specs.declared.change.Change.{Change}
-use Rattle.rbd_object.specs.declared.change.Change.TheVariants.{Write, WriteParts, WriteFull, Zero, ZeroParts, Empty, Remove}
+use Rattle.rbd_object.specs.declared.change.ObjectChange.{ObjectChange}
+use Rattle.rbd_object.specs.declared.change.ObjectChange.TheVariants.{Write, WriteParts, WriteFull, Zero, ZeroParts, Empty, Remove}
 
 -- the head after a change
-abbrev pub after : Change → Option (List ℕ) → Option (List ℕ)
+abbrev pub after : ObjectChange → Option (List ℕ) → Option (List ℕ)
 after (Write at bytes) head = Some (overwritten (unwrap_or head []) at bytes.now)
 after (WriteParts parts bytes) head = Some (parts_written parts.now bytes.now (unwrap_or head []))
 after (WriteFull bytes) head = Some bytes.now
@@ -21,21 +21,21 @@ after Empty head = Some []
 after Remove head = None
 
 -- how many pages a change of a head with `len` bytes may take
-abbrev pub takes : Change → (len : ℕ) → ℕ
-takes (Write at bytes) len = touched (min len at) (at + length bytes.now)
-takes (WriteParts parts bytes) len = written_touch len parts.now
-takes (WriteFull bytes) len = pages_for (length bytes.now)
-takes (Zero at count) len = touched at (at + count)
-takes (ZeroParts parts) len = zeroed_touch parts.now
-takes Empty len = 0
-takes Remove len = 0
+abbrev pub pages_taken : ObjectChange → (len : ℕ) → ℕ
+pages_taken (Write at bytes) len = touched (min len at) (at + length bytes.now)
+pages_taken (WriteParts parts bytes) len = written_touch len parts.now
+pages_taken (WriteFull bytes) len = pages_for (length bytes.now)
+pages_taken (Zero at count) len = touched at (at + count)
+pages_taken (ZeroParts parts) len = zeroed_touch parts.now
+pages_taken Empty len = 0
+pages_taken Remove len = 0
 
 -- what is written lies within the largest object
-abbrev pub IsWithin : Change → Type 0
-IsWithin (Write at bytes) = at + length bytes.now ≤ LARGEST_OBJECT
-IsWithin (WriteParts parts bytes) = AreWithin parts.now × (length bytes.now ≡ parts_len parts.now)
-IsWithin (WriteFull bytes) = length bytes.now ≤ LARGEST_OBJECT
-IsWithin (Zero at count) = Unit {0}
-IsWithin (ZeroParts parts) = Unit {0}
-IsWithin Empty = Unit {0}
-IsWithin Remove = Unit {0}
+abbrev pub FitsObject : ObjectChange → Type 0
+FitsObject (Write at bytes) = at + length bytes.now ≤ LARGEST_OBJECT
+FitsObject (WriteParts parts bytes) = AreWithin parts.now × (length bytes.now ≡ parts_len parts.now)
+FitsObject (WriteFull bytes) = length bytes.now ≤ LARGEST_OBJECT
+FitsObject (Zero at count) = Unit {0}
+FitsObject (ZeroParts parts) = Unit {0}
+FitsObject Empty = Unit {0}
+FitsObject Remove = Unit {0}

@@ -34,14 +34,14 @@ new_version (Some bytes) [] = None
 new_version (Some bytes) (snap ∷ snaps) = Some (record { snaps = snap ∷ snaps; bytes = bytes })
 
 -- whether a version is kept for some snapshot
-abbrev pub is_used : Kept → Bool
-is_used v = has_some v.snaps where
+abbrev pub is_needed : Kept → Bool
+is_needed v = has_some v.snaps where
   has_some : List ℕ → Bool
   has_some [] = false
   has_some (snap ∷ snaps) = true
 
 abbrev pub AreUsed : List Kept → Type 0
-AreUsed versions = IsTrue (list_all is_used versions)
+AreUsed versions = IsTrue (list_all is_needed versions)
 
 -- what a version is kept for, no older one is
 abbrev pub AreNewest : List Kept → Type 0

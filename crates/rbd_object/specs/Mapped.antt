@@ -5,7 +5,7 @@ use Rattle.std.specs.Ordering.{nat_cmp}
 use Rattle.std.specs.FinMap as map
 use Rattle.rbd_kinds.specs.declared.header.SnapContext.{SnapContext}
 use Rattle.rbd_object.specs.Kept.{Kept, AreNewest, AreUsed, is_listed, keep_each, kept_by}
-use Rattle.rbd_object.specs.Versioned.{Versioned, IsTidy, is_due}
+use Rattle.rbd_object.specs.Versioned.{Versioned, IsTidy, is_version_due}
 
 pub record Mapped : Type 0 where
   pub head : Option (List ℕ)
@@ -25,8 +25,8 @@ abbrev pub value_of : (head : Option (List ℕ)) → (seq : ℕ) → (versions :
 value_of head seq versions = record { head = head; seq = seq; kept = kept_by versions }
 
 -- the versioned object that a value stands for
-abbrev pub looked : Mapped → Versioned
-looked o = record { head = o.head; seq = o.seq; kept = map.get o.kept }
+abbrev pub versioned : Mapped → Versioned
+versioned o = record { head = o.head; seq = o.seq; kept = map.get o.kept }
 
 abbrev pub mapped_blank : Mapped
 mapped_blank = record { head = None; seq = 0; kept = map.empty }
@@ -38,7 +38,7 @@ keep_head (Some bytes) snaps kept = keep_each bytes snaps kept
 
 -- the listed snapshots for which a change is the first
 abbrev pub due_snaps : SnapContext → (seq : ℕ) → List ℕ
-due_snaps c seq = filter (is_due seq c.seq) c.snaps
+due_snaps c seq = filter (is_version_due seq c.seq) c.snaps
 
 abbrev pub mapped_change : SnapContext → (new : Option (List ℕ)) → Mapped → Mapped
 mapped_change c new o = record {
@@ -56,6 +56,6 @@ mapped_trim live o = record o { kept = map.retain_keys o.kept (is_listed live) }
 -- What holds of an object's versions at every moment: nothing is kept above `seq`, no version is
 -- left that no snapshot needs, and each is the newest for its snapshots.
 pub record IsSound (seq : ℕ) (versions : List Kept) : Type 0 where
-  pub tidy : IsTidy (looked (value_of None seq versions))
+  pub tidy : IsTidy (versioned (value_of None seq versions))
   pub used : AreUsed versions
   pub newest : AreNewest versions

@@ -6,7 +6,7 @@ use Rattle.rbd_pages.specs.Paging.{occurs}
 use Rattle.rbd_pages.specs.Sheaves.{Exchanged, Stock}
 use Rattle.rbd_kinds.specs.declared.layout.Part.{Part}
 use Rattle.rbd_object.specs.Kept.{Kept, is_listed}
-use Rattle.rbd_pages.specs.Listed.{Listed, bytes_in, IsContent, touched}
+use Rattle.rbd_pages.specs.Listed.{Listed, listed_bytes, IsContent, touched}
 
 -- a version: a content, and the snapshots that it is kept for
 pub record Stored : Type 0 where
@@ -22,7 +22,7 @@ IsHead stock None = Unit {0}
 IsHead stock (Some c) = IsContent stock c
 
 abbrev pub kept_in : Stock → Stored → Kept
-kept_in stock v = record { snaps = v.snaps; bytes = bytes_in stock v.content }
+kept_in stock v = record { snaps = v.snaps; bytes = listed_bytes stock v.content }
 
 -- in how many places versions name a sheaf
 abbrev pub named : (sheaf : ℕ) → List Stored → ℕ
@@ -72,10 +72,10 @@ len_of None = 0
 len_of (Some c) = c.len
 
 abbrev pub bytes_of : Stock → Option Listed → Option (List ℕ)
-bytes_of stock head = option_map (bytes_in stock) head
+bytes_of stock head = option_map (listed_bytes stock) head
 
 -- A head was changed, and the old one kept where that was wanted.
-pub record IsKept (wanted : Bool) (old : Stock) (head : Option Listed) (new : Stock) (after kept : Option Listed) : Type 0 where
+pub record KeepsHead (wanted : Bool) (old : Stock) (head : Option Listed) (new : Stock) (after kept : Option Listed) : Type 0 where
   pub exchanged : Exchanged old (sheaves_of head) new (sheaves_of after ++ sheaves_of kept)
   pub head_is : IsHead new after
   pub kept_is : IsHead new kept
@@ -99,6 +99,6 @@ view_in head seq versions (Some snap) =
     if nat_lt seq snap then head else option_map (λ (v : Stored). v.content) (find (λ (v : Stored). is_listed v.snaps snap) versions)
 
 -- a head that is there
-abbrev pub begun : Option Listed → Option Listed
-begun None = Some (record { sheaves = []; len = 0 })
-begun (Some c) = Some c
+abbrev pub begun_head : Option Listed → Option Listed
+begun_head None = Some (record { sheaves = []; len = 0 })
+begun_head (Some c) = Some c

@@ -10,8 +10,8 @@ pub record Versioned : Type 0 where
   pub kept : ℕ → Option (List ℕ)
 
 -- an object that nothing was done to
-abbrev pub blank : Versioned
-blank = record { head = None; seq = 0; kept = λ _. None }
+abbrev pub blank_object : Versioned
+blank_object = record { head = None; seq = 0; kept = λ _. None }
 
 -- what is read of the head (None), or of a snapshot
 abbrev pub view : Versioned → Option ℕ → Option (List ℕ)
@@ -20,12 +20,12 @@ view o (Some snap) = if nat_lt o.seq snap then o.head else o.kept snap
 
 -- whether a change under a context with number `number` is the first for a snapshot of an object at
 -- `seq`
-abbrev pub is_due : (seq number snap : ℕ) → Bool
-is_due seq number snap = nat_lt seq snap && nat_le snap number
+abbrev pub is_version_due : (seq number snap : ℕ) → Bool
+is_version_due seq number snap = nat_lt seq snap && nat_le snap number
 
 -- whether a change under this context keeps the head for a snapshot
 abbrev pub keeps_head_for : SnapContext → Versioned → ℕ → Bool
-keeps_head_for c o snap = is_some o.head && is_due o.seq c.seq snap && is_listed c.snaps snap
+keeps_head_for c o snap = is_some o.head && is_version_due o.seq c.seq snap && is_listed c.snaps snap
 
 -- The head as it was is kept for the listed snapshots that are due, `seq` rises to the context's
 -- number, and then the head is the new one.

@@ -4,7 +4,7 @@ use rbd_kinds::Part;
 /// A change of a head. An absent head begins with no bytes where one is written, and stays absent
 /// where it is made zero.
 #[derive(Drop)]
-pub enum Change<'a> {
+pub enum ObjectChange<'a> {
     /// Bytes are written from a byte on.
     Write(u64, &'a [u8]),
     /// Bytes are written into parts, one part after another.

@@ -1,17 +1,17 @@
 //! Changes of a head, which is kept beforehand where snapshots want it.
 ghost use Rattle.std.specs.Prelude.{◌≡◌, ℕ, ◌+◌, ◌<◌, ◌≤◌, if◌then◌else◌, [], ◌++◌, length, min, unwrap_or, option_map, Some, None, false, IfOk, OnOk, OnErr};
-ghost use Rattle.rbd_object.specs.Changes.{IsWithin, after, takes};
+ghost use Rattle.rbd_object.specs.Changes.{FitsObject, after, pages_taken};
 ghost use Rattle.rbd_parts.specs.Contents.{overwritten, zeroed};
 ghost use Rattle.rbd_pages.specs.Paging.{AreCounted, pages_for};
 ghost use Rattle.rbd_pages.specs.Sheaves.{Exchanged, IsSame};
 ghost use Rattle.rbd_kinds.specs.Parts.{parts_len};
 ghost use Rattle.rbd_parts.specs.Parts.{parts_written, parts_zeroed, AreWithin};
-ghost use Rattle.rbd_pages.specs.Listed.{IsContent, bytes_in, touched};
-ghost use Rattle.rbd_object.specs.Shared.{IsHead, IsKept, begun, bytes_of, len_of, sheaves_of, written_touch, zeroed_touch};
+ghost use Rattle.rbd_pages.specs.Listed.{IsContent, listed_bytes, touched};
+ghost use Rattle.rbd_object.specs.Shared.{IsHead, KeepsHead, begun_head, bytes_of, len_of, sheaves_of, written_touch, zeroed_touch};
 ghost use Rattle.rbd_pages.specs.Sheets.{count_at, in_use};
 ghost use Rattle.rbd_parts.specs.declared.parts.TheConstants.{LARGEST_OBJECT};
 
-use crate::change::Change;
+use crate::change::ObjectChange;
 use rbd_kinds::{NoMemory, Part};
 use rbd_pages::{Content, Sheaves};
 use std::alloc::Global;
@@ -23,25 +23,27 @@ pub fn change(
     sheaves: &mut Sheaves,
     head: &mut Option<Content>,
     wanted: bool,
-    change: Change,
+    change: ObjectChange,
 ) -> Result<Option<Content>, NoMemory>
-    requires within { IsWithin change }
+    requires within { FitsObject change }
     requires counted { AreCounted sheaves.old.sheaves (sheaves_of head.old) }
     requires content { IsHead sheaves.old head.old }
-    ensures ok { IfOk result (λ kept. IsKept wanted sheaves.old head.old sheaves.new head.new kept) }
+    ensures ok { IfOk result (λ kept. KeepsHead wanted sheaves.old head.old sheaves.new head.new kept) }
     ensures bytes { OnOk result (bytes_of sheaves.new head.new ≡ after change.entry (bytes_of sheaves.old head.old)) }
-    ensures err { OnErr result (IsKept false sheaves.old head.old sheaves.new head.new None) }
+    ensures err { OnErr result (KeepsHead false sheaves.old head.old sheaves.new head.new None) }
     ensures same { OnErr result (bytes_of sheaves.new head.new ≡ bytes_of sheaves.old head.old) }
-    ensures used { in_use sheaves.new.sheets ≤ in_use sheaves.old.sheets + takes change.entry (len_of head.old) }
+    ensures used { in_use sheaves.new.sheets ≤ in_use sheaves.old.sheets + pages_taken change.entry (len_of head.old) }
 {
     match change {
-        Change::Write(at, bytes) => write(alloc, sheaves, head, wanted, at, bytes),
-        Change::WriteParts(parts, bytes) => write_parts(alloc, sheaves, head, wanted, parts, bytes),
-        Change::WriteFull(bytes) => write_full(alloc, sheaves, head, wanted, bytes),
-        Change::Zero(at, len) => zero(sheaves, head, wanted, at, len),
-        Change::ZeroParts(parts) => zero_parts(sheaves, head, wanted, parts),
-        Change::Empty => Ok(put_in_place(sheaves, head, wanted, Some(Content::new(alloc)))),
-        Change::Remove => Ok(put_in_place(sheaves, head, wanted, None)),
+        ObjectChange::Write(at, bytes) => write(alloc, sheaves, head, wanted, at, bytes),
+        ObjectChange::WriteParts(parts, bytes) => write_parts(
+            alloc, sheaves, head, wanted, parts, bytes,
+        ),
+        ObjectChange::WriteFull(bytes) => write_full(alloc, sheaves, head, wanted, bytes),
+        ObjectChange::Zero(at, len) => zero(sheaves, head, wanted, at, len),
+        ObjectChange::ZeroParts(parts) => zero_parts(sheaves, head, wanted, parts),
+        ObjectChange::Empty => Ok(put_in_place(sheaves, head, wanted, Some(Content::new(alloc)))),
+        ObjectChange::Remove => Ok(put_in_place(sheaves, head, wanted, None)),
     }
 }
 
@@ -56,7 +58,7 @@ fn put_in_place(
     requires content { IsHead sheaves.old head.old }
     requires bare { sheaves_of next ≡ [] }
     requires empty { len_of next ≡ 0 }
-    ensures ok { IsKept wanted sheaves.old head.old sheaves.new next result }
+    ensures ok { KeepsHead wanted sheaves.old head.old sheaves.new next result }
     ensures head { head.new ≡ next }
     ensures used { in_use sheaves.new.sheets ≤ in_use sheaves.old.sheets }
 {
@@ -75,9 +77,9 @@ fn write(
     requires within { at + length bytes.now ≤ LARGEST_OBJECT }
     requires counted { AreCounted sheaves.old.sheaves (sheaves_of head.old) }
     requires content { IsHead sheaves.old head.old }
-    ensures ok { IfOk result (λ kept. IsKept wanted sheaves.old head.old sheaves.new head.new kept) }
+    ensures ok { IfOk result (λ kept. KeepsHead wanted sheaves.old head.old sheaves.new head.new kept) }
     ensures bytes { OnOk result (bytes_of sheaves.new head.new ≡ Some (overwritten (unwrap_or (bytes_of sheaves.old head.old) []) at bytes.now)) }
-    ensures err { OnErr result (IsKept false sheaves.old head.old sheaves.new head.new None) }
+    ensures err { OnErr result (KeepsHead false sheaves.old head.old sheaves.new head.new None) }
     ensures same { OnErr result (bytes_of sheaves.new head.new ≡ bytes_of sheaves.old head.old) }
     ensures used { in_use sheaves.new.sheets ≤ in_use sheaves.old.sheets + touched (min (len_of head.old) at) (at + length bytes.now) }
 {
@@ -101,9 +103,9 @@ fn zero(
 ) -> Result<Option<Content>, NoMemory>
     requires counted { AreCounted sheaves.old.sheaves (sheaves_of head.old) }
     requires content { IsHead sheaves.old head.old }
-    ensures ok { IfOk result (λ kept. IsKept wanted sheaves.old head.old sheaves.new head.new kept) }
+    ensures ok { IfOk result (λ kept. KeepsHead wanted sheaves.old head.old sheaves.new head.new kept) }
     ensures bytes { OnOk result (bytes_of sheaves.new head.new ≡ option_map (λ held. zeroed held at len) (bytes_of sheaves.old head.old)) }
-    ensures err { OnErr result (IsKept false sheaves.old head.old sheaves.new head.new None) }
+    ensures err { OnErr result (KeepsHead false sheaves.old head.old sheaves.new head.new None) }
     ensures same { OnErr result (bytes_of sheaves.new head.new ≡ bytes_of sheaves.old head.old) }
     ensures used { in_use sheaves.new.sheets ≤ in_use sheaves.old.sheets + touched at (at + len) }
 {
@@ -131,9 +133,9 @@ fn write_parts(
     requires long { length bytes.now ≡ parts_len parts.now }
     requires counted { AreCounted sheaves.old.sheaves (sheaves_of head.old) }
     requires content { IsHead sheaves.old head.old }
-    ensures ok { IfOk result (λ kept. IsKept wanted sheaves.old head.old sheaves.new head.new kept) }
+    ensures ok { IfOk result (λ kept. KeepsHead wanted sheaves.old head.old sheaves.new head.new kept) }
     ensures bytes { OnOk result (bytes_of sheaves.new head.new ≡ Some (parts_written parts.now bytes.now (unwrap_or (bytes_of sheaves.old head.old) []))) }
-    ensures err { OnErr result (IsKept false sheaves.old head.old sheaves.new head.new None) }
+    ensures err { OnErr result (KeepsHead false sheaves.old head.old sheaves.new head.new None) }
     ensures same { OnErr result (bytes_of sheaves.new head.new ≡ bytes_of sheaves.old head.old) }
     ensures used { in_use sheaves.new.sheets ≤ in_use sheaves.old.sheets + written_touch (len_of head.old) parts.now }
 {
@@ -156,9 +158,9 @@ fn write_several(
     requires long { length bytes.now ≡ parts_len parts.now }
     requires counted { AreCounted sheaves.old.sheaves (sheaves_of head.old) }
     requires content { IsHead sheaves.old head.old }
-    ensures ok { IfOk result (λ kept. IsKept wanted sheaves.old head.old sheaves.new head.new kept) }
+    ensures ok { IfOk result (λ kept. KeepsHead wanted sheaves.old head.old sheaves.new head.new kept) }
     ensures bytes { OnOk result (bytes_of sheaves.new head.new ≡ Some (parts_written parts.now bytes.now (unwrap_or (bytes_of sheaves.old head.old) []))) }
-    ensures err { OnErr result (IsKept false sheaves.old head.old sheaves.new head.new None) }
+    ensures err { OnErr result (KeepsHead false sheaves.old head.old sheaves.new head.new None) }
     ensures same { OnErr result (bytes_of sheaves.new head.new ≡ bytes_of sheaves.old head.old) }
     ensures used { in_use sheaves.new.sheets ≤ in_use sheaves.old.sheets + written_touch (len_of head.old) parts.now }
 {
@@ -182,9 +184,9 @@ fn zero_parts(
 ) -> Result<Option<Content>, NoMemory>
     requires counted { AreCounted sheaves.old.sheaves (sheaves_of head.old) }
     requires content { IsHead sheaves.old head.old }
-    ensures ok { IfOk result (λ kept. IsKept wanted sheaves.old head.old sheaves.new head.new kept) }
+    ensures ok { IfOk result (λ kept. KeepsHead wanted sheaves.old head.old sheaves.new head.new kept) }
     ensures bytes { OnOk result (bytes_of sheaves.new head.new ≡ option_map (parts_zeroed parts.now) (bytes_of sheaves.old head.old)) }
-    ensures err { OnErr result (IsKept false sheaves.old head.old sheaves.new head.new None) }
+    ensures err { OnErr result (KeepsHead false sheaves.old head.old sheaves.new head.new None) }
     ensures same { OnErr result (bytes_of sheaves.new head.new ≡ bytes_of sheaves.old head.old) }
     ensures used { in_use sheaves.new.sheets ≤ in_use sheaves.old.sheets + zeroed_touch parts.now }
 {
@@ -203,9 +205,9 @@ fn zero_several(
 ) -> Result<Option<Content>, NoMemory>
     requires counted { AreCounted sheaves.old.sheaves (sheaves_of head.old) }
     requires content { IsHead sheaves.old head.old }
-    ensures ok { IfOk result (λ kept. IsKept wanted sheaves.old head.old sheaves.new head.new kept) }
+    ensures ok { IfOk result (λ kept. KeepsHead wanted sheaves.old head.old sheaves.new head.new kept) }
     ensures bytes { OnOk result (bytes_of sheaves.new head.new ≡ option_map (parts_zeroed parts.now) (bytes_of sheaves.old head.old)) }
-    ensures err { OnErr result (IsKept false sheaves.old head.old sheaves.new head.new None) }
+    ensures err { OnErr result (KeepsHead false sheaves.old head.old sheaves.new head.new None) }
     ensures same { OnErr result (bytes_of sheaves.new head.new ≡ bytes_of sheaves.old head.old) }
     ensures used { in_use sheaves.new.sheets ≤ in_use sheaves.old.sheets + zeroed_touch parts.now }
 {
@@ -264,7 +266,7 @@ fn write_each(
 
 /// An absent head begins with no bytes.
 fn begin(alloc: Global, head: &mut Option<Content>)
-    ensures { head.new ≡ begun head.old }
+    ensures { head.new ≡ begun_head head.old }
 {
     if head.is_none() {
         *head = Some(Content::new(alloc));
@@ -300,9 +302,9 @@ pub fn write_full(
     requires within { length bytes.now ≤ LARGEST_OBJECT }
     requires counted { AreCounted sheaves.old.sheaves (sheaves_of head.old) }
     requires content { IsHead sheaves.old head.old }
-    ensures ok { IfOk result (λ kept. IsKept wanted sheaves.old head.old sheaves.new head.new kept) }
+    ensures ok { IfOk result (λ kept. KeepsHead wanted sheaves.old head.old sheaves.new head.new kept) }
     ensures bytes { OnOk result (bytes_of sheaves.new head.new ≡ Some bytes.now) }
-    ensures err { OnErr result (IsKept false sheaves.old head.old sheaves.new head.new None) }
+    ensures err { OnErr result (KeepsHead false sheaves.old head.old sheaves.new head.new None) }
     ensures same { OnErr result (bytes_of sheaves.new head.new ≡ bytes_of sheaves.old head.old) }
     ensures used { in_use sheaves.new.sheets ≤ in_use sheaves.old.sheets + pages_for (length bytes.now) }
 {
@@ -345,7 +347,7 @@ pub fn fill(
 ) -> Result<(), NoMemory>
     requires within { length bytes.now ≤ LARGEST_OBJECT }
     requires absent { head.old ≡ None }
-    ensures ok { IsKept false sheaves.old None sheaves.new head.new None }
+    ensures ok { KeepsHead false sheaves.old None sheaves.new head.new None }
     ensures bytes { OnOk result (bytes_of sheaves.new head.new ≡ Some bytes.now) }
     ensures err { OnErr result (head.new ≡ None) }
     ensures used { in_use sheaves.new.sheets ≤ in_use sheaves.old.sheets + pages_for (length bytes.now) }
@@ -359,7 +361,7 @@ fn filled(alloc: Global, sheaves: &mut Sheaves, bytes: &[u8]) -> Result<Content,
     requires { length bytes.now ≤ LARGEST_OBJECT }
     ensures exchanged { IfOk result (λ content. Exchanged sheaves.old [] sheaves.new content.sheaves) }
     ensures content { IfOk result (λ content. IsContent sheaves.new content) }
-    ensures bytes { IfOk result (λ content. bytes_in sheaves.new content ≡ bytes.now) }
+    ensures bytes { IfOk result (λ content. listed_bytes sheaves.new content ≡ bytes.now) }
     ensures err { OnErr result (Exchanged sheaves.old [] sheaves.new []) }
     ensures used { in_use sheaves.new.sheets ≤ in_use sheaves.old.sheets + pages_for (length bytes.now) }
 {

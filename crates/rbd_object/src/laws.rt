@@ -5,11 +5,12 @@ ghost use Rattle.std.specs.List.{list_all};
 ghost use Rattle.rbd_kinds.specs.declared.header.SnapContext.{SnapContext};
 ghost use Rattle.rbd_parts.specs.Contents.{is_within, window, overwritten, zeroed};
 ghost use Rattle.rbd_object.specs.Kept.{is_listed};
-ghost use Rattle.rbd_object.specs.Versioned.{Versioned, IsTidy, Step, Change, blank, view, change, copy_up, trim, after_steps, spares};
-ghost use Rattle.rbd_object.specs.Mapped.{Mapped, looked, mapped_blank, mapped_change, mapped_copy_up, mapped_trim};
+ghost use Rattle.rbd_object.specs.Versioned.{Versioned, IsTidy, Step, Change, blank_object, view, change, copy_up, trim, after_steps, spares};
+ghost use Rattle.rbd_object.specs.Mapped.{Mapped, versioned, mapped_blank, mapped_change, mapped_copy_up, mapped_trim};
 
-/// Once a snapshot is up to the object's number, and from the first change on whose context lists
-/// it, its view never changes, whatever is done: only a trim for which it isn't live takes it away.
+/// The view of a snapshot whose number is at most the object's never changes, and from a change on
+/// whose context lists the snapshot it doesn't either: only a trim for which the snapshot isn't
+/// live takes it away.
 pub fn views_of_snapshots_stay()
     ensures earlier { (snap : ℕ) (steps : List Step) (o : Versioned)
         → snap ≤ o.seq → IsTrue (list_all (spares snap) steps)
@@ -89,7 +90,7 @@ pub fn bytes_one_by_one()
         → slice_index (zeroed old start count) i ≡ (if is_within start count i then 0 else slice_index old i) }
 {}
 
-/// How long they are.
+/// How many bytes a read shows, and how many there are after a write and after a zero.
 pub fn lengths_of_bytes()
     ensures read { (bytes : List ℕ) (start count : ℕ) → length (window bytes start count) ≡ count }
 
@@ -101,7 +102,7 @@ pub fn lengths_of_bytes()
 
 /// Nothing is ever kept for a snapshot above the object's number.
 pub fn objects_are_tidy()
-    ensures blank { IsTidy blank }
+    ensures blank { IsTidy blank_object }
 
     ensures change { (c : SnapContext) (new : Option (List ℕ)) (o : Versioned) → IsTidy o → IsTidy (change c new o) }
 
@@ -109,14 +110,14 @@ pub fn objects_are_tidy()
     ensures trim { (live : List ℕ) (o : Versioned) → IsTidy o → IsTidy (trim live o) }
 {}
 
-/// A value, as contracts see an `Object`, changes as the versioned object does that it stands for.
+/// A value, as contracts see an `Object`, changes as the versioned object does for which it stands.
 pub fn values_stand_for_objects()
-    ensures blank { looked mapped_blank ≡ blank }
+    ensures blank { versioned mapped_blank ≡ blank_object }
 
     ensures change { (c : SnapContext) (new : Option (List ℕ)) (o : Mapped)
-        → looked (mapped_change c new o) ≡ change c new (looked o) }
+        → versioned (mapped_change c new o) ≡ change c new (versioned o) }
 
-    ensures copy_up { (bytes : List ℕ) (o : Mapped) → looked (mapped_copy_up bytes o) ≡ copy_up bytes (looked o) }
+    ensures copy_up { (bytes : List ℕ) (o : Mapped) → versioned (mapped_copy_up bytes o) ≡ copy_up bytes (versioned o) }
 
-    ensures trim { (live : List ℕ) (o : Mapped) → looked (mapped_trim live o) ≡ trim live (looked o) }
+    ensures trim { (live : List ℕ) (o : Mapped) → versioned (mapped_trim live o) ≡ trim live (versioned o) }
 {}

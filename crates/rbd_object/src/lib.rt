@@ -29,8 +29,8 @@
 //! Contracts see an [`Object`] as a value with `head`, `seq` and `kept`, a finite map from
 //! snapshots to bytes. Each change says what the whole value becomes, and that it stays where
 //! memory is refused. What that means for each view is said once, in [`laws`], of versioned
-//! objects, whose `kept` is a function: the value stands for one (`looked`), and both change alike.
-//! The first law to read is [`laws::views_of_snapshots_stay`].
+//! objects, whose `kept` is a function: the value stands for one (`versioned`), and both change
+//! alike. The first law to read is [`laws::views_of_snapshots_stay`].
 //!
 //! # Cost
 //!

@@ -2,7 +2,7 @@
 ghost use Rattle.std.specs.Prelude.{◌≡◌, ℕ, ◌+◌, ◌≤◌, ◌↔◌, [], List, length, Some, None, unwrap_or, option_map, IsTrue, OnOk, OnErr, IfOk, IfSome, IsSome, IsNone, false, Option};
 ghost use Rattle.rbd_parts.specs.Contents.{window, overwritten, zeroed};
 ghost use Rattle.rbd_object.specs.Versioned.{view, IsTidy};
-ghost use Rattle.rbd_object.specs.Mapped.{looked, mapped_blank, mapped_change, mapped_copy_up, mapped_trim};
+ghost use Rattle.rbd_object.specs.Mapped.{versioned, mapped_blank, mapped_change, mapped_copy_up, mapped_trim};
 ghost use Rattle.rbd_pages.specs.Paging.{pages_for};
 ghost use Rattle.rbd_kinds.specs.Parts.{parts_len};
 ghost use Rattle.rbd_parts.specs.Parts.{parts_of, parts_written, parts_zeroed, AreWithin};
@@ -43,16 +43,16 @@ impl Object {
     /// How many pages its contents lie on, each counted once: at least those of the longest one,
     /// and none where no content has a byte. It takes no memory.
     pub fn pages(&self) -> u64
-        ensures longest { (snap : Option ℕ) (bytes : List ℕ) → view (looked self.now) snap ≡ Some bytes → pages_for (length bytes) ≤ result }
-        ensures none { ((snap : Option ℕ) (bytes : List ℕ) → view (looked self.now) snap ≡ Some bytes → bytes ≡ []) → result ≡ 0 }
+        ensures longest { (snap : Option ℕ) (bytes : List ℕ) → view (versioned self.now) snap ≡ Some bytes → pages_for (length bytes) ≤ result }
+        ensures none { ((snap : Option ℕ) (bytes : List ℕ) → view (versioned self.now) snap ≡ Some bytes → bytes ≡ []) → result ≡ 0 }
     {
         self.paged.pages()
     }
 
     /// Whether the object is there: in the head (None), or in a snapshot. It takes no memory.
     pub fn exists(&self, snap: Option<SnapId>) -> bool
-        ensures shown { IsTrue result ↔ IsSome (view (looked self.now) snap) }
-        ensures tidy { IsTidy (looked self.now) }
+        ensures shown { IsTrue result ↔ IsSome (view (versioned self.now) snap) }
+        ensures tidy { IsTidy (versioned self.now) }
     {
         self.paged.exists(snap)
     }
@@ -61,9 +61,9 @@ impl Object {
     /// and with zeros past the last one. It is false exactly where the object is absent there, and
     /// then the buffer stays. It takes no memory.
     pub fn read(&self, snap: Option<SnapId>, at: u64, into: &mut [u8]) -> bool
-        ensures shown { IsTrue result ↔ IsSome (view (looked self.now) snap) }
-        ensures bytes { IfSome (view (looked self.now) snap) (λ bytes. into.new ≡ window bytes at (length into.old)) }
-        ensures absent { view (looked self.now) snap ≡ None → into.new ≡ into.old }
+        ensures shown { IsTrue result ↔ IsSome (view (versioned self.now) snap) }
+        ensures bytes { IfSome (view (versioned self.now) snap) (λ bytes. into.new ≡ window bytes at (length into.old)) }
+        ensures absent { view (versioned self.now) snap ≡ None → into.new ≡ into.old }
     {
         self.paged.read(snap, at, into)
     }
@@ -76,7 +76,7 @@ impl Object {
         snap: Option<SnapId>,
         parts: &[Part],
     ) -> Result<Option<Bytes>, NoMemory>
-        ensures { IfOk result (λ read. read ≡ option_map (parts_of parts.now) (view (looked self.now) snap)) }
+        ensures { IfOk result (λ read. read ≡ option_map (parts_of parts.now) (view (versioned self.now) snap)) }
     {
         self.paged.read_parts(snap, parts)
     }

@@ -1,9 +1,9 @@
 //! The object on its pages: what it shows, and how many pages that takes.
 ghost use Rattle.std.specs.Prelude.{◌≡◌, ℕ, ◌+◌, ◌<◌, ◌≤◌, ◌↔◌, [], List, length, max, min, Some, None, unwrap_or, option_map, option_copied, IsTrue, OnOk, OnErr, IfOk, IfSome, IsSome, IsNone, Option, Ok, false};
-ghost use Rattle.rbd_object.specs.Changes.{IsWithin, after, takes};
+ghost use Rattle.rbd_object.specs.Changes.{FitsObject, after, pages_taken};
 ghost use Rattle.rbd_parts.specs.Contents.{window, overwritten, zeroed};
 ghost use Rattle.rbd_object.specs.Versioned.{view, IsTidy};
-ghost use Rattle.rbd_object.specs.Mapped.{looked, mapped_blank, mapped_change, mapped_copy_up, mapped_trim, due_snaps};
+ghost use Rattle.rbd_object.specs.Mapped.{versioned, mapped_blank, mapped_change, mapped_copy_up, mapped_trim, due_snaps};
 ghost use Rattle.rbd_object.specs.Kept.{new_version};
 ghost use Rattle.rbd_pages.specs.Paging.{pages_for};
 ghost use Rattle.rbd_kinds.specs.Parts.{parts_len};
@@ -11,7 +11,7 @@ ghost use Rattle.rbd_parts.specs.Parts.{parts_of, parts_written, parts_zeroed, A
 ghost use Rattle.rbd_pages.specs.Listed.{touched};
 ghost use Rattle.rbd_object.specs.Shared.{written_touch, zeroed_touch, view_in};
 
-use crate::change::Change;
+use crate::change::ObjectChange;
 use crate::version::Version;
 use crate::{heads, versions};
 use rbd_kinds::{Bytes, NoMemory, Part, SnapContext, SnapId};
@@ -62,8 +62,8 @@ impl PagedObject {
     /// no content has a byte. It takes no memory.
     pub fn pages(&self) -> u64
         ensures count { result ≡ self.now.pages }
-        ensures longest { (snap : Option ℕ) (bytes : List ℕ) → view (looked self.now.shown) snap ≡ Some bytes → pages_for (length bytes) ≤ result }
-        ensures none { ((snap : Option ℕ) (bytes : List ℕ) → view (looked self.now.shown) snap ≡ Some bytes → bytes ≡ []) → result ≡ 0 }
+        ensures longest { (snap : Option ℕ) (bytes : List ℕ) → view (versioned self.now.shown) snap ≡ Some bytes → pages_for (length bytes) ≤ result }
+        ensures none { ((snap : Option ℕ) (bytes : List ℕ) → view (versioned self.now.shown) snap ≡ Some bytes → bytes ≡ []) → result ≡ 0 }
     {
         u64::from(self.sheaves.used())
     }
@@ -87,8 +87,8 @@ impl PagedObject {
 
     /// Whether the object is there: in the head (None), or in a snapshot. It takes no memory.
     pub fn exists(&self, snap: Option<SnapId>) -> bool
-        ensures shown { IsTrue result ↔ IsSome (view (looked self.now.shown) snap) }
-        ensures tidy { IsTidy (looked self.now.shown) }
+        ensures shown { IsTrue result ↔ IsSome (view (versioned self.now.shown) snap) }
+        ensures tidy { IsTidy (versioned self.now.shown) }
     {
         match shown(&self.head, self.seq, &self.versions, snap) {
             Some(_) => true,
@@ -100,9 +100,9 @@ impl PagedObject {
     /// and with zeros past the last one. It is false exactly where the object is absent there, and
     /// then the buffer stays. It takes no memory.
     pub fn read(&self, snap: Option<SnapId>, at: u64, into: &mut [u8]) -> bool
-        ensures shown { IsTrue result ↔ IsSome (view (looked self.now.shown) snap) }
-        ensures bytes { IfSome (view (looked self.now.shown) snap) (λ bytes. into.new ≡ window bytes at (length into.old)) }
-        ensures absent { view (looked self.now.shown) snap ≡ None → into.new ≡ into.old }
+        ensures shown { IsTrue result ↔ IsSome (view (versioned self.now.shown) snap) }
+        ensures bytes { IfSome (view (versioned self.now.shown) snap) (λ bytes. into.new ≡ window bytes at (length into.old)) }
+        ensures absent { view (versioned self.now.shown) snap ≡ None → into.new ≡ into.old }
     {
         match shown(&self.head, self.seq, &self.versions, snap) {
             Some(content) => {
@@ -121,7 +121,7 @@ impl PagedObject {
         snap: Option<SnapId>,
         parts: &[Part],
     ) -> Result<Option<Bytes>, NoMemory>
-        ensures { IfOk result (λ read. read ≡ option_map (parts_of parts.now) (view (looked self.now.shown) snap)) }
+        ensures { IfOk result (λ read. read ≡ option_map (parts_of parts.now) (view (versioned self.now.shown) snap)) }
     {
         match shown(&self.head, self.seq, &self.versions, snap) {
             Some(content) => Ok(Some(Bytes::from_vec(content.read_parts(&self.sheaves, parts)?))),
@@ -137,7 +137,7 @@ impl PagedObject {
         ensures err { OnErr result (self.new.shown ≡ self.old.shown) }
         ensures pages { self.new.pages ≤ self.old.pages + touched (min (length (unwrap_or self.old.shown.head [])) at) (at + length bytes.now) }
     {
-        self.change(context, Change::Write(at, bytes))
+        self.change(context, ObjectChange::Write(at, bytes))
     }
 
     /// Writes bytes into parts of the head, one part after another. All parts are written, or none.
@@ -154,7 +154,7 @@ impl PagedObject {
         ensures err { OnErr result (self.new.shown ≡ self.old.shown) }
         ensures pages { self.new.pages ≤ self.old.pages + written_touch (length (unwrap_or self.old.shown.head [])) parts.now }
     {
-        self.change(context, Change::WriteParts(parts, bytes))
+        self.change(context, ObjectChange::WriteParts(parts, bytes))
     }
 
     /// Makes the head exactly these bytes.
@@ -164,7 +164,7 @@ impl PagedObject {
         ensures err { OnErr result (self.new.shown ≡ self.old.shown) }
         ensures pages { self.new.pages ≤ self.old.pages + pages_for (length bytes.now) }
     {
-        self.change(context, Change::WriteFull(bytes))
+        self.change(context, ObjectChange::WriteFull(bytes))
     }
 
     /// Makes `len` bytes of the head zero, from the byte `at` on and as far as it goes.
@@ -174,7 +174,7 @@ impl PagedObject {
         ensures err { OnErr result (self.new.shown ≡ self.old.shown) }
         ensures pages { self.new.pages ≤ self.old.pages + touched at (at + len) }
     {
-        self.change(context, Change::Zero(at, len))
+        self.change(context, ObjectChange::Zero(at, len))
     }
 
     /// Makes parts of the head zero, as `zero` does with one.
@@ -184,7 +184,7 @@ impl PagedObject {
         ensures err { OnErr result (self.new.shown ≡ self.old.shown) }
         ensures pages { self.new.pages ≤ self.old.pages + zeroed_touch parts.now }
     {
-        self.change(context, Change::ZeroParts(parts))
+        self.change(context, ObjectChange::ZeroParts(parts))
     }
 
     /// Makes the head exist and have no bytes.
@@ -193,7 +193,7 @@ impl PagedObject {
         ensures err { OnErr result (self.new.shown ≡ self.old.shown) }
         ensures pages { self.new.pages ≤ self.old.pages }
     {
-        self.change(context, Change::Empty)
+        self.change(context, ObjectChange::Empty)
     }
 
     /// Makes the head absent.
@@ -202,7 +202,7 @@ impl PagedObject {
         ensures err { OnErr result (self.new.shown ≡ self.old.shown) }
         ensures pages { self.new.pages ≤ self.old.pages }
     {
-        self.change(context, Change::Remove)
+        self.change(context, ObjectChange::Remove)
     }
 
     /// Fills an absent head with the bytes that a clone's parent has there. It is false exactly
@@ -236,11 +236,11 @@ impl PagedObject {
 
     /// A change under a context: the head as it was is kept for the snapshots for which it is the
     /// first.
-    fn change(&mut self, context: &SnapContext, change: Change) -> Result<(), NoMemory>
-        requires { IsWithin change }
+    fn change(&mut self, context: &SnapContext, change: ObjectChange) -> Result<(), NoMemory>
+        requires { FitsObject change }
         ensures ok { OnOk result (self.new.shown ≡ mapped_change context.now (after change.entry self.old.shown.head) self.old.shown) }
         ensures err { OnErr result (self.new.shown ≡ self.old.shown) }
-        ensures pages { self.new.pages ≤ self.old.pages + takes change.entry (length (unwrap_or self.old.shown.head [])) }
+        ensures pages { self.new.pages ≤ self.old.pages + pages_taken change.entry (length (unwrap_or self.old.shown.head [])) }
     {
         let alloc = self.alloc();
         let snaps = self.snaps_to_keep(context)?;

@@ -4,8 +4,8 @@ use Rattle.std.specs.Prelude.{zero, suc, OnOk}
 use Rattle.std.proofs.lemmas.Bool.{cases_lt, cases_eq}
 use Rattle.std.proofs.lemmas.List.{get_or_past, get_or_append_left, get_or-set_same, get_or-set_other, get_or_push, get_or_read, get_or-take, length_push, length-set, take_all, take-append-drop, append_assoc}
 use Rattle.rbd_pages.specs.Sheets.{Sheet, Changed, sheet_at, count_at, bytes_at, released}
-use Rattle.rbd_pages.specs.Paging.{occurs, bytes_on, AreApart, AreCounted, IsReady, Moved, Prepared}
-use Rattle.rbd_pages.specs.Sheaves.{AreFull, AreStocked, Exchanged, IsOwn, IsPrepared, IsSame, Stock, pages_in}
+use Rattle.rbd_pages.specs.Paging.{occurs, bytes_on, AreApart, AreCounted, IsPageReady, Moved, Prepared}
+use Rattle.rbd_pages.specs.Sheaves.{AreFull, AreStocked, Exchanged, IsOwnPage, ArePagesPrepared, IsSame, Stock, pages_in}
 use Rattle.rbd_pages.proofs.PagingLemmas.{bytes_on_within, bytes_on_past, copied_at, copied_one, count_kept, counted_at, framed_byte, occurs-at, other_place, prepared_add, prepared_copy}
 use Rattle.rbd_pages.proofs.SheavesLemmas.{counted_pages, flat_bytes, flat_length, flat_most, full_same, named_one, named_two, occurs-append, page_found, page_there, pages_changed, pages_same, place_of, same_refl, same_trans}
 
@@ -28,7 +28,7 @@ pub counted_exchanged : (a b : Stock) (p q : List ℕ) → Exchanged a p b q →
 counted_exchanged a b p q exchanged counted =
     record { each = λ s. let x = exchanged.counts s in let y = counted.each s in omega arith }
 
-pub list_prepared_refl : (a : Stock) (list : List ℕ) → AreApart (pages_in a.sheaves list) → AreFull a.sheaves list → IsPrepared a list a list
+pub list_prepared_refl : (a : Stock) (list : List ℕ) → AreApart (pages_in a.sheaves list) → AreFull a.sheaves list → ArePagesPrepared a list a list
 list_prepared_refl a list apart full = record {
   exchanged = exchanged_refl a list;
   bytes = λ k j. refl;
@@ -39,7 +39,7 @@ list_prepared_refl a list apart full = record {
   own = λ k byte own. own;
 }
 
-pub list_prepared_trans : (a b c : Stock) (p q r : List ℕ) → IsPrepared a p b q → IsPrepared b q c r → IsPrepared a p c r
+pub list_prepared_trans : (a b c : Stock) (p q r : List ℕ) → ArePagesPrepared a p b q → ArePagesPrepared b q c r → ArePagesPrepared a p c r
 list_prepared_trans a b c p q r first second = record {
   exchanged = exchanged_trans a b c p q r first.exchanged second.exchanged;
   bytes = λ k j. second.bytes k j ∙ first.bytes k j;
@@ -80,7 +80,7 @@ pub record Copies (a b c : Stock) (p q : ℕ) : Type 0 where
 -- a page of a sheaf that is this list's alone stays ready
 copy_own : (a b c : Stock) (list : List ℕ) (m q n byte : ℕ) → AreStocked a → AreFull a.sheaves list → m < length list
     → Copies a b c (get_or list m 0) q → pages_in c.sheaves (set list m q) ≡ pages_in a.sheaves list
-    → IsOwn a list n byte → IsOwn c (set list m q) n byte
+    → IsOwnPage a list n byte → IsOwnPage c (set list m q) n byte
 copy_own a b c list m q n byte stocked full below k same was =
     let s = get_or list (n / 128) 0 in
     let x = get_or (pages_in a.sheaves list) n 0 in
@@ -96,7 +96,7 @@ copy_own a b c list m q n byte stocked full below k same was =
       sheaf =
           ap (count_at c.sheaves) (get_or-set_other list m (n / 128) q 0 other)
           ∙ ap (λ (t : Sheet). t.count) (k.second.others s not_p ∙ k.first.others s not_q) ∙ was.sheaf;
-      page = subst (λ pages. IsReady c.sheets pages n byte) (sym same) (record {
+      page = subst (λ pages. IsPageReady c.sheets pages n byte) (sym same) (record {
         there = was.page.there;
         alone = alone;
         stored = λ some. ap length kept ∙ was.page.stored some;
@@ -105,7 +105,7 @@ copy_own a b c list m q n byte stocked full below k same was =
 
 pub own_prepared : (a b c : Stock) (list : List ℕ) (m q : ℕ) → AreStocked a → AreCounted a.sheaves list → AreApart (pages_in a.sheaves list)
     → AreFull a.sheaves list → m < length list → Copies a b c (get_or list m 0) q
-    → IsPrepared a list c (set list m q) × (pages_in c.sheaves (set list m q) ≡ pages_in a.sheaves list)
+    → ArePagesPrepared a list c (set list m q) × (pages_in c.sheaves (set list m q) ≡ pages_in a.sheaves list)
 own_prepared a b c list m q stocked counted apart full below k =
     let lists = prepared_copy a.sheaves b.sheaves c.sheaves list m q counted below k.more k.free k.first k.sheaf k.second k.less in
     let place : (n : ℕ) → n < length list → bytes_at c.sheaves (get_or (set list m q) n 0) ≡ bytes_at a.sheaves (get_or list n 0) =
@@ -175,7 +175,7 @@ sheaf_alone sheaves list m p read counted below few =
 -- a copy that was refused
 pub own_refused : (a b : Stock) (list : List ℕ) → AreStocked a → AreApart (pages_in a.sheaves list) → AreFull a.sheaves list
     → b.sheaves ≡ a.sheaves → ((x : ℕ) → count_at b.sheets x ≡ count_at a.sheets x)
-    → ((x : ℕ) → 0 < count_at a.sheets x → bytes_at b.sheets x ≡ bytes_at a.sheets x) → IsPrepared a list b list
+    → ((x : ℕ) → 0 < count_at a.sheets x → bytes_at b.sheets x ≡ bytes_at a.sheets x) → ArePagesPrepared a list b list
 own_refused a b list stocked apart full same counts bytes =
     let pages = counted_pages a list stocked apart in
     record {
@@ -196,7 +196,7 @@ own_refused a b list stocked apart full same counts bytes =
       longer = let l = ap (λ sheaves. length (pages_in sheaves list)) same in omega arith;
       own = λ n byte was. record {
         sheaf = ap (λ sheaves. count_at sheaves (get_or list (n / 128) 0)) same ∙ was.sheaf;
-        page = subst (λ sheaves. IsReady b.sheets (pages_in sheaves list) n byte) (sym same) (record {
+        page = subst (λ sheaves. IsPageReady b.sheets (pages_in sheaves list) n byte) (sym same) (record {
           there = was.page.there;
           alone = counts (get_or (pages_in a.sheaves list) n 0) ∙ was.page.alone;
           stored = λ some. ap length (bytes (get_or (pages_in a.sheaves list) n 0) (let one = was.page.alone in omega arith)) ∙ was.page.stored some;
@@ -224,7 +224,7 @@ pages_pushed a b (s ∷ list) q same none =
 pub extend_prepared : (a c : Stock) (list : List ℕ) (q : ℕ) → AreCounted a.sheaves list → AreApart (pages_in a.sheaves list)
     → AreFull a.sheaves list → length list * 128 ≤ length (pages_in a.sheaves list) → count_at a.sheaves q ≡ 0
     → Changed q a.sheaves c.sheaves → sheet_at c.sheaves q ≡ record { count = 1; bytes = [] } → c.sheets ≡ a.sheets
-    → IsPrepared a list c (list ++ q ∷ []) × (pages_in c.sheaves (list ++ q ∷ []) ≡ pages_in a.sheaves list)
+    → ArePagesPrepared a list c (list ++ q ∷ []) × (pages_in c.sheaves (list ++ q ∷ []) ≡ pages_in a.sheaves list)
 extend_prepared a c list q counted apart full long free change new sheets =
     let lists = prepared_add a.sheaves c.sheaves list q counted free change new in
     let l = length_push list q in
@@ -261,8 +261,8 @@ extend_prepared a c list q counted apart full long free change new sheets =
                   ap (count_at c.sheaves) (get_or_append_left list (q ∷ []) 0 (n / 128) there)
                   ∙ ap (λ (s : Sheet). s.count) (change.others (get_or list (n / 128) 0) (not_q (n / 128) there)) ∙ was.sheaf;
               page =
-                  subst (λ pages. IsReady c.sheets pages n byte) (sym same)
-                  (subst (λ xs. IsReady xs (pages_in a.sheaves list) n byte) (sym sheets) was.page);
+                  subst (λ pages. IsPageReady c.sheets pages n byte) (sym same)
+                  (subst (λ xs. IsPageReady xs (pages_in a.sheaves list) n byte) (sym sheets) was.page);
             };
       },
       same,
@@ -271,7 +271,7 @@ extend_prepared a c list q counted apart full long free change new sheets =
 -- ---- one page of a sheaf is made ready
 
 pub ready_flat : (sheaves sheets : List Sheet) (list : List ℕ) (n byte : ℕ) → AreFull sheaves list → n / 128 < length list
-    → IsReady sheets (bytes_at sheaves (get_or list (n / 128) 0)) (n % 128) byte → IsReady sheets (pages_in sheaves list) n byte
+    → IsPageReady sheets (bytes_at sheaves (get_or list (n / 128) 0)) (n % 128) byte → IsPageReady sheets (pages_in sheaves list) n byte
 ready_flat sheaves sheets list n byte full there ready =
     let within = page_there sheaves list n full there ready.there in
     let is = page_found sheaves list n full within in
@@ -282,7 +282,7 @@ ready_flat sheaves sheets list n byte full there ready =
     }
 
 ready_sheaf : (sheaves sheets : List Sheet) (list : List ℕ) (n byte : ℕ) → AreFull sheaves list
-    → IsReady sheets (pages_in sheaves list) n byte → IsReady sheets (bytes_at sheaves (get_or list (n / 128) 0)) (n % 128) byte
+    → IsPageReady sheets (pages_in sheaves list) n byte → IsPageReady sheets (bytes_at sheaves (get_or list (n / 128) 0)) (n % 128) byte
 ready_sheaf sheaves sheets list n byte full ready =
     let place = place_of sheaves list n full ready.there in
     let is = page_found sheaves list n full ready.there in
@@ -376,8 +376,8 @@ step_apart a c list m j stocked counted apart below k =
 
 -- a page of another sheaf stays ready
 step_other : (a c : Stock) (list : List ℕ) (m j n byte : ℕ) → AreStocked a → AreCounted a.sheaves list → AreFull a.sheaves list
-    → AreFull c.sheaves list → m < length list → Steps a c list m j → n / 128 ≢ m → IsReady a.sheets (pages_in a.sheaves list) n byte
-    → IsReady c.sheets (pages_in c.sheaves list) n byte
+    → AreFull c.sheaves list → m < length list → Steps a c list m j → n / 128 ≢ m → IsPageReady a.sheets (pages_in a.sheaves list) n byte
+    → IsPageReady c.sheets (pages_in c.sheaves list) n byte
 step_other a c list m j n byte stocked counted full after below k apart ready =
     let place = place_of a.sheaves list n full ready.there in
     let not_s : get_or list m 0 ≢ get_or list (n / 128) 0 = λ e. other_place a.sheaves list m (n / 128) counted below place.0 apart k.alone (sym e) in
@@ -392,29 +392,29 @@ step_other a c list m j n byte stocked counted full after below k apart ready =
     let same = step_place a c list m j (n / 128) counted below k place.0 apart in
     let there : n % 128 < length (bytes_at c.sheaves (get_or list (n / 128) 0)) = let l = ap length same in let w = place.1 in omega arith in
     ready_flat c.sheaves c.sheets list n byte after place.0
-    (subst (λ pages. IsReady c.sheets pages (n % 128) byte) (sym same) (record {
+    (subst (λ pages. IsPageReady c.sheets pages (n % 128) byte) (sym same) (record {
       there = place.1;
       alone = omega arith;
       stored = λ some. ap length kept ∙ ap (λ y. length (bytes_at a.sheets y)) (sym is) ∙ ready.stored some;
     }))
 
 step_own : (a c : Stock) (list : List ℕ) (m j n byte : ℕ) → AreStocked a → AreCounted a.sheaves list → AreFull a.sheaves list
-    → AreFull c.sheaves list → m < length list → Steps a c list m j → IsOwn a list n byte → IsOwn c list n byte
+    → AreFull c.sheaves list → m < length list → Steps a c list m j → IsOwnPage a list n byte → IsOwnPage c list n byte
 step_own a c list m j n byte stocked counted full after below k was = record {
   sheaf = step_counts a c list m j (get_or list (n / 128) 0) k ∙ was.sheaf;
   page = elim (cases_eq (n / 128) m) [
     | inl here ↦
         let place = place_of a.sheaves list n full was.page.there in
         ready_flat c.sheaves c.sheets list n byte after place.0
-        (subst (λ x. IsReady c.sheets (bytes_at c.sheaves (get_or list x 0)) (n % 128) byte) (sym here)
+        (subst (λ x. IsPageReady c.sheets (bytes_at c.sheaves (get_or list x 0)) (n % 128) byte) (sym here)
         (k.prepared.ready (n % 128) byte
-        (subst (λ x. IsReady a.sheets (bytes_at a.sheaves (get_or list x 0)) (n % 128) byte) here (ready_sheaf a.sheaves a.sheets list n byte full was.page))))
+        (subst (λ x. IsPageReady a.sheets (bytes_at a.sheaves (get_or list x 0)) (n % 128) byte) here (ready_sheaf a.sheaves a.sheets list n byte full was.page))))
     | inr apart ↦ step_other a c list m j n byte stocked counted full after below k apart was.page
   ];
 }
 
 pub step_prepared : (a c : Stock) (list : List ℕ) (m j : ℕ) → AreStocked a → AreCounted a.sheaves list → AreApart (pages_in a.sheaves list)
-    → AreFull a.sheaves list → m < length list → j < 128 → Steps a c list m j → IsPrepared a list c list
+    → AreFull a.sheaves list → m < length list → j < 128 → Steps a c list m j → ArePagesPrepared a list c list
 step_prepared a c list m j stocked counted apart full below small k =
     let after = step_full a c list m j counted full below small k in
     record {
@@ -471,10 +471,10 @@ pub page_longer : (sheaves : List Sheet) (list : List ℕ) (k before : ℕ)
 page_longer sheaves list k before long full there = let below = page_there sheaves list k full there (omega arith) in omega arith
 
 pub ready_own : (a : Stock) (list : List ℕ) (k byte i : ℕ) → i ≡ get_or list (k / 128) 0 → AreFull a.sheaves list → k / 128 < length list
-    → count_at a.sheaves i ≡ 1 → IsReady a.sheets (bytes_at a.sheaves i) (k % 128) byte → IsOwn a list k byte
+    → count_at a.sheaves i ≡ 1 → IsPageReady a.sheets (bytes_at a.sheaves i) (k % 128) byte → IsOwnPage a list k byte
 ready_own a list k byte i e full there count ready = record {
   sheaf = subst (λ x. count_at a.sheaves x ≡ 1) e count;
-  page = ready_flat a.sheaves a.sheets list k byte full there (subst (λ x. IsReady a.sheets (bytes_at a.sheaves x) (k % 128) byte) e ready);
+  page = ready_flat a.sheaves a.sheets list k byte full there (subst (λ x. IsPageReady a.sheets (bytes_at a.sheaves x) (k % 128) byte) e ready);
 }
 
 -- a sheaf that one place more names
@@ -490,16 +490,16 @@ held_same a b i s change pages sheets = record {
 pub counted_held : (a b : Stock) (list : List ℕ) → Moved a.sheaves [] b.sheaves list → AreCounted b.sheaves list
 counted_held a b list moved = record { each = λ s. let x = moved.counts s in omega arith }
 
-pub own_more : (at k : ℕ) (bytes : List ℕ) (j : ℕ) (stored : Bool) (a b : Stock) (p q : List ℕ) → IsPrepared a p b q
-    → ((byte : ℕ) → (byte ≢ 0 → stored ≡ true) → IsOwn b q k byte)
+pub own_more : (at k : ℕ) (bytes : List ℕ) (j : ℕ) (stored : Bool) (a b : Stock) (p q : List ℕ) → ArePagesPrepared a p b q
+    → ((byte : ℕ) → (byte ≢ 0 → stored ≡ true) → IsOwnPage b q k byte)
     → (j < length bytes → (at + j) / 4096 ≡ k → get_or bytes j 0 ≢ 0 → stored ≡ true)
-    → ((at + j) / 4096 < k → IsOwn a p ((at + j) / 4096) (get_or bytes j 0))
-    → (at + j) / 4096 < k + 1 → IsOwn b q ((at + j) / 4096) (get_or bytes j 0)
+    → ((at + j) / 4096 < k → IsOwnPage a p ((at + j) / 4096) (get_or bytes j 0))
+    → (at + j) / 4096 < k + 1 → IsOwnPage b q ((at + j) / 4096) (get_or bytes j 0)
 own_more at k bytes j stored a b p q prepared here needed before early = elim (cases_lt ((at + j) / 4096) k) [
   | inl below ↦ prepared.own ((at + j) / 4096) (get_or bytes j 0) (before below)
   | inr above ↦
       let same : (at + j) / 4096 ≡ k = omega arith in
-      subst (λ m. IsOwn b q m (get_or bytes j 0)) (sym same)
+      subst (λ m. IsOwnPage b q m (get_or bytes j 0)) (sym same)
       (here (get_or bytes j 0) (λ some. elim (cases_lt j (length bytes)) [
         | inl below ↦ needed below same some
         | inr past ↦ absurd (some (get_or_past bytes j 0 past))
@@ -530,7 +530,7 @@ framed_full a b list same full =
 
 -- pages of a list's own sheaves were changed: sheaves that others name too are the same
 pub changed_exchanged : (b : Stock) (after : List Sheet) (list : List ℕ) (at n : ℕ) (value : ℕ → ℕ) → AreStocked b → AreFull b.sheaves list
-    → ((j : ℕ) → j < n → IsOwn b list ((at + j) / 4096) (value j))
+    → ((j : ℕ) → j < n → IsOwnPage b list ((at + j) / 4096) (value j))
     → ((x : ℕ) → ((j : ℕ) → j < n → get_or (pages_in b.sheaves list) ((at + j) / 4096) 0 ≢ x) → sheet_at after x ≡ sheet_at b.sheets x)
     → Exchanged b list (record { sheaves = b.sheaves; sheets = after }) list
 changed_exchanged b after list at n value stocked full own rest = record {

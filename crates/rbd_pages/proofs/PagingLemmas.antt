@@ -9,7 +9,7 @@ use Rattle.std.specs.List.{list_any}
 use borrow.Rule.Slice.PartMut.{put_mid}
 use Rattle.rbd_pages.specs.Sheets.{Sheet, Changed, sheet_at, count_at, bytes_at, in_use, released}
 use Rattle.rbd_parts.specs.Contents.{is_within, window}
-use Rattle.rbd_pages.specs.Paging.{occurs, bytes_on, byte_at, AreCounted, IsReady, IsChanged, Moved, Prepared}
+use Rattle.rbd_pages.specs.Paging.{occurs, bytes_on, byte_on_pages, AreCounted, IsPageReady, IsChanged, Moved, Prepared}
 
 -- ---- how often a list names a page
 
@@ -203,7 +203,7 @@ copied_one a b c p q more free first new second less = (copied a b c p q more fr
 
 -- a ready page is ready where its page is the same
 same_ready : (a c : List Sheet) (p q : List ℕ) (m byte x : ℕ) → m < length q → get_or q m 0 ≡ x → get_or p m 0 ≡ x
-    → sheet_at c x ≡ sheet_at a x → IsReady a p m byte → IsReady c q m byte
+    → sheet_at c x ≡ sheet_at a x → IsPageReady a p m byte → IsPageReady c q m byte
 same_ready a c p q m byte x there new old same ready = record {
   there = there;
   alone = ap (count_at c) new ∙ ap (λ (s : Sheet). s.count) same ∙ ap (count_at a) (sym old) ∙ ready.alone;
@@ -212,7 +212,7 @@ same_ready a c p q m byte x there new old same ready = record {
 }
 
 copied_ready : (a c : List Sheet) (pages : List ℕ) (k q m byte : ℕ) → AreCounted a pages → k < length pages
-    → 1 < count_at a (get_or pages k 0) → Copied a c (get_or pages k 0) q → IsReady a pages m byte → IsReady c (set pages k q) m byte
+    → 1 < count_at a (get_or pages k 0) → Copied a c (get_or pages k 0) q → IsPageReady a pages m byte → IsPageReady c (set pages k q) m byte
 copied_ready a c pages k q m byte counted below more copied ready =
     let l = length-set pages k q in
     let there = ready.there in
@@ -247,7 +247,7 @@ pub copied_alone : (a b c : List Sheet) (pages : List ℕ) (k q : ℕ) → k < l
     → 1 < count_at a (get_or pages k 0) → count_at a q ≡ 0 → Changed q a b
     → sheet_at b q ≡ record { count = 1; bytes = bytes_at a (get_or pages k 0) }
     → Changed (get_or pages k 0) b c → sheet_at c (get_or pages k 0) ≡ released (sheet_at b (get_or pages k 0))
-    → IsReady c (set pages k q) k 0
+    → IsPageReady c (set pages k q) k 0
 copied_alone a b c pages k q below more free first new second less =
     let copied = copied a b c (get_or pages k 0) q more free first new second less in
     record {
@@ -315,7 +315,7 @@ count_kept a b p x change same = elim (cases_eq x p) [
 ]
 
 ready_kept : (a b : List Sheet) (pages : List ℕ) (p m byte : ℕ) → Changed p a b → count_at b p ≡ count_at a p
-    → (length (bytes_at a p) ≡ 4096 → length (bytes_at b p) ≡ 4096) → IsReady a pages m byte → IsReady b pages m byte
+    → (length (bytes_at a p) ≡ 4096 → length (bytes_at b p) ≡ 4096) → IsPageReady a pages m byte → IsPageReady b pages m byte
 ready_kept a b pages p m byte change same stored ready = elim (cases_eq (get_or pages m 0) p) [
   | inl here ↦ record {
     there = ready.there;
@@ -325,7 +325,7 @@ ready_kept a b pages p m byte change same stored ready = elim (cases_eq (get_or 
   | inr apart ↦ same_ready a b pages pages m byte (get_or pages m 0) ready.there refl refl (change.others (get_or pages m 0) apart) ready
 ]
 
-pub in_place : (a b : List Sheet) (pages : List ℕ) (k byte : ℕ) → IsReady a pages k byte → Changed (get_or pages k 0) a b
+pub in_place : (a b : List Sheet) (pages : List ℕ) (k byte : ℕ) → IsPageReady a pages k byte → Changed (get_or pages k 0) a b
     → count_at b (get_or pages k 0) ≡ count_at a (get_or pages k 0)
     → (length (bytes_at a (get_or pages k 0)) ≡ 4096 → length (bytes_at b (get_or pages k 0)) ≡ 4096) → IsChanged pages a b
 in_place a b pages k byte ready change same stored = record {
@@ -403,7 +403,7 @@ pub changed_byte : (a b : List Sheet) (pages : List ℕ) (at count i : ℕ) (val
     → at % 4096 + count ≤ 4096 → count_at a (get_or pages (at / 4096) 0) ≡ 1 → Changed (get_or pages (at / 4096) 0) a b
     → ((j : ℕ) → get_or (bytes_at b (get_or pages (at / 4096) 0)) j 0
     ≡ cond (is_within (at % 4096) count j) (value (j - at % 4096)) (get_or (bytes_at a (get_or pages (at / 4096) 0)) j 0))
-    → byte_at b pages i ≡ cond (is_within at count i) (value (i - at)) (byte_at a pages i)
+    → byte_on_pages b pages i ≡ cond (is_within at count i) (value (i - at)) (byte_on_pages a pages i)
 changed_byte a b pages at count i value counted below fits alone change is = elim (cases_eq (i / 4096) (at / 4096)) [
   | inl here ↦
       ap (λ bytes. get_or bytes (i % 4096) 0) (ap (bytes_on b pages) here ∙ bytes_on_within b pages (at / 4096) below)
@@ -413,7 +413,7 @@ changed_byte a b pages at count i value counted below fits alone change is = eli
       (ap (λ bytes. get_or bytes (i % 4096) 0) (sym (ap (bytes_on a pages) here ∙ bytes_on_within a pages (at / 4096) below)))
   | inr apart ↦
       ap (λ bytes. get_or bytes (i % 4096) 0) (elsewhere a b pages (at / 4096) (i / 4096) counted below alone change apart)
-      ∙ sym (ap (λ t. cond t (value (i - at)) (byte_at a pages i)) (outside at count i fits apart))
+      ∙ sym (ap (λ t. cond t (value (i - at)) (byte_on_pages a pages i)) (outside at count i fits apart))
 ]
 
 -- ---- in terms of the code: the page is the one that was read
@@ -430,7 +430,7 @@ pub counted_read : (a : List Sheet) (pages : List ℕ) (k p : ℕ) → p ≡ get
 counted_read a pages k p read counted below = subst (λ x. 0 < count_at a x) (sym (get_or_read pages k p below read 0)) (counted_at a pages k counted below)
 
 pub ready_alone : (a : List Sheet) (pages : List ℕ) (k p : ℕ) → p ≡ get_or pages k p → AreCounted a pages → k < length pages
-    → count_at a p ≤ 1 → IsReady a pages k 0
+    → count_at a p ≤ 1 → IsPageReady a pages k 0
 ready_alone a pages k p read counted below few = record {
   there = below;
   alone =
@@ -545,15 +545,15 @@ pub past_first : (at j first : ℕ) → first ≤ at / 4096 → (at + j) / 4096 
 past_first at j first from early = omega arith
 
 pub ready_more : (at k : ℕ) (bytes : List ℕ) (j : ℕ) (stored : Bool) (a b : List Sheet) (p q : List ℕ) → Prepared a p b q
-    → ((byte : ℕ) → (byte ≢ 0 → stored ≡ true) → IsReady b q k byte)
+    → ((byte : ℕ) → (byte ≢ 0 → stored ≡ true) → IsPageReady b q k byte)
     → (j < length bytes → (at + j) / 4096 ≡ k → get_or bytes j 0 ≢ 0 → stored ≡ true)
-    → ((at + j) / 4096 < k → IsReady a p ((at + j) / 4096) (get_or bytes j 0))
-    → (at + j) / 4096 < k + 1 → IsReady b q ((at + j) / 4096) (get_or bytes j 0)
+    → ((at + j) / 4096 < k → IsPageReady a p ((at + j) / 4096) (get_or bytes j 0))
+    → (at + j) / 4096 < k + 1 → IsPageReady b q ((at + j) / 4096) (get_or bytes j 0)
 ready_more at k bytes j stored a b p q prepared here needed before early = elim (cases_lt ((at + j) / 4096) k) [
   | inl below ↦ prepared.ready ((at + j) / 4096) (get_or bytes j 0) (before below)
   | inr above ↦
       let same : (at + j) / 4096 ≡ k = omega arith in
-      subst (λ m. IsReady b q m (get_or bytes j 0)) (sym same)
+      subst (λ m. IsPageReady b q m (get_or bytes j 0)) (sym same)
       (here (get_or bytes j 0) (λ some. elim (cases_lt j (length bytes)) [
         | inl below ↦ needed below same some
         | inr past ↦ absurd (some (get_or_past bytes j 0 past))
@@ -582,8 +582,8 @@ length-read_more done count n old part bytes start fits e is =
 pub read_more : (a : List Sheet) (pages : List ℕ) (at done count n : ℕ) (old part : List ℕ) (j : ℕ) → done + count ≤ length old
     → count ≤ 4096 - (at + done) % 4096 → n ≡ count
     → part ≡ window (bytes_on a pages ((at + done) / 4096)) ((at + done) % 4096) n
-    → ((j : ℕ) → j < done → get_or old j 0 ≡ byte_at a pages (at + j)) → j < done + count
-    → get_or (put_mid done (done + count - done) old part) j 0 ≡ byte_at a pages (at + j)
+    → ((j : ℕ) → j < done → get_or old j 0 ≡ byte_on_pages a pages (at + j)) → j < done + count
+    → get_or (put_mid done (done + count - done) old part) j 0 ≡ byte_on_pages a pages (at + j)
 read_more a pages at done count n old part j fits few e is before below =
     let same : done + count - done ≡ count = omega arith in
     let long : length part ≡ count = ap length is ∙ length-map-range_with_len _ 0 n ∙ e in

@@ -1,7 +1,7 @@
 -- A content as a list of sheaves, whose pages others may name too.
 use Rattle.std.specs.Prelude.{◌≡◌, ℕ, ◌-◌, ◌/◌, ◌≤◌, nat_lt, if◌then◌else◌, List, map, length}
 use Rattle.std.specs.List.{range_with_len}
-use Rattle.rbd_pages.specs.Paging.{byte_at, pages_for, AreApart}
+use Rattle.rbd_pages.specs.Paging.{byte_on_pages, pages_for, AreApart}
 use Rattle.rbd_pages.specs.Sheaves.{AreFull, Stock, pages_in, sheaves_for}
 use Rattle.rbd_pages.specs.declared.page.TheConstants.{PAGE}
 use Rattle.rbd_parts.specs.declared.parts.TheConstants.{LARGEST_OBJECT}
@@ -15,8 +15,8 @@ pub record Listed : Type 0 where
 abbrev pub pages_on : Stock → Listed → List ℕ
 pages_on stock c = pages_in stock.sheaves c.sheaves
 
-abbrev pub bytes_in : Stock → Listed → List ℕ
-bytes_in stock c = map (byte_at stock.sheets (pages_on stock c)) (range_with_len 0 c.len)
+abbrev pub listed_bytes : Stock → Listed → List ℕ
+listed_bytes stock c = map (byte_on_pages stock.sheets (pages_on stock c)) (range_with_len 0 c.len)
 
 -- The list has the sheaves and the pages that the bytes take, no page twice, and no byte past the
 -- length but zeros. Behind the last byte there may be pages that a refused change added, up to the
@@ -25,7 +25,7 @@ pub record IsContent (stock : Stock) (c : Listed) : Type 0 where
   pub held : length c.sheaves ≡ sheaves_for (pages_for c.len)
   pub full : AreFull stock.sheaves c.sheaves
   pub fits : pages_for c.len ≤ length (pages_on stock c)
-  pub zeros : (i : ℕ) → c.len ≤ i → byte_at stock.sheets (pages_on stock c) i ≡ 0
+  pub zeros : (i : ℕ) → c.len ≤ i → byte_on_pages stock.sheets (pages_on stock c) i ≡ 0
   pub apart : AreApart (pages_on stock c)
   pub small : c.len ≤ LARGEST_OBJECT
 

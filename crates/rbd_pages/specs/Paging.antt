@@ -18,8 +18,8 @@ abbrev pub bytes_on : List Sheet → (pages : List ℕ) → (k : ℕ) → List �
 bytes_on sheets pages k = if nat_lt k (length pages) then bytes_at sheets (slice_index pages k) else []
 
 -- byte i of a list of pages: zero where there is none
-abbrev pub byte_at : List Sheet → (pages : List ℕ) → (i : ℕ) → ℕ
-byte_at sheets pages i = slice_index (bytes_on sheets pages (i / PAGE)) (i % PAGE)
+abbrev pub byte_on_pages : List Sheet → (pages : List ℕ) → (i : ℕ) → ℕ
+byte_on_pages sheets pages i = slice_index (bytes_on sheets pages (i / PAGE)) (i % PAGE)
 
 -- each page of the list is counted
 pub record AreCounted (sheets : List Sheet) (pages : List ℕ) : Type 0 where
@@ -30,7 +30,7 @@ pub record AreApart (pages : List ℕ) : Type 0 where
   pub each : (page : ℕ) → occurs page pages ≤ 1
 
 -- the page at place k is this list's alone, and can take this byte
-pub record IsReady (sheets : List Sheet) (pages : List ℕ) (k byte : ℕ) : Type 0 where
+pub record IsPageReady (sheets : List Sheet) (pages : List ℕ) (k byte : ℕ) : Type 0 where
   pub there : k < length pages
   pub alone : count_at sheets (slice_index pages k) ≡ 1
   pub stored : byte ≢ 0 → length (bytes_at sheets (slice_index pages k)) ≡ PAGE
@@ -49,24 +49,24 @@ pub record Prepared (old : List Sheet) (pages : List ℕ) (new : List Sheet) (af
   pub apart : (page others : ℕ) → occurs page pages + others ≤ count_at old page → occurs page pages + others ≤ 1
       → occurs page after + others ≤ 1
   pub longer : length pages ≤ length after
-  pub ready : (k byte : ℕ) → IsReady old pages k byte → IsReady new after k byte
+  pub ready : (k byte : ℕ) → IsPageReady old pages k byte → IsPageReady new after k byte
 
 -- Bytes of a list's own pages were changed: no count, and no other page.
 pub record IsChanged (pages : List ℕ) (old new : List Sheet) : Type 0 where
   pub counts : (page : ℕ) → count_at new page ≡ count_at old page
   pub others : (page : ℕ) → occurs page pages < count_at old page → bytes_at new page ≡ bytes_at old page
   pub used : in_use new ≡ in_use old
-  pub ready : (k byte : ℕ) → IsReady old pages k byte → IsReady new pages k byte
+  pub ready : (k byte : ℕ) → IsPageReady old pages k byte → IsPageReady new pages k byte
 
 -- bytes were written from byte `at` on
 pub record IsWritten (pages : List ℕ) (at : ℕ) (bytes : List ℕ) (old new : List Sheet) : Type 0 where
   pub changed : IsChanged pages old new
-  pub bytes_are : (i : ℕ) → byte_at new pages i
-      ≡ (if is_within at (length bytes) i then slice_index bytes (i - at) else byte_at old pages i)
+  pub bytes_are : (i : ℕ) → byte_on_pages new pages i
+      ≡ (if is_within at (length bytes) i then slice_index bytes (i - at) else byte_on_pages old pages i)
   pub rest : (page : ℕ) → ((j : ℕ) → j < length bytes → slice_index pages ((at + j) / PAGE) ≢ page) → sheet_at new page ≡ sheet_at old page
 
 -- `len` bytes from byte `at` on were made zero
 pub record IsZeroed (pages : List ℕ) (at len : ℕ) (old new : List Sheet) : Type 0 where
   pub changed : IsChanged pages old new
-  pub bytes_are : (i : ℕ) → byte_at new pages i ≡ (if is_within at len i then 0 else byte_at old pages i)
+  pub bytes_are : (i : ℕ) → byte_on_pages new pages i ≡ (if is_within at len i then 0 else byte_on_pages old pages i)
   pub rest : (page : ℕ) → ((j : ℕ) → j < len → slice_index pages ((at + j) / PAGE) ≢ page) → sheet_at new page ≡ sheet_at old page

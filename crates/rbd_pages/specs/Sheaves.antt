@@ -1,7 +1,7 @@
 -- Sheaves of pages, as contracts see them.
 use Rattle.std.specs.Prelude.{◌≡◌, ℕ, ◌+◌, ◌-◌, ◌/◌, ◌%◌, ◌<◌, ◌≤◌, List, [], ◌∷◌, ◌++◌, length, slice_index}
 use Rattle.rbd_pages.specs.Sheets.{Sheet, count_at, bytes_at}
-use Rattle.rbd_pages.specs.Paging.{occurs, bytes_on, AreApart, IsReady}
+use Rattle.rbd_pages.specs.Paging.{occurs, bytes_on, AreApart, IsPageReady}
 use Rattle.rbd_pages.specs.declared.page.TheConstants.{PAGE}
 use Rattle.rbd_pages.specs.declared.sheaf.TheConstants.{SHEAF}
 
@@ -47,18 +47,18 @@ pub record Exchanged (old : Stock) (list : List ℕ) (new : Stock) (after : List
   pub others : (s : ℕ) → occurs s list < count_at old.sheaves s → IsSame old new s
 
 -- the page at place k is this list's alone, and so is its sheaf, and it can take this byte
-pub record IsOwn (stock : Stock) (list : List ℕ) (k byte : ℕ) : Type 0 where
+pub record IsOwnPage (stock : Stock) (list : List ℕ) (k byte : ℕ) : Type 0 where
   pub sheaf : count_at stock.sheaves (slice_index list (k / SHEAF)) ≡ 1
-  pub page : IsReady stock.sheets (pages_in stock.sheaves list) k byte
+  pub page : IsPageReady stock.sheets (pages_in stock.sheaves list) k byte
 
 -- `len` bytes from byte `at` on lie on one page, which can take them as it is
 pub record IsOnOwn (stock : Stock) (list : List ℕ) (at len : ℕ) : Type 0 where
   pub some : 0 < len
   pub fits : at % PAGE + len ≤ PAGE
-  pub own : (byte : ℕ) → IsOwn stock list (at / PAGE) byte
+  pub own : (byte : ℕ) → IsOwnPage stock list (at / PAGE) byte
 
 -- Sheaves and pages were copied or added, and each byte is the same.
-pub record IsPrepared (old : Stock) (list : List ℕ) (new : Stock) (after : List ℕ) : Type 0 where
+pub record ArePagesPrepared (old : Stock) (list : List ℕ) (new : Stock) (after : List ℕ) : Type 0 where
   pub exchanged : Exchanged old list new after
   pub bytes : (k j : ℕ) → slice_index (bytes_on new.sheets (pages_in new.sheaves after) k) j
       ≡ slice_index (bytes_on old.sheets (pages_in old.sheaves list) k) j
@@ -66,4 +66,4 @@ pub record IsPrepared (old : Stock) (list : List ℕ) (new : Stock) (after : Lis
   pub full : AreFull new.sheaves after
   pub more : length list ≤ length after
   pub longer : length (pages_in old.sheaves list) ≤ length (pages_in new.sheaves after)
-  pub own : (k byte : ℕ) → IsOwn old list k byte → IsOwn new after k byte
+  pub own : (k byte : ℕ) → IsOwnPage old list k byte → IsOwnPage new after k byte

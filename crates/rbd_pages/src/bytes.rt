@@ -1,8 +1,8 @@
 //! The bytes of a list of sheaves, on the pages that these name.
 ghost use Rattle.std.specs.Prelude.{◌≡◌, ℕ, ◌+◌, ◌/◌, ◌<◌, ◌≤◌, length, slice_index, IfSome, None, IsTrue, false};
 ghost use Rattle.rbd_parts.specs.Contents.{window};
-ghost use Rattle.rbd_pages.specs.Paging.{AreCounted, IsReady, IsWritten, IsZeroed, byte_at, bytes_on};
-ghost use Rattle.rbd_pages.specs.Sheaves.{AreFull, IsOnOwn, IsOwn, pages_in};
+ghost use Rattle.rbd_pages.specs.Paging.{AreCounted, IsPageReady, IsWritten, IsZeroed, byte_on_pages, bytes_on};
+ghost use Rattle.rbd_pages.specs.Sheaves.{AreFull, IsOnOwn, IsOwnPage, pages_in};
 ghost use Rattle.rbd_pages.specs.declared.page.TheConstants.{PAGE};
 ghost use Rattle.rbd_parts.specs.declared.parts.TheConstants.{LARGEST_OBJECT};
 
@@ -27,7 +27,7 @@ fn own_page(list: &[u32], sheaves: &[Sheaf], arena: &Arena, k: usize) -> Option<
     requires full { AreFull sheaves.now list.now }
     requires counted { AreCounted arena.now (pages_in sheaves.now list.now) }
     ensures page { IfSome result (λ page. page ≡ slice_index (pages_in sheaves.now list.now) k) }
-    ensures own { IfSome result (λ _. (byte : ℕ) → IsOwn (record { sheaves = sheaves.now; sheets = arena.now }) list.now k byte) }
+    ensures own { IfSome result (λ _. (byte : ℕ) → IsOwnPage (record { sheaves = sheaves.now; sheets = arena.now }) list.now k byte) }
 {
     if k / SHEAF >= list.len() {
         return None;
@@ -84,7 +84,7 @@ pub fn put(list: &[u32], sheaves: &[Sheaf], arena: &mut Arena, at: usize, bytes:
     requires full { AreFull sheaves.now list.now }
     requires counted { AreCounted arena.old (pages_in sheaves.now list.now) }
     requires within { at + length bytes.now ≤ LARGEST_OBJECT }
-    requires ready { (j : ℕ) → j < length bytes.now → IsReady arena.old (pages_in sheaves.now list.now) ((at + j) / PAGE) (slice_index bytes.now j) }
+    requires ready { (j : ℕ) → j < length bytes.now → IsPageReady arena.old (pages_in sheaves.now list.now) ((at + j) / PAGE) (slice_index bytes.now j) }
     ensures { IsWritten (pages_in sheaves.now list.now) at bytes.now arena.old arena.new }
 {
     let mut next = at;
@@ -104,7 +104,7 @@ pub fn zero(list: &[u32], sheaves: &[Sheaf], arena: &mut Arena, at: usize, len: 
     requires full { AreFull sheaves.now list.now }
     requires counted { AreCounted arena.old (pages_in sheaves.now list.now) }
     requires within { at + len ≤ LARGEST_OBJECT }
-    requires ready { (j : ℕ) → j < len → IsReady arena.old (pages_in sheaves.now list.now) ((at + j) / PAGE) 0 }
+    requires ready { (j : ℕ) → j < len → IsPageReady arena.old (pages_in sheaves.now list.now) ((at + j) / PAGE) 0 }
     ensures { IsZeroed (pages_in sheaves.now list.now) at len arena.old arena.new }
 {
     let mut next = at;
@@ -124,7 +124,7 @@ pub fn read(list: &[u32], sheaves: &[Sheaf], arena: &Arena, at: usize, into: &mu
     requires counted { AreCounted arena.now (pages_in sheaves.now list.now) }
     requires within { at ≤ LARGEST_OBJECT }
     ensures len { length into.new ≡ length into.old }
-    ensures bytes { (j : ℕ) → j < length into.old → slice_index into.new j ≡ byte_at arena.now (pages_in sheaves.now list.now) (at + j) }
+    ensures bytes { (j : ℕ) → j < length into.old → slice_index into.new j ≡ byte_on_pages arena.now (pages_in sheaves.now list.now) (at + j) }
 {
     let mut done = 0;
     while done < into.len() {

@@ -3,8 +3,8 @@ ghost use Rattle.std.specs.Prelude.{◌≡◌, ℕ, ◌+◌, ◌/◌, ◌≤◌,
 ghost use Rattle.rbd_parts.specs.Contents.{window, overwritten, zeroed};
 ghost use Rattle.rbd_pages.specs.Paging.{AreCounted, pages_for};
 ghost use Rattle.rbd_parts.specs.Parts.{parts_of};
-ghost use Rattle.rbd_pages.specs.Listed.{IsContent, bytes_in, pages_on, touched};
-ghost use Rattle.rbd_pages.specs.Sheaves.{Exchanged, IsOwn, IsPrepared, IsSame, sheaves_for};
+ghost use Rattle.rbd_pages.specs.Listed.{IsContent, listed_bytes, pages_on, touched};
+ghost use Rattle.rbd_pages.specs.Sheaves.{Exchanged, IsOwnPage, ArePagesPrepared, IsSame, sheaves_for};
 ghost use Rattle.rbd_pages.specs.Sheets.{count_at, in_use};
 ghost use Rattle.rbd_pages.specs.declared.page.TheConstants.{PAGE};
 ghost use Rattle.rbd_parts.specs.declared.parts.TheConstants.{LARGEST_OBJECT};
@@ -81,7 +81,7 @@ impl Content {
     pub fn read(&self, sheaves: &Sheaves, at: u64, into: &mut [u8])
         requires counted { AreCounted sheaves.now.sheaves self.now.sheaves }
         requires content { IsContent sheaves.now self.now }
-        ensures { into.new ≡ window (bytes_in sheaves.now self.now) at (length into.old) }
+        ensures { into.new ≡ window (listed_bytes sheaves.now self.now) at (length into.old) }
     {
         if at >= self.len as u64 {
             into.fill(0);
@@ -94,7 +94,7 @@ impl Content {
     pub fn read_parts(&self, sheaves: &Sheaves, parts: &[Part]) -> Result<Vec<u8>, NoMemory>
         requires counted { AreCounted sheaves.now.sheaves self.now.sheaves }
         requires content { IsContent sheaves.now self.now }
-        ensures { IfOk result (λ read. read.items ≡ parts_of parts.now (bytes_in sheaves.now self.now)) }
+        ensures { IfOk result (λ read. read.items ≡ parts_of parts.now (listed_bytes sheaves.now self.now)) }
     {
         let mut read = Vec::new(*self.list.allocator());
         for part in parts {
@@ -112,7 +112,7 @@ impl Content {
     ) -> Result<(), NoMemory>
         requires counted { AreCounted sheaves.now.sheaves self.now.sheaves }
         requires content { IsContent sheaves.now self.now }
-        ensures { OnOk result (read.new.items ≡ read.old.items ++ window (bytes_in sheaves.now self.now) part.now.offset part.now.len) }
+        ensures { OnOk result (read.new.items ≡ read.old.items ++ window (listed_bytes sheaves.now self.now) part.now.offset part.now.len) }
     {
         let start = read.len();
         let Some(end) = start.checked_add(part.len as usize) else {
@@ -131,8 +131,8 @@ impl Content {
         requires content { IsContent sheaves.old self.old }
         ensures exchanged { Exchanged sheaves.old self.old.sheaves sheaves.new self.new.sheaves }
         ensures content { IsContent sheaves.new self.new }
-        ensures ok { OnOk result (bytes_in sheaves.new self.new ≡ overwritten (bytes_in sheaves.old self.old) at bytes.now) }
-        ensures err { OnErr result (bytes_in sheaves.new self.new ≡ bytes_in sheaves.old self.old) }
+        ensures ok { OnOk result (listed_bytes sheaves.new self.new ≡ overwritten (listed_bytes sheaves.old self.old) at bytes.now) }
+        ensures err { OnErr result (listed_bytes sheaves.new self.new ≡ listed_bytes sheaves.old self.old) }
         ensures used { in_use sheaves.new.sheets ≤ in_use sheaves.old.sheets + touched (min self.old.len at) (at + length bytes.now) }
     {
         if self.write_in_place(sheaves, at, bytes) {
@@ -149,7 +149,7 @@ impl Content {
         requires content { IsContent sheaves.old self.old }
         ensures exchanged { Exchanged sheaves.old self.old.sheaves sheaves.new self.new.sheaves }
         ensures content { IsContent sheaves.new self.new }
-        ensures done { IsTrue result → bytes_in sheaves.new self.new ≡ overwritten (bytes_in sheaves.old self.old) at bytes.now }
+        ensures done { IsTrue result → listed_bytes sheaves.new self.new ≡ overwritten (listed_bytes sheaves.old self.old) at bytes.now }
         ensures same { result ≡ false → self.new ≡ self.old }
         ensures sheaves { result ≡ false → sheaves.new ≡ sheaves.old }
         ensures used { in_use sheaves.new.sheets ≡ in_use sheaves.old.sheets }
@@ -176,8 +176,8 @@ impl Content {
         requires content { IsContent sheaves.old self.old }
         ensures exchanged { Exchanged sheaves.old self.old.sheaves sheaves.new self.new.sheaves }
         ensures content { IsContent sheaves.new self.new }
-        ensures ok { OnOk result (bytes_in sheaves.new self.new ≡ overwritten (bytes_in sheaves.old self.old) at bytes.now) }
-        ensures err { OnErr result (bytes_in sheaves.new self.new ≡ bytes_in sheaves.old self.old) }
+        ensures ok { OnOk result (listed_bytes sheaves.new self.new ≡ overwritten (listed_bytes sheaves.old self.old) at bytes.now) }
+        ensures err { OnErr result (listed_bytes sheaves.new self.new ≡ listed_bytes sheaves.old self.old) }
         ensures used { in_use sheaves.new.sheets ≤ in_use sheaves.old.sheets + touched (min self.old.len at) (at + length bytes.now) }
     {
         let at = at as usize;
@@ -196,8 +196,8 @@ impl Content {
         requires content { IsContent sheaves.old self.old }
         ensures exchanged { Exchanged sheaves.old self.old.sheaves sheaves.new self.new.sheaves }
         ensures content { IsContent sheaves.new self.new }
-        ensures ok { OnOk result (bytes_in sheaves.new self.new ≡ zeroed (bytes_in sheaves.old self.old) at len) }
-        ensures err { OnErr result (bytes_in sheaves.new self.new ≡ bytes_in sheaves.old self.old) }
+        ensures ok { OnOk result (listed_bytes sheaves.new self.new ≡ zeroed (listed_bytes sheaves.old self.old) at len) }
+        ensures err { OnErr result (listed_bytes sheaves.new self.new ≡ listed_bytes sheaves.old self.old) }
         ensures used { in_use sheaves.new.sheets ≤ in_use sheaves.old.sheets + touched at (at + len) }
     {
         let from = (at as usize).min(self.len);
@@ -224,13 +224,13 @@ impl Content {
         requires counted { AreCounted sheaves.old.sheaves self.old.sheaves }
         requires content { IsContent sheaves.old self.old }
         ensures same { self.new.len ≡ self.old.len }
-        ensures prepared { OnOk result (IsPrepared sheaves.old self.old.sheaves sheaves.new self.new.sheaves) }
+        ensures prepared { OnOk result (ArePagesPrepared sheaves.old self.old.sheaves sheaves.new self.new.sheaves) }
         ensures held { OnOk result (length self.new.sheaves ≡ max (length self.old.sheaves) (sheaves_for (pages_for (at + len)))) }
         ensures long { OnOk result (pages_for (at + len) ≤ length (pages_on sheaves.new self.new)) }
-        ensures ready { OnOk result ((j : ℕ) → j < len → IsOwn sheaves.new self.new.sheaves ((at + j) / PAGE) (slice_index bytes.now j)) }
+        ensures ready { OnOk result ((j : ℕ) → j < len → IsOwnPage sheaves.new self.new.sheaves ((at + j) / PAGE) (slice_index bytes.now j)) }
         ensures exchanged { OnErr result (Exchanged sheaves.old self.old.sheaves sheaves.new self.new.sheaves) }
         ensures content { OnErr result (IsContent sheaves.new self.new) }
-        ensures err { OnErr result (bytes_in sheaves.new self.new ≡ bytes_in sheaves.old self.old) }
+        ensures err { OnErr result (listed_bytes sheaves.new self.new ≡ listed_bytes sheaves.old self.old) }
         ensures used { in_use sheaves.new.sheets + min (pages_for self.old.len) (at / PAGE)
             ≤ in_use sheaves.old.sheets + max (min (pages_for self.old.len) (at / PAGE)) (pages_for (at + len)) }
     {

@@ -14,9 +14,9 @@
 //!
 //! Contracts see [`Sheaves`] as two lists of counted things, the sheaves with their pages and the
 //! pages with their bytes (`Stock`), and a [`Content`] as a list of sheaves and a length
-//! (`Listed`). `bytes_in` says which bytes that is. Each change says three things: what the bytes
-//! become, that each count follows the lists (`Exchanged`), and that what others name too has the
-//! same pages and bytes. A sum of all lists, as an object has them, is left to the caller.
+//! (`Listed`). `listed_bytes` says which bytes that is. Each change says three things: what the
+//! bytes become, that each count follows the lists (`Exchanged`), and that what others name too has
+//! the same pages and bytes. A sum of all lists, as an object has them, is left to the caller.
 //!
 //! # Cost
 //!

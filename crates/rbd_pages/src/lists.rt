@@ -2,7 +2,7 @@
 ghost use Rattle.std.specs.Prelude.{◌≡◌, ◌≢◌, ℕ, ◌+◌, ◌*◌, ◌/◌, ◌<◌, ◌≤◌, [], length, take, min, max, slice_index, IfOk, OnOk, OnErr, IsTrue, nat_lt};
 ghost use Rattle.std.specs.List.{list_any};
 ghost use Rattle.rbd_pages.specs.Paging.{AreApart, AreCounted, pages_for};
-ghost use Rattle.rbd_pages.specs.Sheaves.{AreFull, Exchanged, IsOwn, IsPrepared, IsSame, pages_in, sheaves_for};
+ghost use Rattle.rbd_pages.specs.Sheaves.{AreFull, Exchanged, IsOwnPage, ArePagesPrepared, IsSame, pages_in, sheaves_for};
 ghost use Rattle.rbd_pages.specs.Sheets.{count_at, in_use};
 ghost use Rattle.rbd_pages.specs.declared.page.TheConstants.{PAGE};
 ghost use Rattle.rbd_pages.specs.declared.sheaf.TheConstants.{SHEAF};
@@ -30,12 +30,12 @@ pub fn prepare(
     requires full { AreFull sheaves.old.sheaves list.old.items }
     requires held { held ≤ length (pages_in sheaves.old.sheaves list.old.items) }
     requires within { at + len ≤ LARGEST_OBJECT }
-    ensures prepared { IsPrepared sheaves.old list.old.items sheaves.new list.new.items }
+    ensures prepared { ArePagesPrepared sheaves.old list.old.items sheaves.new list.new.items }
     ensures used { in_use sheaves.new.sheets + min held (at / PAGE)
         ≤ in_use sheaves.old.sheets + max (min held (at / PAGE)) (pages_for (at + len)) }
     ensures len { OnOk result (length list.new.items ≡ max (length list.old.items) (sheaves_for (pages_for (at + len)))) }
     ensures long { OnOk result (pages_for (at + len) ≤ length (pages_in sheaves.new.sheaves list.new.items)) }
-    ensures ready { OnOk result ((j : ℕ) → j < len → IsOwn sheaves.new list.new.items ((at + j) / PAGE) (slice_index bytes.now j)) }
+    ensures ready { OnOk result ((j : ℕ) → j < len → IsOwnPage sheaves.new list.new.items ((at + j) / PAGE) (slice_index bytes.now j)) }
 {
     sheaves.reserve(pages_for(at + len).saturating_sub(held))?;
     prepare_each(list, sheaves, held, at, len, bytes)
@@ -55,12 +55,12 @@ fn prepare_each(
     requires full { AreFull sheaves.old.sheaves list.old.items }
     requires held { held ≤ length (pages_in sheaves.old.sheaves list.old.items) }
     requires within { at + len ≤ LARGEST_OBJECT }
-    ensures prepared { IsPrepared sheaves.old list.old.items sheaves.new list.new.items }
+    ensures prepared { ArePagesPrepared sheaves.old list.old.items sheaves.new list.new.items }
     ensures used { in_use sheaves.new.sheets + min held (at / PAGE)
         ≤ in_use sheaves.old.sheets + max (min held (at / PAGE)) (pages_for (at + len)) }
     ensures len { OnOk result (length list.new.items ≡ max (length list.old.items) (sheaves_for (pages_for (at + len)))) }
     ensures long { OnOk result (pages_for (at + len) ≤ length (pages_in sheaves.new.sheaves list.new.items)) }
-    ensures ready { OnOk result ((j : ℕ) → j < len → IsOwn sheaves.new list.new.items ((at + j) / PAGE) (slice_index bytes.now j)) }
+    ensures ready { OnOk result ((j : ℕ) → j < len → IsOwnPage sheaves.new list.new.items ((at + j) / PAGE) (slice_index bytes.now j)) }
 {
     let first = held.min(at / PAGE);
     let end = pages_for(at + len);
@@ -119,10 +119,10 @@ fn prepare_page(
     requires apart { AreApart (pages_in sheaves.old.sheaves list.old.items) }
     requires full { AreFull sheaves.old.sheaves list.old.items }
     requires near { k ≤ length (pages_in sheaves.old.sheaves list.old.items) }
-    ensures prepared { IsPrepared sheaves.old list.old.items sheaves.new list.new.items }
+    ensures prepared { ArePagesPrepared sheaves.old list.old.items sheaves.new list.new.items }
     ensures len { OnOk result (length list.new.items ≡ max (length list.old.items) (k / SHEAF + 1)) }
     ensures long { OnOk result (k + 1 ≤ length (pages_in sheaves.new.sheaves list.new.items)) }
-    ensures ready { (byte : ℕ) → (byte ≢ 0 → IsTrue stored) → OnOk result (IsOwn sheaves.new list.new.items k byte) }
+    ensures ready { (byte : ℕ) → (byte ≢ 0 → IsTrue stored) → OnOk result (IsOwnPage sheaves.new list.new.items k byte) }
     ensures used { in_use sheaves.new.sheets ≤ in_use sheaves.old.sheets + 1 }
 {
     have(list, sheaves, k, more)?;
@@ -136,7 +136,7 @@ fn have(list: &mut Vec<u32>, sheaves: &mut Sheaves, k: usize, more: usize) -> Re
     requires apart { AreApart (pages_in sheaves.old.sheaves list.old.items) }
     requires full { AreFull sheaves.old.sheaves list.old.items }
     requires near { k ≤ length (pages_in sheaves.old.sheaves list.old.items) }
-    ensures prepared { IsPrepared sheaves.old list.old.items sheaves.new list.new.items }
+    ensures prepared { ArePagesPrepared sheaves.old list.old.items sheaves.new list.new.items }
     ensures same { pages_in sheaves.new.sheaves list.new.items ≡ pages_in sheaves.old.sheaves list.old.items }
     ensures len { OnOk result (length list.new.items ≡ max (length list.old.items) (k / SHEAF + 1)) }
     ensures alone { OnOk result (count_at sheaves.new.sheaves (slice_index list.new.items (k / SHEAF)) ≡ 1) }
@@ -155,7 +155,7 @@ fn own(list: &mut Vec<u32>, sheaves: &mut Sheaves, m: usize) -> Result<(), NoMem
     requires apart { AreApart (pages_in sheaves.old.sheaves list.old.items) }
     requires full { AreFull sheaves.old.sheaves list.old.items }
     requires there { m < length list.old.items }
-    ensures prepared { IsPrepared sheaves.old list.old.items sheaves.new list.new.items }
+    ensures prepared { ArePagesPrepared sheaves.old list.old.items sheaves.new list.new.items }
     ensures same { pages_in sheaves.new.sheaves list.new.items ≡ pages_in sheaves.old.sheaves list.old.items }
     ensures len { length list.new.items ≡ length list.old.items }
     ensures alone { OnOk result (count_at sheaves.new.sheaves (slice_index list.new.items m) ≡ 1) }
@@ -176,7 +176,7 @@ fn extend(list: &mut Vec<u32>, sheaves: &mut Sheaves, room: usize) -> Result<(),
     requires apart { AreApart (pages_in sheaves.old.sheaves list.old.items) }
     requires full { AreFull sheaves.old.sheaves list.old.items }
     requires long { length list.old.items * SHEAF ≤ length (pages_in sheaves.old.sheaves list.old.items) }
-    ensures prepared { IsPrepared sheaves.old list.old.items sheaves.new list.new.items }
+    ensures prepared { ArePagesPrepared sheaves.old list.old.items sheaves.new list.new.items }
     ensures same { pages_in sheaves.new.sheaves list.new.items ≡ pages_in sheaves.old.sheaves list.old.items }
     ensures len { OnOk result (length list.new.items ≡ length list.old.items + 1) }
     ensures alone { OnOk result (count_at sheaves.new.sheaves (slice_index list.new.items (length list.old.items)) ≡ 1) }

@@ -1,7 +1,7 @@
 //! Lists of pages, each those of one sheaf.
 ghost use Rattle.std.specs.Prelude.{◌≡◌, ◌≢◌, ℕ, ◌+◌, ◌<◌, ◌≤◌, [], length, take, max, IfOk, OnOk, OnErr, IsTrue};
 ghost use Rattle.rbd_pages.specs.Sheets.{bytes_at, count_at, in_use};
-ghost use Rattle.rbd_pages.specs.Paging.{AreCounted, IsReady, Moved, Prepared};
+ghost use Rattle.rbd_pages.specs.Paging.{AreCounted, IsPageReady, Moved, Prepared};
 
 use crate::arena::Arena;
 use rbd_kinds::NoMemory;
@@ -19,7 +19,7 @@ pub fn prepare_page(
     ensures prepared { Prepared arena.old pages.old.items arena.new pages.new.items }
     ensures len { OnOk result (length pages.new.items ≡ max (length pages.old.items) (k + 1)) }
     ensures most { length pages.new.items ≤ max (length pages.old.items) (k + 1) }
-    ensures ready { (byte : ℕ) → (byte ≢ 0 → IsTrue stored) → OnOk result (IsReady arena.new pages.new.items k byte) }
+    ensures ready { (byte : ℕ) → (byte ≢ 0 → IsTrue stored) → OnOk result (IsPageReady arena.new pages.new.items k byte) }
     ensures used { in_use arena.new ≤ in_use arena.old + 1 }
 {
     have(pages, arena, k)?;
@@ -33,7 +33,7 @@ fn have(pages: &mut Vec<u32>, arena: &mut Arena, k: usize) -> Result<(), NoMemor
     ensures prepared { Prepared arena.old pages.old.items arena.new pages.new.items }
     ensures len { OnOk result (length pages.new.items ≡ max (length pages.old.items) (k + 1)) }
     ensures most { length pages.new.items ≤ max (length pages.old.items) (k + 1) }
-    ensures ready { OnOk result (IsReady arena.new pages.new.items k 0) }
+    ensures ready { OnOk result (IsPageReady arena.new pages.new.items k 0) }
     ensures used { in_use arena.new ≤ in_use arena.old + 1 }
 {
     if k < pages.len() {
@@ -49,7 +49,7 @@ fn own(pages: &mut Vec<u32>, arena: &mut Arena, k: usize) -> Result<(), NoMemory
     requires there { k < length pages.old.items }
     ensures prepared { Prepared arena.old pages.old.items arena.new pages.new.items }
     ensures len { length pages.new.items ≡ length pages.old.items }
-    ensures ready { OnOk result (IsReady arena.new pages.new.items k 0) }
+    ensures ready { OnOk result (IsPageReady arena.new pages.new.items k 0) }
     ensures used { in_use arena.new ≤ in_use arena.old + 1 }
 {
     let index = pages[k];
@@ -67,7 +67,7 @@ fn extend(pages: &mut Vec<u32>, arena: &mut Arena) -> Result<(), NoMemory>
     ensures prepared { Prepared arena.old pages.old.items arena.new pages.new.items }
     ensures len { OnOk result (length pages.new.items ≡ length pages.old.items + 1) }
     ensures most { length pages.new.items ≤ length pages.old.items + 1 }
-    ensures ready { OnOk result (IsReady arena.new pages.new.items (length pages.old.items) 0) }
+    ensures ready { OnOk result (IsPageReady arena.new pages.new.items (length pages.old.items) 0) }
     ensures used { in_use arena.new ≤ in_use arena.old + 1 }
 {
     pages.reserve(1)?;
@@ -79,9 +79,9 @@ fn extend(pages: &mut Vec<u32>, arena: &mut Arena) -> Result<(), NoMemory>
 /// Takes the memory for the page at place `k`, where a byte is to be written that isn't zero.
 fn store(pages: &[u32], arena: &mut Arena, k: usize, wanted: bool) -> Result<(), NoMemory>
     requires counted { AreCounted arena.old pages.now }
-    requires ready { IsReady arena.old pages.now k 0 }
+    requires ready { IsPageReady arena.old pages.now k 0 }
     ensures prepared { Prepared arena.old pages.now arena.new pages.now }
-    ensures ready { (byte : ℕ) → (byte ≢ 0 → IsTrue wanted) → OnOk result (IsReady arena.new pages.now k byte) }
+    ensures ready { (byte : ℕ) → (byte ≢ 0 → IsTrue wanted) → OnOk result (IsPageReady arena.new pages.now k byte) }
     ensures used { in_use arena.new ≡ in_use arena.old }
 {
     if wanted {

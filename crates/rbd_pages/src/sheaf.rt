@@ -1,6 +1,6 @@
 //! One sheaf of pages.
 ghost use Rattle.std.specs.Prelude.{◌≡◌, ◌≢◌, ℕ, ◌+◌, ◌<◌, ◌≤◌, [], length, max, slice_index, IfOk, OnOk, OnErr, IsErr, IsTrue};
-ghost use Rattle.rbd_pages.specs.Paging.{AreCounted, IsReady, Moved, Prepared};
+ghost use Rattle.rbd_pages.specs.Paging.{AreCounted, IsPageReady, Moved, Prepared};
 ghost use Rattle.rbd_pages.specs.Sheets.{Sheet, bytes_at, count_at, in_use};
 
 use crate::arena::Arena;
@@ -129,7 +129,7 @@ impl Sheaf {
         ensures prepared { Prepared arena.old self.old.bytes arena.new self.new.bytes }
         ensures len { OnOk result (length self.new.bytes ≡ max (length self.old.bytes) (k + 1)) }
         ensures most { length self.new.bytes ≤ max (length self.old.bytes) (k + 1) }
-        ensures ready { (byte : ℕ) → (byte ≢ 0 → IsTrue stored) → OnOk result (IsReady arena.new self.new.bytes k byte) }
+        ensures ready { (byte : ℕ) → (byte ≢ 0 → IsTrue stored) → OnOk result (IsPageReady arena.new self.new.bytes k byte) }
         ensures used { in_use arena.new ≤ in_use arena.old + 1 }
     {
         pages::prepare_page(&mut self.pages, arena, k, stored)

@@ -1,7 +1,7 @@
 //! The sheaves that the contents of an object share, and their pages.
 ghost use Rattle.std.specs.Prelude.{◌≡◌, ◌≢◌, ℕ, ◌+◌, ◌/◌, ◌<◌, ◌≤◌, [], length, max, slice_index, IfOk, OnOk, OnErr, IsTrue, false};
 ghost use Rattle.rbd_pages.specs.Places.{KnowsFree, TakesFreeFirst};
-ghost use Rattle.rbd_pages.specs.Paging.{AreApart, AreCounted, IsReady, IsWritten, IsZeroed, Prepared, byte_at, occurs};
+ghost use Rattle.rbd_pages.specs.Paging.{AreApart, AreCounted, IsPageReady, IsWritten, IsZeroed, Prepared, byte_on_pages, occurs};
 ghost use Rattle.rbd_pages.specs.Sheaves.{AreFull, AreStocked, IsOnOwn, IsSame, named_in, pages_in};
 ghost use Rattle.std.specs.Vec.{vec_len, vec_capacity};
 ghost use Rattle.rbd_pages.specs.Sheets.{Changed, bytes_at, count_at, in_use, released, sheet_at};
@@ -166,7 +166,7 @@ impl Sheaves {
         ensures prepared { Prepared self.old.sheets (bytes_at self.old.sheaves index) self.new.sheets (bytes_at self.new.sheaves index) }
         ensures len { OnOk result (length (bytes_at self.new.sheaves index) ≡ max (length (bytes_at self.old.sheaves index)) (k + 1)) }
         ensures most { length (bytes_at self.new.sheaves index) ≤ max (length (bytes_at self.old.sheaves index)) (k + 1) }
-        ensures ready { (byte : ℕ) → (byte ≢ 0 → IsTrue stored) → OnOk result (IsReady self.new.sheets (bytes_at self.new.sheaves index) k byte) }
+        ensures ready { (byte : ℕ) → (byte ≢ 0 → IsTrue stored) → OnOk result (IsPageReady self.new.sheets (bytes_at self.new.sheaves index) k byte) }
         ensures others { (s : ℕ) → s ≢ index → IsSame self.old self.new s }
         ensures used { in_use self.new.sheets ≤ in_use self.old.sheets + 1 }
         ensures stocked { AreStocked self.old }
@@ -197,7 +197,7 @@ impl Sheaves {
         requires full { AreFull self.old.sheaves list.now }
         requires within { at + length bytes.now ≤ LARGEST_OBJECT }
         requires ready { (j : ℕ) → j < length bytes.now
-            → IsReady self.old.sheets (pages_in self.old.sheaves list.now) ((at + j) / PAGE) (slice_index bytes.now j) }
+            → IsPageReady self.old.sheets (pages_in self.old.sheaves list.now) ((at + j) / PAGE) (slice_index bytes.now j) }
         ensures sheaves { self.new.sheaves ≡ self.old.sheaves }
         ensures written { IsWritten (pages_in self.old.sheaves list.now) at bytes.now self.old.sheets self.new.sheets }
         ensures stocked { AreStocked self.old }
@@ -211,7 +211,7 @@ impl Sheaves {
         requires apart { AreApart (pages_in self.old.sheaves list.now) }
         requires full { AreFull self.old.sheaves list.now }
         requires within { at + len ≤ LARGEST_OBJECT }
-        requires ready { (j : ℕ) → j < len → IsReady self.old.sheets (pages_in self.old.sheaves list.now) ((at + j) / PAGE) 0 }
+        requires ready { (j : ℕ) → j < len → IsPageReady self.old.sheets (pages_in self.old.sheaves list.now) ((at + j) / PAGE) 0 }
         ensures sheaves { self.new.sheaves ≡ self.old.sheaves }
         ensures zeroed { IsZeroed (pages_in self.old.sheaves list.now) at len self.old.sheets self.new.sheets }
         ensures stocked { AreStocked self.old }
@@ -228,7 +228,7 @@ impl Sheaves {
         requires within { at ≤ LARGEST_OBJECT }
         ensures len { length into.new ≡ length into.old }
         ensures bytes { (j : ℕ) → j < length into.old
-            → slice_index into.new j ≡ byte_at self.now.sheets (pages_in self.now.sheaves list.now) (at + j) }
+            → slice_index into.new j ≡ byte_on_pages self.now.sheets (pages_in self.now.sheaves list.now) (at + j) }
     {
         bytes::read(list, self.sheaves.as_slice(), &self.arena, at, into);
     }

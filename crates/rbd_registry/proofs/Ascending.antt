@@ -11,7 +11,7 @@ use Rattle.std.proofs.lemmas.Cmp.{ranked}
 use Rattle.std.proofs.lemmas.Map.Keys.{sorted_from_strictly_increasing, IsStrictlyIncreasing-from_sorted}
 use Rattle.std.specs.FinSet as finset
 use Rattle.rbd_kinds.proofs.Plain.{or_swapped}
-use Rattle.rbd_registry.specs.Children.{Entry, entry_cmp, AreChildren, is_child_of, placed, ascending, children_in}
+use Rattle.rbd_registry.specs.Children.{ChildEntry, entry_cmp, AreChildren, is_child_of, placed, ascending, children_in}
 use Rattle.rbd_registry.proofs.Entries.{at, entry_exact, tied_child}
 
 -- ---- ascending numbers
@@ -111,7 +111,7 @@ ascend_sorted (x ∷ xs) sorted = (above xs sorted.0, ascend_sorted xs sorted.1)
     above (y ∷ ys) all = (ranked x y Less (sym all.0), above ys all.1)
 
 -- an entry has a child's place exactly where it is of the snapshot and has the child's id
-of_child : (p s c : ℕ) (x : Entry) (b : Bool) → is_child_of p s x ≡ b → is_at (entry_cmp (at p s c)) x ≡ cond b (eqb x.child c) false
+of_child : (p s c : ℕ) (x : ChildEntry) (b : Bool) → is_child_of p s x ≡ b → is_at (entry_cmp (at p s c)) x ≡ cond b (eqb x.child c) false
 of_child p s c x true e = tied_child p s x c e
 of_child p s c x false e = go (is_at (entry_cmp (at p s c)) x) refl
   where
@@ -121,7 +121,7 @@ of_child p s c x false e = go (is_at (entry_cmp (at p s c)) x) refl
         let is : at p s c ≡ x = entry_exact (at p s c) x ((Equal-is (entry_cmp (at p s c) x)).0 t) in
         absurd (true≢false (sym (λ i. eq-eqb p p refl i && eq-eqb s s refl i) ∙ ap (is_child_of p s) is ∙ e))
 
-has_children : (p s c : ℕ) (xs : List Entry) → has c (map (λ e. e.child) (filter (is_child_of p s) xs)) ≡ list_any (is_at (entry_cmp (at p s c))) xs
+has_children : (p s c : ℕ) (xs : List ChildEntry) → has c (map (λ e. e.child) (filter (is_child_of p s) xs)) ≡ list_any (is_at (entry_cmp (at p s c))) xs
 has_children p s c [] = refl
 has_children p s c (x ∷ xs) = go (is_child_of p s x) refl (has_children p s c xs)
   where

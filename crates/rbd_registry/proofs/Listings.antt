@@ -14,7 +14,7 @@ use Rattle.std.proofs.lemmas.Bool.{true≢false, eqb-true, eqb-false, leb-true, 
 use Rattle.std.proofs.lemmas.Map.Lookups.{exact_bytes}
 use Rattle.std.proofs.lemmas.Map.Keys.{IsDistinct-from_sorted}
 use Rattle.std.proofs.lemmas.Map.Entries.{option_filter, lookup-filter-values, lookup_from_place}
-use Rattle.rbd_registry.specs.Directory.{Listing, name_cmp, nothing_listed, listing_of, id_of, but, is_full, added, freed, holds, renamed, IsNamed, IsSoundListing}
+use Rattle.rbd_registry.specs.Directory.{Listing, name_cmp, nothing_listed, listing_of, id_of, but, is_full, added, freed, holds_id, renamed, IsNamed, IsSoundListing}
 use Rattle.rbd_values.proofs.Ordered.{get_entries, one_given, one_taken, entries_in_order, len_in_order, taken_and_given}
 
 -- ---- from entries to names
@@ -262,14 +262,14 @@ module _ (image : ℕ) where
             none false t e = cc
 
     -- a name has the id exactly where one of the values is it
-    held_listed : holds image (listing_of es n) ≡ list_any (λ e. eqb e.1 image) es
+    held_listed : holds_id image (listing_of es n) ≡ list_any (λ e. eqb e.1 image) es
     held_listed = ap (list_any (λ e. eqb e.1 image)) (entries_in_order nat_list_cmp_total es sorted)
 
     valued : (fs : List (List ℕ × ℕ)) → list_any (λ held. eqb held image) (values_of fs) ≡ list_any (λ e. eqb e.1 image) fs
     valued [] = refl
     valued (e ∷ fs) = ap (λ b. eqb e.1 image || b) (valued fs)
 
-    pub held_valued : list_any (λ held. eqb held image) (values_of es) ≡ holds image (listing_of es n)
+    pub held_valued : list_any (λ held. eqb held image) (values_of es) ≡ holds_id image (listing_of es n)
     held_valued = valued es ∙ sym held_listed
 
     one_or_none : (fs : List (List ℕ × ℕ)) → ((list_any (λ e. eqb e.1 image) fs ≡ true) × (length (filter stays fs) < length fs)) ⊎ ((list_any (λ e. eqb e.1 image) fs ≡ false) × (filter stays fs ≡ fs))
@@ -286,7 +286,7 @@ module _ (image : ℕ) where
         go false t (inr same) l = inr (same.0, ap (λ gs. e ∷ gs) same.1)
 
     -- whether there are fewer tells whether a name has the id
-    pub held_freed : (after before : ℕ) → after ≡ length (filter stays es) → before ≡ length es → not (eqb after before) ≡ holds image (listing_of es n)
+    pub held_freed : (after before : ℕ) → after ≡ length (filter stays es) → before ≡ length es → not (eqb after before) ≡ holds_id image (listing_of es n)
     held_freed after before p q =
         elim (one_or_none es) [
           | inl found ↦ let fewer = found.1 in ap not (ne_eqb after before (λ same. omega arith)) ∙ sym found.0

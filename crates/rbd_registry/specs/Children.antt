@@ -8,17 +8,17 @@ use Rattle.std.specs.declared.cmp.Ordering.{Ordering}
 use Rattle.std.specs.Coded.{Coded, code_by, coded×, coded_ℕ}
 
 -- a child that was cloned of a parent's snapshot
-pub record Entry : Type 0 where
+pub record ChildEntry : Type 0 where
   pub parent : ℕ
   pub snap : ℕ
   pub child : ℕ
 
 -- by parent, then by snapshot, then by child
-abbrev pub entry_cmp : Entry → Entry → Ordering
+abbrev pub entry_cmp : ChildEntry → ChildEntry → Ordering
 entry_cmp a b = ordering_then (nat_cmp a.parent b.parent) (ordering_then (nat_cmp a.snap b.snap) (nat_cmp a.child b.child))
 
 -- an entry of a child of this snapshot
-abbrev pub is_child_of : (parent snap : ℕ) → Entry → Bool
+abbrev pub is_child_of : (parent snap : ℕ) → ChildEntry → Bool
 is_child_of parent snap e = (e.parent == parent) && (e.snap == snap)
 
 -- a number in its place among others that ascend, and once
@@ -41,7 +41,7 @@ pub record AreChildren (entries : finset.FinSet entry_cmp) (parent snap : ℕ) (
   pub ascending : IsStrictlyIncreasing ids
 
 -- an entry is told apart by its three ids
-abbrev pub entry_code : Coded Entry
+abbrev pub entry_code : Coded ChildEntry
 entry_code =
     code_by (ℕ × (ℕ × ℕ)) (coded× coded_ℕ (coded× coded_ℕ coded_ℕ))
     (λ e. (e.parent, (e.snap, e.child))) (λ p. record { parent = p.0; snap = p.1.0; child = p.1.1 }) (λ _. refl)

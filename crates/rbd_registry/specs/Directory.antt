@@ -29,8 +29,8 @@ abbrev pub IsNamed : Listing → ℕ → Type 0
 IsNamed d image = (name : List ℕ) × (id_of d name ≡ Some image)
 
 -- whether a name has the id
-abbrev pub holds : (image : ℕ) → Listing → Bool
-holds image d = list_any (λ e. e.1 == image) (finmap.entries d.names)
+abbrev pub holds_id : (image : ℕ) → Listing → Bool
+holds_id image d = list_any (λ e. e.1 == image) (finmap.entries d.names)
 
 -- 4,096 names are held, or the ids are used up
 abbrev pub is_full : Listing → Bool

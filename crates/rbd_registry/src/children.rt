@@ -3,7 +3,7 @@ ghost use Rattle.std.specs.Bool.{OnFalse};
 ghost use Rattle.std.specs.FinSet as finset;
 ghost use Rattle.rbd_registry.specs.Children.{AreChildren, children_in};
 
-use crate::entry::Entry;
+use crate::entry::ChildEntry;
 use rbd_kinds::{Ids, ImageId, NoMemory, SnapId};
 use std::alloc::Global;
 use std::collections::BTreeSet;
@@ -14,7 +14,7 @@ use std::marker::Model;
 #[derive(Drop)]
 pub struct Children {
     alloc: Global,
-    entries: BTreeSet<Entry>,
+    entries: BTreeSet<ChildEntry>,
 }
 
 impl Model for Children {
@@ -44,7 +44,7 @@ impl Children {
         ensures ok { OnOk result (self.new ≡ finset.insert self.old (record { parent = parent; snap = snap; child = child })) }
         ensures err { OnErr result (self.new ≡ self.old) }
     {
-        let entry = Entry {
+        let entry = ChildEntry {
             parent,
             snap,
             child,
@@ -57,7 +57,7 @@ impl Children {
     pub fn contains(&self, parent: ImageId, snap: SnapId, child: ImageId) -> bool
         ensures { result ≡ finset.contains self.now (record { parent = parent; snap = snap; child = child }) }
     {
-        let entry = Entry {
+        let entry = ChildEntry {
             parent,
             snap,
             child,
@@ -71,7 +71,7 @@ impl Children {
         ensures missing { OnFalse result (self.new ≡ self.old) }
         ensures removed { self.new ≡ finset.remove self.old (record { parent = parent; snap = snap; child = child }) }
     {
-        let entry = Entry {
+        let entry = ChildEntry {
             parent,
             snap,
             child,
@@ -85,7 +85,7 @@ impl Children {
         ensures list { IfOk result (λ ids. ids ≡ children_in self.now parent snap) }
     {
         let mut ids = Ids::new(self.alloc);
-        let first = Entry {
+        let first = ChildEntry {
             parent,
             snap,
             child: ImageId(0),

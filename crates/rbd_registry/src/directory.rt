@@ -5,7 +5,7 @@ ghost use Rattle.std.specs.List.{list_any};
 ghost use Rattle.std.specs.List.Sorted.{IsStrictlySortedBy};
 ghost use Rattle.std.specs.Map.{keys_of, values_of};
 ghost use Rattle.std.specs.BTreeMap.{IsUnchanged, Updates};
-ghost use Rattle.rbd_registry.specs.Directory.{name_cmp, nothing_listed, id_of, but, is_full, added, freed, holds, renamed, IsNamed, IsSoundListing};
+ghost use Rattle.rbd_registry.specs.Directory.{name_cmp, nothing_listed, id_of, but, is_full, added, freed, holds_id, renamed, IsNamed, IsSoundListing};
 
 use crate::fault::{AddFault, RenameFault};
 use rbd_kinds::{ImageId, Name, Names, NoMemory, TryClone};
@@ -106,7 +106,7 @@ impl Directory {
 
     /// Whether a name has this id. It takes no memory, and reads each name's id at most once.
     pub fn holds(&self, image: ImageId) -> bool
-        ensures { result ≡ holds image self.now }
+        ensures { result ≡ holds_id image self.now }
     {
         is_value(&self.names, image)
     }
@@ -115,7 +115,7 @@ impl Directory {
     /// reads each name's id once. The id isn't drawn again.
     pub fn remove(&mut self, image: ImageId) -> bool
         ensures found { IsTrue result ↔ IsNamed self.old image }
-        ensures held { result ≡ holds image self.old }
+        ensures held { result ≡ holds_id image self.old }
         ensures each { (name : List ℕ) → id_of self.new name ≡ but image (id_of self.old name) }
         ensures freed { self.new ≡ freed image self.old }
         ensures missing { OnFalse result (self.new ≡ self.old) }

@@ -23,12 +23,12 @@ use Rattle.rbd_machine.specs.Path.{Answered, IsWalk, at_operation}
 use Rattle.rbd_machine.specs.Plan.{Plan, Ask, Await, Note, Return, Goto, IsAsking, Standing}
 use Rattle.rbd_machine.specs.Refused.{AreGiven, finds_image}
 use Rattle.rbd_machine.specs.declared.seat.Seat.{Seat}
-use Rattle.rbd_requests.specs.Plans.{plan_of, IsPlanFor}
-use Rattle.rbd_requests.specs.Profile.{Nothing, OfMap, OfSize, OfSnap, Told, between, more_by, profile}
-use Rattle.rbd_remove.specs.Told.{objects_in, objects_told}
-use Rattle.rbd_request.proofs.Passes.{last_pass}
-use Rattle.rbd_request.specs.Read.{is_read, pass, read_labels}
-use Rattle.rbd_requests.specs.Touched.{AsksAtMost, HasAtMost, by_header, most_told}
+use Rattle.rbd_catalog.specs.Plans.{plan_of, IsPlanFor}
+use Rattle.rbd_catalog.specs.Profile.{Nothing, OfMap, OfSize, OfSnap, Told, between, more_by, profile}
+use Rattle.rbd_image.specs.Told.{objects_by_bits, objects_told}
+use Rattle.rbd_data.proofs.Passes.{last_pass}
+use Rattle.rbd_data.specs.Read.{is_read, pass, read_labels}
+use Rattle.rbd_catalog.specs.Touched.{AsksAtMost, HasAtMost, by_header, most_told}
 use Rattle.rbd_world.proofs.Walks.{given_more, led_on}
 use Rattle.rbd_replies.proofs.PassBounds.{in_one_pass, pass_asks, passes_within, read_begins, walk_within}
 use Rattle.rbd_replies.specs.Bounds.{IsInPass, StaysBelow, allowed}
@@ -85,8 +85,8 @@ most_still many [] s is = ap (λ a. max (by_header many a) 0) is
 most_still many (x ∷ steps) s is = ap (max (by_header many x.answer)) (most_still many steps s is)
 
 objects_still : (steps : List Answered) (s : Answered) → s.answer ≡ answer.Fenced → objects_told (steps ++ s ∷ []) ≡ objects_told steps
-objects_still [] s is = ap (λ a. objects_in a + 0) is
-objects_still (x ∷ steps) s is = ap (λ n. objects_in x.answer + n) (objects_still steps s is)
+objects_still [] s is = ap (λ a. objects_by_bits a + 0) is
+objects_still (x ∷ steps) s is = ap (λ n. objects_by_bits x.answer + n) (objects_still steps s is)
 
 told_still : (t : Told) (steps : List Answered) (s : Answered) → s.answer ≡ answer.Fenced → more_by t (steps ++ s ∷ []) ≡ more_by t steps
 told_still Nothing steps s is = refl

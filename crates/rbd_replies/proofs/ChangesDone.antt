@@ -21,10 +21,10 @@ use Rattle.rbd_layout.specs.Asked.{layout_of}
 use Rattle.rbd_machine.specs.Path.{Answered, found, looked_at}
 use Rattle.rbd_meaning.proofs.Allowed.{takes_one_more}
 use Rattle.rbd_meaning.specs.Creates.{Makes}
-use Rattle.rbd_meaning.specs.Listings.{renamed}
+use Rattle.rbd_meaning.specs.Listings.{renamed_to}
 use Rattle.rbd_meaning.specs.Snaps.{RemovesOne, TakesOne, map_put, map_removed, map_told, snap_removed}
 use Rattle.rbd_stands.specs.Image.{SnapLine, line_of_flat, line_of_snap}
-use Rattle.rbd_stands.specs.Reading.{Tells, flat_snap_named}
+use Rattle.rbd_stands.specs.Reading.{TellsFlatImage, flat_snap_named}
 use Rattle.rbd_replies.proofs.PlacedRight.{ArePlacedRight}
 use Rattle.rbd_replies.proofs.Places.{step_at}
 use Rattle.rbd_replies.proofs.PlacesTaken.{change_first, none_taken, silent_first}
@@ -59,7 +59,7 @@ listed_among (Some gone) (Some s) listed same is =
     let line : line_of_flat gone ≡ line_of_snap s = cc in
     (gone, refl, ap (λ (v : SnapView). v.id) (sym that) ∙ ap (λ (l : SnapLine). l.id) (sym line))
 
-pub listed_flat : (flat : Option FlatImage) (h : HeaderView) (snap : List ℕ) (listed : SnapView) → Tells h flat → snap_named h.snaps snap ≡ Some listed
+pub listed_flat : (flat : Option FlatImage) (h : HeaderView) (snap : List ℕ) (listed : SnapView) → TellsFlatImage h flat → snap_named h.snaps snap ≡ Some listed
     → IsListedThere flat snap listed.id
 listed_flat None h snap listed tells is = absurd tells
 listed_flat (Some i) h snap listed tells is =
@@ -78,7 +78,7 @@ free_among None p same is = refl
 free_among (Some s) None same is = absurd (cc)
 free_among (Some s) (Some other) same is = absurd (cc)
 
-free_flat : (flat : Option FlatImage) (h : HeaderView) (snap : List ℕ) → Tells h flat → snap_named h.snaps snap ≡ None → IsFreeThere flat snap
+free_flat : (flat : Option FlatImage) (h : HeaderView) (snap : List ℕ) → TellsFlatImage h flat → snap_named h.snaps snap ≡ None → IsFreeThere flat snap
 free_flat None h snap tells is = absurd tells
 free_flat (Some i) h snap tells is =
     record { i = i; is = refl; free = free_among (flat_snap_named i.snaps snap) (snap_named h.snaps snap) (tells.by_name snap) is }
@@ -117,10 +117,10 @@ module _ (homes : ℕ → SiteId) where
       → Makes site name size shape (map step_at places) → Creates name size places
   create_creates places right site name size shape makes = creates_at places right site name size makes.made.image makes.made.objects shape makes.made.are
 
-  pub rename_renames : (places : List Placed) → ArePlacedRight homes places → (site : SiteId) (from to : List ℕ) → map step_at places ≡ renamed site from to ∷ [] → Renames from to places
+  pub rename_renames : (places : List Placed) → ArePlacedRight homes places → (site : SiteId) (from to : List ℕ) → map step_at places ≡ renamed_to site from to ∷ [] → Renames from to places
   rename_renames [] right site from to are = absurd (cc)
   rename_renames (p ∷ places) right site from to are =
-      let is : step_at p ≡ renamed site from to = cc in
+      let is : step_at p ≡ renamed_to site from to = cc in
       let none : places ≡ [] = none_taken places cc in
       let there = renamed_there homes p right.0 site from to is in
       record {
@@ -129,7 +129,7 @@ module _ (homes : ℕ → SiteId) where
         image = there.image;
         named = there.named;
         free = there.free;
-        effects = change_first p places (effect.Rename from to) (effect_there homes p right.0 (renamed site from to) is) ∙ ap (λ rest. effect.Rename from to ∷ effects_of rest) none;
+        effects = change_first p places (effect.Rename from to) (effect_there homes p right.0 (renamed_to site from to) is) ∙ ap (λ rest. effect.Rename from to ∷ effects_of rest) none;
       }
 
   -- one change behind two looks

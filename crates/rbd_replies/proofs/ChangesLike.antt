@@ -5,7 +5,7 @@ use Rattle.std.specs.Prelude.{nat_le}
 use Rattle.rbd_kinds.specs.declared.sharing.Sharing.TheVariants as sharing
 use Rattle.rbd_commands.specs.declared.command.Command.{Command}
 use Rattle.rbd_commands.specs.declared.command.Command.TheVariants as command
-use Rattle.rbd_discard.specs.Discard.{zero}
+use Rattle.rbd_data.specs.Discard.{zero}
 use Rattle.rbd_header.specs.Header.{context_of, with_size}
 use Rattle.rbd_kinds.specs.Header.{snap_named}
 use Rattle.rbd_kinds.specs.declared.answer.Answer.{Answer}
@@ -23,16 +23,16 @@ use Rattle.rbd_meaning.specs.Reads.{bytes_shown}
 use Rattle.rbd_meaning.specs.Resizes.{ResizesWhole, resize_refuses}
 use Rattle.rbd_meaning.specs.Rollbacks.{AreRestored, RollsBack, at_size, rollback_refuses}
 use Rattle.rbd_meaning.specs.Writes.{write_refuses}
-use Rattle.rbd_resize.specs.Resize.{set_size}
-use Rattle.rbd_resize.specs.Rollback.{roll_back_to}
+use Rattle.rbd_image.specs.Resize.{set_size}
+use Rattle.rbd_snap.specs.Rollback.{roll_back_to}
 use Rattle.rbd_stands.proofs.Served.{is_served}
 use Rattle.rbd_world.specs.Run.{Asked, Happening, asked_by}
 use Rattle.rbd_world.specs.Sound.{IsRight}
-use Rattle.rbd_zero.specs.Full.{cut_bytes, replaced_by}
-use Rattle.rbd_zero.specs.Operations.{header_set_size, done}
-use Rattle.rbd_zero.specs.Shrink.{pieces_from}
-use Rattle.rbd_zero.specs.Size.{IsResizedBy, pieces_zeroed}
-use Rattle.rbd_zero.specs.Zero.{all_zeroed, is_inside, is_whole, zeroed, zeroed_by}
+use Rattle.rbd_pieces.specs.Full.{cut_bytes, replaced_by}
+use Rattle.rbd_pieces.specs.Operations.{header_set_size, done}
+use Rattle.rbd_pieces.specs.Shrink.{pieces_from}
+use Rattle.rbd_pieces.specs.Size.{IsResizedBy, pieces_zeroed}
+use Rattle.rbd_pieces.specs.Zero.{all_zeroed, is_inside, is_whole, zeroed_steps, zeroed_by}
 use Rattle.rbd_replies.specs.Home.{AreDoneAt}
 use Rattle.rbd_replies.specs.Places.{Placed}
 use Rattle.rbd_replies.specs.RolledBack.{RollsBackTo}
@@ -63,7 +63,7 @@ module _ (home : SiteId) (image : ℕ) where
   plain_pieces : (h : HeaderView) (pieces : List Piece) → ArePlain image (pieces_zeroed home image h pieces)
   plain_pieces h [] = tt
   plain_pieces h (p ∷ pieces) =
-      plain_both image (zeroed home image h p) (pieces_zeroed home image h pieces) (plain_zeroed (context_of h) p (is_whole h p) (is_inside h p.object)) (plain_pieces h pieces)
+      plain_both image (zeroed_steps home image h p) (pieces_zeroed home image h pieces) (plain_zeroed (context_of h) p (is_whole h p) (is_inside h p.object)) (plain_pieces h pieces)
 
   plain_replaced : (h : HeaderView) (p : Piece) (left : List ℕ) → ArePlain image (replaced_by home image h p left)
   plain_replaced h p [] = plain_all (context_of h) p (is_inside h p.object)

@@ -19,9 +19,9 @@ use Rattle.rbd_meaning.specs.Discards.{DiscardsWhole}
 use Rattle.rbd_meaning.specs.Range.{out_of_range}
 use Rattle.rbd_meaning.specs.Resizes.{ResizesWhole}
 use Rattle.rbd_meaning.specs.Rollbacks.{RollsBack, at_size}
-use Rattle.rbd_stands.specs.Reading.{IsToldBy, Tells}
-use Rattle.rbd_zero.specs.Size.{IsResized, pieces_zeroed}
-use Rattle.rbd_zero.specs.Zero.{head_of}
+use Rattle.rbd_stands.specs.Reading.{IsToldBy, TellsFlatImage}
+use Rattle.rbd_pieces.specs.Size.{IsResized, pieces_zeroed}
+use Rattle.rbd_pieces.specs.Zero.{head_of}
 use Rattle.rbd_replies.specs.Changed.{FindsImage}
 use Rattle.rbd_replies.specs.Places.{Placed, effects_of, flat_at}
 use Rattle.rbd_replies.specs.RolledBack.{RestoresAll, RollsBackTo}
@@ -155,7 +155,7 @@ module _ (homes : ℕ → SiteId) (home : SiteId) where
         let right_both : ArePlacedRight homes (both.front ++ both.back) = subst (ArePlacedRight homes) both.are goes.right in
         let listed : snap_named goes.finds.header.snaps snap ≡ Some rolls.listed = ap (λ (h : HeaderView). snap_named h.snaps snap) goes.header_is ∙ rolls.is_listed in
         let there = listed_flat (image_at (flat_at goes.finds.own) goes.finds.image) goes.finds.header snap rolls.listed goes.finds.tells listed in
-        let told : IsToldBy goes.finds.header there.i = subst (Tells goes.finds.header) there.is goes.finds.tells in
+        let told : IsToldBy goes.finds.header there.i = subst (TellsFlatImage goes.finds.header) there.is goes.finds.tells in
         let long = as_long goes.finds.header there.i snap rolls.listed there.gone told (subst (λ (h : HeaderView). AreRising h.snap_seq h.snaps) (sym goes.header_is) goes.rising) listed there.listed there.same in
         record {
           finds = goes.finds;

@@ -12,7 +12,7 @@ use Rattle.rbd_kinds.specs.declared.operation.Op.TheVariants as op
 use Rattle.rbd_kinds.specs.declared.reply.Reply.{Reply}
 use Rattle.rbd_kinds.proofs.Images.{same_site_itself, same_site_is}
 use Rattle.rbd_machine.specs.Knowledge.{same_site}
-use Rattle.rbd_rely.specs.Truth.{changed_by}
+use Rattle.rbd_interference.specs.Truth.{changed_by}
 use Rattle.rbd_site.proofs.FenceLemmas.{fence_stays, lists_it}
 use Rattle.rbd_site.specs.Log.{expired, trimmed}
 use Rattle.rbd_site.specs.Records.{Records}
@@ -22,9 +22,9 @@ use Rattle.rbd_stands.proofs.NoEffect.{fenced_none}
 use Rattle.rbd_stands.proofs.Served.{fenced_after, fenced_answer}
 use Rattle.rbd_stands.specs.Effect.{effect_of}
 use Rattle.rbd_world.specs.Run.{Happening, Nothing, Waited, Began, Did, Refused, Trimmed, Expired, Heard, Stopped, Restarted, Operation, fence_of, flat_after, mail_of, records_after, records_behind}
-use Rattle.rbd_world.specs.Sound.{IsDone, IsRight}
+use Rattle.rbd_world.specs.Sound.{IsRightlyDone, IsRight}
 use Rattle.rbd_world.proofs.Runs.{done_of}
-use Rattle.rbd_replies.specs.Fenced.{ChangesNothing, LeavesAll}
+use Rattle.rbd_replies.specs.Fenced.{IsWithoutEffect, LeavesAll}
 
 -- ---- what leaves the records of its site
 
@@ -49,14 +49,14 @@ module _ (o : Operation) (reply : Option Reply) (run : List Happening) (silent :
 
 -- ---- what a fenced instance does
 
-module _ (o : Operation) (reply : Option Reply) (run : List Happening) (is : IsDone o run) (fenced : is_fenced (records_after o.site run) o.instance ≡ true) where
+module _ (o : Operation) (reply : Option Reply) (run : List Happening) (is : IsRightlyDone o run) (fenced : is_fenced (records_after o.site run) o.instance ≡ true) where
   told : o.answer ≡ answer.Fenced
   told = is.answer ∙ fenced_answer (records_after o.site run) o.instance o.op fenced
 
   no_effect : o.effect ≡ None
   no_effect = is.effect ∙ ap (λ a. effect_of (records_after o.site run) (done.Op o.op) a) told ∙ fenced_none (records_after o.site run) o.op
 
-  fenced_changes_nothing : ChangesNothing o reply run
+  fenced_changes_nothing : IsWithoutEffect o reply run
   fenced_changes_nothing = record {
     answered = told;
     leaves =
@@ -65,7 +65,7 @@ module _ (o : Operation) (reply : Option Reply) (run : List Happening) (is : IsD
   }
 
 pub fenced_here : (homes : ℕ → SiteId) (run : List Happening) (o : Operation) (reply : Option Reply) → IsRight homes (Did o reply ∷ run)
-    → is_fenced (records_after o.site run) o.instance ≡ true → ChangesNothing o reply run
+    → is_fenced (records_after o.site run) o.instance ≡ true → IsWithoutEffect o reply run
 fenced_here homes run o reply right fenced = fenced_changes_nothing o reply run (done_of homes o reply run right.1) fenced
 
 -- ---- a fence stays
@@ -137,7 +137,7 @@ right_before homes (h ∷ later) run right = right_before homes later run right.
 
 -- whoever was fenced before changes nothing at that site
 pub fenced_later : (homes : ℕ → SiteId) (run later : List Happening) (b o : Operation) (was reply : Option Reply) → IsRight homes (Did o reply ∷ (later ++ (Did b was ∷ run)))
-    → fence_of b.op b.answer ≡ Some o.instance → o.site ≡ b.site → ChangesNothing o reply (later ++ (Did b was ∷ run))
+    → fence_of b.op b.answer ≡ Some o.instance → o.site ≡ b.site → IsWithoutEffect o reply (later ++ (Did b was ∷ run))
 fenced_later homes run later b o was reply right is here =
     fenced_here homes (later ++ (Did b was ∷ run)) o reply right
     (fence_lasts o.site o.instance later (Did b was ∷ run)

@@ -1,5 +1,5 @@
--- The flat snapshot of a name is the one with the id that a header lists under it, and as long as the
--- header says.
+-- The flat snapshot of a name is the one with the id that a header lists under it, and as long as
+-- the header says.
 use Rattle.std.proofs.Common.{◌≡◌, ℕ, ◌<◌, Bool, true, false, cond, eqb, List, [], ◌∷◌, length, map, Option, Some, None, option_map, refl, sym, ap, ◌∙◌, subst, arith, eq-eqb}
 use Rattle.std.specs.Prelude.{nat_eq}
 use Rattle.std.specs.Cmp.Lexicographic.{pointwise}

@@ -20,7 +20,7 @@ use Rattle.rbd_machine.specs.declared.seat.Seat.{Seat}
 use Rattle.rbd_meaning.specs.Meant.{IsMeantBy}
 use Rattle.rbd_world.specs.Run.{Doer, Itself, OnWay, House, AfterStop, Happening, Nothing, Waited, Began, Did, Refused, Trimmed, Expired, Heard, Stopped, Restarted, Operation, cause_of, ending_entries, entries_of, entry_by, entry_of, entry_unfenced, fence_of, history_of, reply_entries}
 use Rattle.rbd_world.specs.Seats.{seat_at}
-use Rattle.rbd_world.specs.Sound.{EndsWith, HasRun, IsDue, IsRefusedOnWay, IsReplyMeant, IsRight}
+use Rattle.rbd_world.specs.Sound.{EndsItsLine, HasRun, IsDue, IsRefusedOnWay, IsReplyMeant, IsRight}
 use Rattle.rbd_world.specs.World.{WorldView}
 use Rattle.rbd_replies.proofs.OnWay.{refused_there}
 use Rattle.rbd_replies.specs.Shown.{AreHeadersInForm, IsEntryInForm, IsShownInForm, ShowsInForm}
@@ -66,7 +66,7 @@ operation_in_form c s number (Some i) effect = tt
 one_in_form : (line : ℕ) (r : Reply) → ShowsInForm r → AreHeadersInForm (reply_entries line (Some r))
 one_in_form line r shows = All-cons IsEntryInForm (entry.Reply line r) [] shows (All-nil IsEntryInForm)
 
-ending_in_form : (homes : ℕ → SiteId) (o : Operation) (r : Reply) (run : List Happening) (doer : Doer) → EndsWith homes o r run doer → AreHeadersInForm (ending_entries doer (Some r))
+ending_in_form : (homes : ℕ → SiteId) (o : Operation) (r : Reply) (run : List Happening) (doer : Doer) → EndsItsLine homes o r run doer → AreHeadersInForm (ending_entries doer (Some r))
 ending_in_form homes o r run (Itself line) ends = one_in_form line r (reply_in_form homes line r run (Did o (Some r) ∷ run) ends)
 ending_in_form homes o r run (OnWay line) ends = one_in_form line r (refusal_in_form homes line r o run ends)
 ending_in_form homes o r run House ends = absurd ends

@@ -16,7 +16,7 @@ use Rattle.rbd_kinds.specs.declared.reply.Reply.TheVariants as reply
 use Rattle.rbd_layout.specs.Pieces.{pieces_of}
 use Rattle.rbd_layout.specs.declared.types.Piece.{Piece}
 use Rattle.rbd_machine.specs.About.{AreOfImage, AreOwn}
-use Rattle.rbd_machine.specs.Passes.{joined}
+use Rattle.rbd_machine.specs.Passes.{steps_of_passes}
 use Rattle.rbd_machine.specs.Path.{Answered}
 use Rattle.rbd_machine.specs.declared.seat.Seat.{Seat}
 use Rattle.rbd_meaning.specs.Closes.{ClosesBy}
@@ -25,10 +25,10 @@ use Rattle.rbd_meaning.specs.Reads.{AreRead, IsPassTo, SeeOthers}
 use Rattle.rbd_meaning.specs.Removals.{AreRemovals, removal}
 use Rattle.rbd_meaning.specs.Rollbacks.{AreRestored, at_size}
 use Rattle.rbd_meaning.specs.Writes.{WritesWhole, pieces_written}
-use Rattle.rbd_zero.specs.Full.{cut_bytes, replaced_by}
-use Rattle.rbd_zero.specs.Shrink.{pieces_from}
-use Rattle.rbd_zero.specs.Size.{IsResizedBy, pieces_zeroed}
-use Rattle.rbd_zero.specs.Zero.{all_zeroed, head_of, is_inside, is_whole, zeroed, zeroed_by}
+use Rattle.rbd_pieces.specs.Full.{cut_bytes, replaced_by}
+use Rattle.rbd_pieces.specs.Shrink.{pieces_from}
+use Rattle.rbd_pieces.specs.Size.{IsResizedBy, pieces_zeroed}
+use Rattle.rbd_pieces.specs.Zero.{all_zeroed, head_of, is_inside, is_whole, zeroed_steps, zeroed_by}
 use Rattle.rbd_replies.proofs.Places.{step_at}
 use Rattle.rbd_replies.specs.Home.{AreDoneAt}
 use Rattle.rbd_replies.specs.Places.{Placed}
@@ -72,9 +72,9 @@ module _ (site : SiteId) where
     pass_at steps closing pass =
         subst (AreAt site) (sym pass.are) (refl, (refl, at_both pass.reads (_ ∷ []) (read_at pass.image pass.view.snap _ pass.reads pass.read) (refl, tt)))
 
-    passes_at : (passes : List (List Answered)) → SeeOthers site name snap e passes → AreAt site (joined passes)
+    passes_at : (passes : List (List Answered)) → SeeOthers site name snap e passes → AreAt site (steps_of_passes passes)
     passes_at [] see = tt
-    passes_at (pass ∷ passes) (sees, see) = at_both pass (joined passes) (pass_at pass sees.closing sees.pass) (passes_at passes see)
+    passes_at (pass ∷ passes) (sees, see) = at_both pass (steps_of_passes passes) (pass_at pass sees.closing sees.pass) (passes_at passes see)
 
   -- pieces that become zeros
   all_zeroed_at : (image : ℕ) (context : SnapContext) (piece : Piece) (inside : Bool) → AreAt site (all_zeroed site image context piece inside)
@@ -89,7 +89,7 @@ module _ (site : SiteId) where
   zeroed_at : (image : ℕ) (h : HeaderView) (pieces : List Piece) → AreAt site (pieces_zeroed site image h pieces)
   zeroed_at image h [] = tt
   zeroed_at image h (p ∷ pieces) =
-      at_both (zeroed site image h p) (pieces_zeroed site image h pieces) (zeroed_by_at image (context_of h) p (is_whole h p) (is_inside h p.object)) (zeroed_at image h pieces)
+      at_both (zeroed_steps site image h p) (pieces_zeroed site image h pieces) (zeroed_by_at image (context_of h) p (is_whole h p) (is_inside h p.object)) (zeroed_at image h pieces)
 
   -- a size that is set
   resized_at : (grows : Bool) (image : ℕ) (h : HeaderView) (to objects : ℕ) (steps : List Answered) → IsResizedBy grows site image h to objects steps → AreAt site steps
@@ -173,9 +173,9 @@ module _ (seat : Seat) where
   meant_at (command.Used name) steps (reply.Used used of) shows = subst (AreAt seat.home) (sym shows.are) (refl, (refl, (refl, tt)))
   meant_at (command.Used name) steps (reply.Refused x) refused = own_at seat.home _ steps refused.own
   meant_at (command.Read name snap at len) steps (reply.Bytes bytes) shows =
-      subst (AreAt seat.home) (sym shows.are) (at_both seat.home (joined shows.passes) shows.pass (passes_at seat.home name snap _ shows.passes shows.before) (pass_at seat.home name snap _ shows.pass _ shows.shows.pass))
+      subst (AreAt seat.home) (sym shows.are) (at_both seat.home (steps_of_passes shows.passes) shows.pass (passes_at seat.home name snap _ shows.passes shows.before) (pass_at seat.home name snap _ shows.pass _ shows.shows.pass))
   meant_at (command.Read name snap at len) steps (reply.Refused x) refused =
-      subst (AreAt seat.home) (sym refused.are) (at_both seat.home (joined refused.passes) refused.pass (passes_at seat.home name snap _ refused.passes refused.before) (own_at seat.home _ refused.pass refused.by.own))
+      subst (AreAt seat.home) (sym refused.are) (at_both seat.home (steps_of_passes refused.passes) refused.pass (passes_at seat.home name snap _ refused.passes refused.before) (own_at seat.home _ refused.pass refused.by.own))
   meant_at command.List steps (reply.Names names) are = subst (AreAt seat.home) (sym are) (refl, tt)
   meant_at command.List steps (reply.Refused x) refused = own_at seat.home _ steps refused.own
   meant_at (command.Info name) steps (reply.Info h) shows = subst (AreAt seat.home) (sym shows.are) (refl, (refl, tt))

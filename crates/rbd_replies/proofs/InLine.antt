@@ -3,7 +3,7 @@ use Rattle.std.proofs.Common.{◌≡◌, ℕ, cond, Bool, true, false, List, [],
 use Rattle.std.proofs.lemmas.List.{append-nil}
 use Rattle.rbd_machine.specs.Path.{Answered}
 use Rattle.rbd_world.specs.Run.{Happening, Nothing, Waited, Began, Did, Refused, Trimmed, Expired, Heard, Stopped, Restarted, is_own, steps_of}
-use Rattle.rbd_replies.specs.Places.{Placed, places_in, places_of}
+use Rattle.rbd_replies.specs.Places.{Placed, placed_in, placed_of}
 use Rattle.rbd_replies.proofs.Places.{step_at, steps_at_places}
 
 -- behind these steps each place is the line's own, and the next
@@ -24,7 +24,7 @@ in_line_both line before (p ∷ some) others one other = (
       (subst (λ steps. AreInLine line steps others) (sym (append_assoc before (step_at p ∷ []) (map step_at some))) other),
 )
 
-last_in_line : (line : ℕ) (h : Happening) (run : List Happening) → AreInLine line (steps_of line run) (places_in line h run)
+last_in_line : (line : ℕ) (h : Happening) (run : List Happening) → AreInLine line (steps_of line run) (placed_in line h run)
 last_in_line line Nothing run = tt
 last_in_line line Waited run = tt
 last_in_line line (Began asked slot) run = tt
@@ -40,11 +40,11 @@ last_in_line line (Did o reply) run = by (is_own line o.by) refl
     by true mine = (mine, refl, tt)
     by false other = tt
 
-pub places_in_line : (line : ℕ) (run : List Happening) → AreInLine line [] (places_of line run)
+pub places_in_line : (line : ℕ) (run : List Happening) → AreInLine line [] (placed_of line run)
 places_in_line line [] = tt
 places_in_line line (h ∷ run) =
-    in_line_both line [] (places_of line run) (places_in line h run) (places_in_line line run)
-    (subst (λ steps. AreInLine line steps (places_in line h run)) (sym (steps_at_places line run)) (last_in_line line h run))
+    in_line_both line [] (placed_of line run) (placed_in line h run) (places_in_line line run)
+    (subst (λ steps. AreInLine line steps (placed_in line h run)) (sym (steps_at_places line run)) (last_in_line line h run))
 
 -- those behind others
 pub in_line_behind : (line : ℕ) (before : List Answered) (some others : List Placed) → AreInLine line before (some ++ others) → AreInLine line (before ++ map step_at some) others

@@ -3,7 +3,7 @@
 -- look under the lock told, with its own changes since.
 use Rattle.std.proofs.Common.{◌≡◌, ℕ, Bool, true, false, List, [], ◌∷◌, Option, Some, None, refl}
 use Rattle.std.specs.Prelude.{nat_le}
-use Rattle.rbd_discard.specs.Discard.{zero, zero_pieces as discard_pieces}
+use Rattle.rbd_data.specs.Discard.{zero, zero_in_turns as discard_pieces}
 use Rattle.rbd_header.specs.Header.{context_of}
 use Rattle.rbd_kinds.specs.declared.answer.Answer.{Answer}
 use Rattle.rbd_kinds.specs.declared.data_op.DataOp.TheVariants as object
@@ -23,13 +23,13 @@ use Rattle.rbd_machine.specs.Wait.{Wait}
 use Rattle.rbd_machine.specs.Wait as wait
 use Rattle.rbd_meaning.specs.Count.{object_count}
 use Rattle.rbd_meaning.specs.Rollbacks.{at_size}
-use Rattle.rbd_resize.specs.Resize.{set_size}
-use Rattle.rbd_resize.specs.Rollback.{restore_pieces, roll_back_listed}
-use Rattle.rbd_zero.specs.Full.{cut_bytes, full_by, full_piece, writing_full}
-use Rattle.rbd_zero.specs.Shrink.{pieces_from}
-use Rattle.rbd_zero.specs.Size.{cutting, resize_by, sizing, zero_pieces}
-use Rattle.rbd_zero.specs.Zero.{emptying, head_of, is_inside, is_whole, removing, setting, zero_all, zero_by, zero_piece, zero_some, zeroing}
-use Rattle.rbd_requests.proofs.PlanSteps.{at_bits, at_bytes, at_done}
+use Rattle.rbd_image.specs.Resize.{set_size}
+use Rattle.rbd_snap.specs.Rollback.{restore_pieces, roll_back_listed}
+use Rattle.rbd_pieces.specs.Full.{cut_bytes, full_by, full_piece, writing_full}
+use Rattle.rbd_pieces.specs.Shrink.{pieces_from}
+use Rattle.rbd_pieces.specs.Size.{cutting, resize_by, sizing, zero_pieces}
+use Rattle.rbd_pieces.specs.Zero.{emptying, head_of, is_inside, is_whole, removing, setting, zero_all, zero_by, zero_piece, zero_some, zeroing}
+use Rattle.rbd_catalog.proofs.PlanSteps.{at_bits, at_bytes, at_done}
 
 -- an operation on objects or maps, or one that sets the image's size
 abbrev pub IsOnImage : (image : ℕ) → Op → Type 0

@@ -12,22 +12,22 @@ use Rattle.rbd_kinds.specs.declared.operation.Op.{Op}
 use Rattle.rbd_kinds.specs.declared.operation.Op.TheVariants as op
 use Rattle.rbd_kinds.specs.declared.reply.Reply.{Reply}
 use Rattle.rbd_machine.proofs.Lawful.{stays_lawful}
-use Rattle.rbd_machine.specs.Knowledge.{Knowledge, is_gone, learned, nothing_known, passed}
+use Rattle.rbd_machine.specs.Knowledge.{Knowledge, is_gone, learned, nothing_known, known_after_wait}
 use Rattle.rbd_machine.specs.Label.{Label}
 use Rattle.rbd_machine.specs.Lawful.{IsLawful, IsLawfulRequest}
 use Rattle.rbd_machine.specs.Path.{Answered, IsWalk}
 use Rattle.rbd_machine.specs.Permits.{IsLeftOver, MayLengthen, OwnsBy, Permits}
-use Rattle.rbd_machine.specs.Plan.{Plan, Ask, Await, Note, Return, Goto, settled}
+use Rattle.rbd_machine.specs.Plan.{Plan, Ask, Await, Note, Return, Goto, past_label}
 use Rattle.rbd_machine.specs.Refused.{AreGiven}
 use Rattle.rbd_machine.specs.Standalone.{TellAllStandalone}
-use Rattle.rbd_rely.specs.Truth.{header_of_own}
-use Rattle.rbd_requests.specs.CommandsLawful.{command_is_lawful}
+use Rattle.rbd_interference.specs.Truth.{header_of_own}
+use Rattle.rbd_catalog.specs.CommandsLawful.{command_is_lawful}
 use Rattle.rbd_stands.specs.Owned.{changes_image}
 use Rattle.rbd_world.proofs.LetGo.{of_next}
 use Rattle.rbd_world.specs.Past.{HadNoHeader, known_along}
 use Rattle.rbd_world.specs.Run.{Doer, Itself, OnWay, House, AfterStop, Happening, Did, Stopped, Operation, steps_of, way_of}
 use Rattle.rbd_world.specs.Seats.{seat_at}
-use Rattle.rbd_world.specs.Sound.{IsLeft, IsRight, StandsAt}
+use Rattle.rbd_world.specs.Sound.{IsStillSent, IsRight, AsksFor}
 use Rattle.rbd_world.specs.LetGo.{release_of}
 use Rattle.rbd_replies.specs.Fenced.{DidBeforeStop, DrewId, LetsItGo, RemovedHeader, SomeStep, ToldHeader, removes_part}
 use Rattle.rbd_replies.specs.Sent.{WasSent}
@@ -45,12 +45,12 @@ module _ (labels : Label → Plan) (at : Label → Knowledge) (lawful_there : (l
   walk_lawful (fed.Answer a ∷ more) k (Ask s why o next) steps last lawful given told (first, walk) =
       let all = subst AreGiven first.is given in
       let tells = subst TellAllStandalone first.is told in
-      walk_lawful more (learned k s o a) (settled labels (next a)) first.rest last
+      walk_lawful more (learned k s o a) (past_label labels (next a)) first.rest last
       (stays_lawful labels at lawful_there k (Ask s why o next) (fed.Answer a) all.0.can tells.0 lawful) all.1 tells.1 walk
   walk_lawful (fed.Passed ∷ more) k (Await w next) steps last lawful given told walk =
-      walk_lawful more (passed k w) (settled labels next) steps last (stays_lawful labels at lawful_there k (Await w next) fed.Passed tt tt lawful) given told walk
+      walk_lawful more (known_after_wait k w) (past_label labels next) steps last (stays_lawful labels at lawful_there k (Await w next) fed.Passed tt tt lawful) given told walk
   walk_lawful (fed.Passed ∷ more) k (Note s image event next) steps last lawful given told walk =
-      walk_lawful more k (settled labels next) steps last (stays_lawful labels at lawful_there k (Note s image event next) fed.Passed tt tt lawful) given told walk
+      walk_lawful more k (past_label labels next) steps last (stays_lawful labels at lawful_there k (Note s image event next) fed.Passed tt tt lawful) given told walk
   walk_lawful (fed.Passed ∷ more) k (Ask s why o next) steps last lawful given told walk = absurd walk
   walk_lawful (fed.Answer a ∷ more) k (Await w next) steps last lawful given told walk = absurd walk
   walk_lawful (fed.Answer a ∷ more) k (Note s image event next) steps last lawful given told walk = absurd walk
@@ -64,7 +64,7 @@ some_as P Q turns (step ∷ steps) (inr later) = inr (some_as P Q turns steps la
 
 -- ---- where a line's command stands at an operation
 
-module _ (homes : ℕ → SiteId) (line : ℕ) (s : SiteId) (o : Op) (before : List Happening) (stands : StandsAt homes line s o before) where
+module _ (homes : ℕ → SiteId) (line : ℕ) (s : SiteId) (o : Op) (before : List Happening) (stands : AsksFor homes line s o before) where
   abbrev knew : Knowledge
   knew = known_along stands.led.start.labels nothing_known stands.led.start.plan stands.led.feds
 
@@ -128,10 +128,10 @@ module _ (homes : ℕ → SiteId) (run : List Happening) (o : Operation) (reply 
   none_then s had = (none_until s image sent.since (Stopped o.instance sent.wanted sent.lost ∷ sent.until) (subst (HadNoHeader s image) sent.are had)).1
 
   -- it was wanted for a line, since a way and a house change no image
-  by_line : (P : Answered → Type 0) → ((line : ℕ) → StandsAt homes line o.site o.op sent.until → SomeStep P (steps_of line sent.until)) → DidBeforeStop homes P o run
+  by_line : (P : Answered → Type 0) → ((line : ℕ) → AsksFor homes line o.site o.op sent.until → SomeStep P (steps_of line sent.until)) → DidBeforeStop homes P o run
   by_line P shown = of (sent.stop.by slot) sent.left
     where
-      of : (doer : Doer) → IsLeft homes o.instance sent.lost slot o.site o.op doer sent.until → DidBeforeStop homes P o run
+      of : (doer : Doer) → IsStillSent homes o.instance sent.lost slot o.site o.op doer sent.until → DidBeforeStop homes P o run
       of (Itself line) left = record {
         wanted = sent.wanted;
         lost = sent.lost;

@@ -12,13 +12,13 @@ use Rattle.rbd_kinds.specs.declared.reply.Reply.{Reply}
 use Rattle.rbd_machine.specs.Plan.{Plan, Standing}
 use Rattle.rbd_machine.specs.Refused.{AreGiven}
 use Rattle.rbd_machine.specs.Standalone.{TellAllStandalone}
-use Rattle.rbd_session.specs.declared.running.Occupant.{Occupant}
-use Rattle.rbd_session.specs.declared.running.Occupant.TheVariants as occupant
-use Rattle.rbd_session.specs.Session.{held_in, script_line}
-use Rattle.rbd_world.specs.Run.{Asked, Doer, Itself, OnWay, House, AfterStop, Happening, Nothing, Waited, Began, Did, Refused, Trimmed, Expired, Heard, Stopped, Restarted, asked_by, is_among, is_for, step_of, steps_in, steps_of}
+use Rattle.rbd_slots.specs.declared.running.Occupant.{Occupant}
+use Rattle.rbd_slots.specs.declared.running.Occupant.TheVariants as occupant
+use Rattle.rbd_slots.specs.Session.{held_in, script_line}
+use Rattle.rbd_world.specs.Run.{Asked, Doer, Itself, OnWay, House, AfterStop, Happening, Nothing, Waited, Began, Did, Refused, Trimmed, Expired, Heard, Stopped, Restarted, asked_by, is_line_among, is_for, step_of, steps_in, steps_of}
 use Rattle.rbd_world.specs.Seats.{seat_at}
-use Rattle.rbd_world.specs.Sound.{GoesOnBehind, IsHeldRightly, IsLedTo, IsOpen, IsReplyMeant, IsRight, IsSoundWorld, has_ended, held_of, line_at}
-use Rattle.rbd_world.specs.World.{WorldView, client_in, session_of}
+use Rattle.rbd_world.specs.Sound.{LineGoesOn, IsHeldRightly, IsLedTo, IsOpen, IsReplyMeant, IsRight, IsSoundWorld, has_ended, held_of, line_at}
+use Rattle.rbd_world.specs.World.{WorldView, client_in, session_of_client}
 use Rattle.rbd_world.proofs.Quiet.{IsQuiet, quiet_began, quiet_did, quiet_expired, quiet_heard, quiet_nothing, quiet_refused, quiet_restarted, quiet_stopped, quiet_trimmed, quiet_waited}
 use Rattle.rbd_world.proofs.Runs.{unheard}
 use Rattle.rbd_replies.proofs.OnWay.{EndsOnWay, ends_so}
@@ -48,7 +48,7 @@ module _ (homes : ℕ → SiteId) (line : ℕ) where
   another : (other : ℕ) (run : List Happening) → has_ended line run ≡ true → IsOpen other run → (other == line) ≡ false
   another other run ended begun = ne_eqb other line (λ same. true≢false (sym ended ∙ sym (ap (λ l. has_ended l run) same) ∙ begun.unended))
 
-  for_another : (s : SiteId) (doer : Doer) (run : List Happening) → has_ended line run ≡ true → GoesOnBehind homes s doer run → is_for line doer ≡ false
+  for_another : (s : SiteId) (doer : Doer) (run : List Happening) → has_ended line run ≡ true → LineGoesOn homes s doer run → is_for line doer ≡ false
   for_another s (Itself other) run ended begun = ap (λ b. b || false) (another other run ended begun)
   for_another s (OnWay other) run ended goes = another other run ended goes.begun
   for_another s House run ended goes = refl
@@ -62,7 +62,7 @@ module _ (homes : ℕ → SiteId) (line : ℕ) where
       still h run asked quiet.steps (rest (sym (ap (λ b. b || has_ended line run) quiet.silent) ∙ ended) (sym (quiet.asked (asked_by line run)) ∙ asks))
 
   pub lost_led : (who : Instance) (wanted : List (Option (SiteId × Op))) (lost : List ℕ) (run : List Happening) (asked : Asked) → IsRight homes (Stopped who wanted lost ∷ run)
-      → is_among line lost ≡ true → asked_by line run ≡ Some asked → IsLed homes line (Stopped who wanted lost ∷ run) asked
+      → is_line_among line lost ≡ true → asked_by line run ≡ Some asked → IsLed homes line (Stopped who wanted lost ∷ run) asked
   lost_led who wanted lost run asked right among asks =
       let is = right.1.each line among in
       still (Stopped who wanted lost) run asked refl (by_walk is.begun.asked asked run is.plan (same_Some is.begun.asked asked (sym is.begun.is ∙ asks)) is.led)
@@ -97,9 +97,9 @@ module _ (homes : ℕ → SiteId) (line : ℕ) where
       by true here ended asks =
           by_reply reply run (Refused s other reply ∷ run) asked (subst (λ l. IsReplyMeant homes l reply run (Refused s other reply ∷ run)) (eqb-true other line here) right.1) asks
       by false differ ended asks = more (Refused s other reply) run asked (quiet_refused line s other reply differ) rest ended asks
-  ended_by (Stopped who wanted lost) run asked right rest = by (is_among line lost) refl
+  ended_by (Stopped who wanted lost) run asked right rest = by (is_line_among line lost) refl
     where
-      by : (b : Bool) → is_among line lost ≡ b → LedIfEnded (Stopped who wanted lost ∷ run) asked
+      by : (b : Bool) → is_line_among line lost ≡ b → LedIfEnded (Stopped who wanted lost ∷ run) asked
       by true among ended asks = lost_led who wanted lost run asked right among asks
       by false other ended asks = more (Stopped who wanted lost) run asked (quiet_stopped line who wanted lost other) rest ended asks
 
@@ -134,7 +134,7 @@ module _ {R : Type 0} (stands : R → Standing) (w : WorldView R) (sound : IsSou
   pub under_way_led : line_at session slot w.lives ≡ Some line → asked_by line sound.told.run ≡ Some asked → IsLed sound.told.homes line sound.told.run asked
   under_way_led is asks = by (client_in session w.lives) refl is
     where
-      by : (o : Option (ClientView R)) → client_in session w.lives ≡ o → script_line (held_of slot (session_of o)) ≡ Some line → IsLed sound.told.homes line sound.told.run asked
+      by : (o : Option (ClientView R)) → client_in session w.lives ≡ o → script_line (held_of slot (session_of_client o)) ≡ Some line → IsLed sound.told.homes line sound.told.run asked
       by None there none = absurd (none-some line none)
       by (Some c) there at_line =
           let living = sound.clients session c there in

@@ -1,8 +1,8 @@
 -- Each line keeps to what its command's row allows, wherever a walk of the command's plan led it.
 use Rattle.std.proofs.Common.{ℕ, List}
 use Rattle.rbd_kinds.specs.declared.id.SiteId.{SiteId}
-use Rattle.rbd_requests.specs.Profile.{profile}
-use Rattle.rbd_requests.specs.Touched.{HasAtMost}
+use Rattle.rbd_catalog.specs.Profile.{profile}
+use Rattle.rbd_catalog.specs.Touched.{HasAtMost}
 use Rattle.rbd_world.specs.Run.{Asked, Happening, steps_of}
 use Rattle.rbd_world.specs.Seats.{seat_at}
 use Rattle.rbd_replies.proofs.Led.{IsLed}

@@ -11,20 +11,20 @@ use Rattle.rbd_kinds.specs.declared.id.Instance.{Instance}
 use Rattle.rbd_kinds.specs.declared.id.SiteId.{SiteId}
 use Rattle.rbd_machine.specs.Label.{Label}
 use Rattle.rbd_machine.specs.Plan.{Plan, Ask, Await, Note, Return, Goto, IsAsking, Standing}
-use Rattle.rbd_requests.specs.Profile.{profile}
-use Rattle.rbd_requests.specs.Touched.{HasAtMost}
-use Rattle.rbd_session.specs.declared.running.Occupant.{Occupant}
-use Rattle.rbd_session.specs.declared.running.Occupant.TheVariants as occupant
-use Rattle.rbd_session.specs.declared.running.Running.{Running}
-use Rattle.rbd_session.specs.Advance.{track_of}
-use Rattle.rbd_session.specs.Session.{held_in, running_in, script_line}
-use Rattle.rbd_session.specs.Waits.{waits}
+use Rattle.rbd_catalog.specs.Profile.{profile}
+use Rattle.rbd_catalog.specs.Touched.{HasAtMost}
+use Rattle.rbd_slots.specs.declared.running.Occupant.{Occupant}
+use Rattle.rbd_slots.specs.declared.running.Occupant.TheVariants as occupant
+use Rattle.rbd_slots.specs.declared.running.Running.{Running}
+use Rattle.rbd_slots.specs.Advance.{track_of}
+use Rattle.rbd_slots.specs.Session.{held_in, running_in, script_line}
+use Rattle.rbd_slots.specs.Waits.{waits}
 use Rattle.rbd_world.specs.declared.event.Event.TheVariants as event
 use Rattle.rbd_world.specs.Run.{Asked, Happening, Waited, asked_by, steps_of}
 use Rattle.rbd_world.specs.Seats.{seat_at}
 use Rattle.rbd_world.specs.Sound.{IsHeldRightly, IsSoundWorld, has_ended, held_of, line_at}
 use Rattle.rbd_world.specs.Step.{done_by, goes_on_by, happening, polled, polled_in}
-use Rattle.rbd_world.specs.World.{WorldView, client_in, session_of}
+use Rattle.rbd_world.specs.World.{WorldView, client_in, session_of_client}
 use Rattle.rbd_replies.proofs.Below.{begins_below, walk_stays_below}
 use Rattle.rbd_replies.specs.Bounds.{IsStepFor, StaysBelow}
 
@@ -62,7 +62,7 @@ module _ {R : Type 0} (stands : R → Standing) (w : WorldView R) (sound : IsSou
   pub below_in_slot : (session slot : ℕ) → line_at session slot w.lives ≡ Some line → IsBelowHere
   below_in_slot session slot at = by (client_in session w.lives) refl at
     where
-      by : (o : Option (ClientView R)) → client_in session w.lives ≡ o → script_line (held_of slot (session_of o)) ≡ Some line → IsBelowHere
+      by : (o : Option (ClientView R)) → client_in session w.lives ≡ o → script_line (held_of slot (session_of_client o)) ≡ Some line → IsBelowHere
       by None there none = absurd (none-some line none)
       by (Some c) there at_line =
           let living = sound.clients session c there in
@@ -114,7 +114,7 @@ module _ {R : Type 0} (stands : R → Standing) (old : WorldView R) (sound : IsS
   pub poll_steps : line_at session slot old.lives ≡ Some line → WaitsOrSteps (happening stands (event.Poll session slot) old)
   poll_steps at = by (client_in session old.lives) refl at
     where
-      by : (o : Option (ClientView R)) → client_in session old.lives ≡ o → script_line (held_of slot (session_of o)) ≡ Some line → WaitsOrSteps (polled stands old.sites slot o)
+      by : (o : Option (ClientView R)) → client_in session old.lives ≡ o → script_line (held_of slot (session_of_client o)) ≡ Some line → WaitsOrSteps (polled stands old.sites slot o)
       by None there none = absurd (none-some line none)
       by (Some c) there at_line =
           in_slot c (held_in slot c.session.slots) at_line (λ r runs. (sound.clients session c there).sound.session.asks slot r runs)

@@ -7,14 +7,14 @@ use Rattle.rbd_kinds.specs.declared.id.SiteId.{SiteId}
 use Rattle.rbd_kinds.specs.declared.reply.Reply.TheVariants as reply
 use Rattle.rbd_kinds.specs.Striping.{IsObjectCount}
 use Rattle.rbd_machine.specs.Path.{Answered, found, looked_at}
-use Rattle.rbd_meaning.specs.Listings.{ShowsHeader, ShowsUsed as ShowsUsedBy, listed, shown_snaps}
+use Rattle.rbd_meaning.specs.Listings.{ShowsHeader, ShowsUsed as ShowsUsedBy, names_told, shown_snaps}
 use Rattle.rbd_meaning.specs.Snaps.{map_told}
-use Rattle.rbd_stands.specs.Reading.{IsToldBy, Tells}
+use Rattle.rbd_stands.specs.Reading.{IsToldBy, TellsFlatImage}
 use Rattle.rbd_replies.proofs.PlacedRight.{ArePlacedRight}
 use Rattle.rbd_replies.proofs.Places.{step_at}
 use Rattle.rbd_replies.proofs.PlacesTaken.{none_taken}
 use Rattle.rbd_replies.proofs.PlacesTold.{found_there, header_there, listed_there, looks_there}
-use Rattle.rbd_replies.specs.Listed.{ListsNames, ShowsImage, ShowsSnaps, ShowsUsed}
+use Rattle.rbd_replies.specs.Listed.{ListsNames, ShowsImage, ShowsSnaps, ShowsUsedAt}
 use Rattle.rbd_replies.specs.Places.{Placed, flat_at}
 
 -- a flat image that a header tells
@@ -24,7 +24,7 @@ record IsToldThere (h : HeaderView) (flat : Option FlatImage) : Type 0 where
   told : IsToldBy h i
 
 module _ (homes : ℕ → SiteId) where
-  pub lists_names : (places : List Placed) → ArePlacedRight homes places → (site : SiteId) (names : List (List ℕ)) → map step_at places ≡ listed site names ∷ []
+  pub lists_names : (places : List Placed) → ArePlacedRight homes places → (site : SiteId) (names : List (List ℕ)) → map step_at places ≡ names_told site names ∷ []
       → ListsNames names places
   lists_names [] right site names are = absurd (cc)
   lists_names (p ∷ places) (here, right) site names are = record {
@@ -63,15 +63,15 @@ module _ (homes : ℕ → SiteId) where
 
   -- ---- du
 
-  told_flat : (flat : Option FlatImage) (h : HeaderView) → Tells h flat → IsToldThere h flat
+  told_flat : (flat : Option FlatImage) (h : HeaderView) → TellsFlatImage h flat → IsToldThere h flat
   told_flat None h tells = absurd tells
   told_flat (Some i) h tells = record { i = i; is = refl; told = tells }
 
-  pub used_shows : (places : List Placed) → ArePlacedRight homes places → (site : SiteId) (name : List ℕ) (used of : ℕ) → ShowsUsedBy site name used of (map step_at places) → ShowsUsed name used of places
+  pub used_shows : (places : List Placed) → ArePlacedRight homes places → (site : SiteId) (name : List ℕ) (used of : ℕ) → ShowsUsedBy site name used of (map step_at places) → ShowsUsedAt name used of places
   used_shows places right site name used of shows = told_at places right shows.are
     where
       told_at : (places : List Placed) → ArePlacedRight homes places
-          → map step_at places ≡ found site name shows.image ∷ looked_at site shows.image shows.header ∷ map_told site shows.image shows.bits ∷ [] → ShowsUsed name used of places
+          → map step_at places ≡ found site name shows.image ∷ looked_at site shows.image shows.header ∷ map_told site shows.image shows.bits ∷ [] → ShowsUsedAt name used of places
       told_at [] right are = absurd (cc)
       told_at (p ∷ []) right are = absurd (cc)
       told_at (p ∷ q ∷ []) right are = absurd (cc)

@@ -16,16 +16,16 @@ use Rattle.rbd_kinds.specs.declared.operation.Op.TheVariants as op
 use Rattle.rbd_kinds.specs.declared.operation_kind.OpKind.{OpKind}
 use Rattle.rbd_kinds.specs.declared.operation_kind.OpKind.TheVariants as kind
 use Rattle.rbd_kinds.specs.declared.reply.Reply.{Reply}
-use Rattle.rbd_requests.proofs.Consequences.{asked_kind, is_none}
-use Rattle.rbd_requests.proofs.FollowsAll.{command_follows}
-use Rattle.rbd_requests.specs.Profile.{changes_anything, changes_what_is_seen, profile}
+use Rattle.rbd_catalog.proofs.Consequences.{asked_kind, is_none}
+use Rattle.rbd_catalog.proofs.FollowsAll.{command_follows}
+use Rattle.rbd_catalog.specs.Profile.{changes_anything, changes_what_is_seen, profile}
 use Rattle.rbd_site.proofs.GenerationLemmas.{looked_at}
 use Rattle.rbd_site.specs.Records.{Records}
 use Rattle.rbd_site.specs.Step.{after, is_fenced, mail_after, mail_served}
 use Rattle.rbd_stands.specs.Effect.{header_of}
 use Rattle.rbd_world.proofs.Runs.{done_of}
 use Rattle.rbd_world.specs.Run.{Asked, Happening, Did, Operation, asked_by, is_own, mail_of, records_after, steps_of}
-use Rattle.rbd_world.specs.Sound.{IsDone, IsRight}
+use Rattle.rbd_world.specs.Sound.{IsRightlyDone, IsRight}
 use Rattle.rbd_replies.proofs.Fencing.{leaves_all}
 use Rattle.rbd_replies.proofs.OwnHeader.{own_line}
 use Rattle.rbd_replies.proofs.SilentKinds.{unseen_has_none}
@@ -73,7 +73,7 @@ leaves_mail s r me o mail look = by (is_fenced r me)
     by true = refl
     by false = tells_none s r me o mail look
 
-look_leaves : (o : Operation) (reply : Option Reply) (run : List Happening) → IsDone o run → changes_anything (kind_of o.op) ≡ false → LeavesAll o reply run
+look_leaves : (o : Operation) (reply : Option Reply) (run : List Happening) → IsRightlyDone o run → changes_anything (kind_of o.op) ≡ false → LeavesAll o reply run
 look_leaves o reply run is look =
     let r = records_after o.site run in
     leaves_all o reply run (is.effect ∙ unseen_has_none (header_of r o.op) o.op o.answer (looks_are_unseen (kind_of o.op) look)) (leaves_records r o.instance o.op look)

@@ -16,7 +16,7 @@ use Rattle.rbd_stands.specs.Effect.{effect_of_op}
 use Rattle.rbd_stands.proofs.EffectLemmas as effects
 use Rattle.rbd_flat.specs.declared.effect.Effect.{Effect}
 use Rattle.rbd_flat.specs.declared.effect.Effect.TheVariants as effect
-use Rattle.rbd_zero.specs.Operations.{data_empty, data_remove, data_write_full, data_zero, done}
+use Rattle.rbd_pieces.specs.Operations.{data_empty, data_remove, data_write_full, data_zero, done}
 use Rattle.rbd_replies.specs.Places.{Placed, effects_of, with_effect}
 use Rattle.rbd_replies.specs.Zeroed.{zero_effect}
 use Rattle.rbd_replies.proofs.PlacedRight.{IsPlacedRight}

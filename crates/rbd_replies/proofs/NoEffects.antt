@@ -16,15 +16,15 @@ use Rattle.rbd_machine.specs.Plan.{Plan, Ask, Return}
 use Rattle.rbd_machine.specs.declared.seat.Seat.{Seat}
 use Rattle.rbd_meaning.proofs.Undone.{meant_unless_fenced}
 use Rattle.rbd_meaning.specs.Undone.{ChangeNothing, lets_go}
-use Rattle.rbd_request.specs.Read.{is_read}
-use Rattle.rbd_requests.proofs.Looks.{looks_refuse}
-use Rattle.rbd_requests.specs.CommandsMeant.{command_is_meant}
-use Rattle.rbd_session.specs.Session.{is_look_at, kind_asked}
+use Rattle.rbd_data.specs.Read.{is_read}
+use Rattle.rbd_catalog.proofs.Looks.{looks_refuse}
+use Rattle.rbd_catalog.specs.CommandsMeant.{command_is_meant}
+use Rattle.rbd_slots.specs.Session.{is_look_at, kind_asked}
 use Rattle.rbd_world.proofs.RefusedOnWay.{looks_at}
 use Rattle.rbd_world.proofs.Walks.{given_more, led_on, standalone_more}
 use Rattle.rbd_world.specs.Run.{Asked, Doer, Itself, OnWay, House, AfterStop, Happening, Did, Operation, is_on_way, steps_of}
 use Rattle.rbd_world.specs.Seats.{seat_at}
-use Rattle.rbd_world.specs.Sound.{EndsWith, IsLedTo, IsRefusedOnWay, IsRight, look_answered}
+use Rattle.rbd_world.specs.Sound.{EndsItsLine, IsLedTo, IsRefusedOnWay, IsRight, look_answered}
 use Rattle.rbd_replies.proofs.Led.{IsLed}
 use Rattle.rbd_replies.proofs.OnWay.{EndsOnWay, nothing_before, places_on_way}
 use Rattle.rbd_replies.proofs.PlacedRight.{places_right}
@@ -32,13 +32,13 @@ use Rattle.rbd_replies.proofs.Places.{steps_at_places}
 use Rattle.rbd_replies.proofs.RefusalsNothing.{nothing_at_places}
 use Rattle.rbd_replies.proofs.Silent.{AreSilent, silent_places}
 use Rattle.rbd_replies.proofs.SilentKinds.{led_is_silent}
-use Rattle.rbd_replies.specs.Places.{effects_of, places_of}
+use Rattle.rbd_replies.specs.Places.{effects_of, placed_of}
 use Rattle.rbd_replies.specs.Replies.{changes_no_image, only_shows}
 
 pub no_effects : (homes : ℕ → SiteId) (line : ℕ) (run : List Happening) (asked : Asked) → IsRight homes run → IsLed homes line run asked → changes_no_image asked.command ≡ true
-    → effects_of (places_of line run) ≡ []
+    → effects_of (placed_of line run) ≡ []
 no_effects homes line run asked right is none =
-    silent_places homes (places_of line run) (places_right homes line run right)
+    silent_places homes (placed_of line run) (places_right homes line run right)
     (subst AreSilent (sym (steps_at_places line run)) (led_is_silent (seat_at homes asked.who.session) asked.command _ is.last is.led none))
 
 -- what only shows changes no image
@@ -78,14 +78,14 @@ nothing_before_look seat c steps last s is changes wants =
     (λ fenced. cc))
 
 refused_early : (homes : ℕ → SiteId) (line : ℕ) (o : Operation) (r : Reply) (run : List Happening) → IsRight homes run → (is : IsRefusedOnWay homes line r o run)
-    → (none : Bool) → changes_no_image is.begun.asked.command ≡ none → effects_of (places_of line run) ≡ []
+    → (none : Bool) → changes_no_image is.begun.asked.command ≡ none → effects_of (placed_of line run) ≡ []
 refused_early homes line o r run right is true none = no_effects homes line run is.begun.asked right (record { last = is.plan; led = is.led }) none
 refused_early homes line o r run right is false changes =
-    nothing_at_places homes (places_of line run) (places_right homes line run right)
+    nothing_at_places homes (placed_of line run) (places_right homes line run right)
     (subst ChangeNothing (sym (steps_at_places line run))
     (nothing_before_look (seat_at homes is.begun.asked.who.session) is.begun.asked.command (steps_of line run) is.plan o.site is.led changes is.wants))
 
-ends_on_way : (homes : ℕ → SiteId) (line : ℕ) (o : Operation) (r : Reply) (run : List Happening) (doer : Doer) → is_on_way line doer ≡ true → EndsWith homes o r run doer
+ends_on_way : (homes : ℕ → SiteId) (line : ℕ) (o : Operation) (r : Reply) (run : List Happening) (doer : Doer) → is_on_way line doer ≡ true → EndsItsLine homes o r run doer
     → EndsOnWay homes line r o run doer
 ends_on_way homes line o r run (Itself other) mine ends = cc
 ends_on_way homes line o r run (OnWay other) mine ends = record { apart = refl; is = subst (λ l. IsRefusedOnWay homes l r o run) (eqb-true other line mine) ends }
@@ -93,7 +93,7 @@ ends_on_way homes line o r run House mine ends = absurd ends
 ends_on_way homes line o r run (AfterStop slot) mine ends = absurd ends
 
 pub none_on_way : (homes : ℕ → SiteId) (run : List Happening) (o : Operation) (line : ℕ) (r : Reply) → IsRight homes (Did o (Some r) ∷ run) → is_on_way line o.by ≡ true
-    → effects_of (places_of line (Did o (Some r) ∷ run)) ≡ []
+    → effects_of (placed_of line (Did o (Some r) ∷ run)) ≡ []
 none_on_way homes run o line r right mine =
     let way = ends_on_way homes line o r run o.by mine right.1.1 in
     ap effects_of (places_on_way line o (Some r) run way.apart) ∙ refused_early homes line o r run right.2 way.is (changes_no_image way.is.begun.asked.command) refl

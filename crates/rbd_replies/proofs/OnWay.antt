@@ -15,8 +15,8 @@ use Rattle.rbd_machine.specs.Plan.{Return}
 use Rattle.rbd_machine.specs.Steps.{not_there}
 use Rattle.rbd_meaning.specs.Undone.{ChangeNothing}
 use Rattle.rbd_world.specs.Run.{Doer, Itself, OnWay, House, AfterStop, Happening, Did, Operation, is_for, is_own}
-use Rattle.rbd_world.specs.Sound.{EndsWith, IsRefusedOnWay, IsReplyMeant}
-use Rattle.rbd_replies.specs.Places.{places_of}
+use Rattle.rbd_world.specs.Sound.{EndsItsLine, IsRefusedOnWay, IsReplyMeant}
+use Rattle.rbd_replies.specs.Places.{placed_of}
 
 -- ---- which of the two
 
@@ -30,7 +30,7 @@ or_nothing true is = refl
 or_nothing false is = is
 
 module _ (homes : ℕ → SiteId) (line : ℕ) (o : Operation) (r : Reply) (run : List Happening) where
-  ends_by : (doer : Doer) → is_for line doer ≡ true → EndsWith homes o r run doer
+  ends_by : (doer : Doer) → is_for line doer ≡ true → EndsItsLine homes o r run doer
       → (IsReplyMeant homes line r run (Did o (Some r) ∷ run)) ⊎ (EndsOnWay homes line r o run doer)
   ends_by (Itself other) mine ends =
       inl (subst (λ l. IsReplyMeant homes l r run (Did o (Some r) ∷ run)) (eqb-true other line (or_nothing (other == line) mine)) ends)
@@ -39,19 +39,19 @@ module _ (homes : ℕ → SiteId) (line : ℕ) (o : Operation) (r : Reply) (run 
   ends_by House mine ends = absurd ends
   ends_by (AfterStop slot) mine ends = absurd ends
 
-  pub ends_so : is_for line o.by ≡ true → EndsWith homes o r run o.by
+  pub ends_so : is_for line o.by ≡ true → EndsItsLine homes o r run o.by
       → (IsReplyMeant homes line r run (Did o (Some r) ∷ run)) ⊎ (EndsOnWay homes line r o run o.by)
   ends_so mine ends = ends_by o.by mine ends
 
 -- ---- of a line that is refused on its way
 
 -- the command itself did nothing more
-pub places_on_way : (line : ℕ) (o : Operation) (told : Option Reply) (run : List Happening) → is_own line o.by ≡ false → places_of line (Did o told ∷ run) ≡ places_of line run
+pub places_on_way : (line : ℕ) (o : Operation) (told : Option Reply) (run : List Happening) → is_own line o.by ≡ false → placed_of line (Did o told ∷ run) ≡ placed_of line run
 places_on_way line o told run apart = go (is_own line o.by) apart
   where
-    go : (b : Bool) → b ≡ false → places_of line run ++ cond b (record { before = run; done = o } ∷ []) [] ≡ places_of line run
+    go : (b : Bool) → b ≡ false → placed_of line run ++ cond b (record { before = run; done = o } ∷ []) [] ≡ placed_of line run
     go true is = absurd (true≢false is)
-    go false is = append-nil (places_of line run)
+    go false is = append-nil (placed_of line run)
 
 -- its reply is a refusal
 pub record IsRefusal (r : Reply) : Type 0 where

@@ -11,10 +11,10 @@ use Rattle.rbd_kinds.specs.declared.operation.Op.{Op}
 use Rattle.rbd_kinds.specs.declared.reply.Reply.TheVariants as reply
 use Rattle.rbd_machine.specs.Label.{Label}
 use Rattle.rbd_machine.specs.Path.{Answered, IsWalk}
-use Rattle.rbd_machine.specs.Plan.{Plan, Ask, Await, Note, Return, Goto, settled}
-use Rattle.rbd_owner.specs.Acquire.{acquire, again, asking, breaking, fencing, lock_labels, on_broken, on_taken, on_watchers, taking}
-use Rattle.rbd_owner.specs.Steps.{is_among}
-use Rattle.rbd_requests.proofs.PlanSteps.{at_done, at_not_there}
+use Rattle.rbd_machine.specs.Plan.{Plan, Ask, Await, Note, Return, Goto, past_label}
+use Rattle.rbd_lock.specs.Acquire.{acquire, again, asking, breaking, fencing, lock_labels, on_broken, on_taken, on_watchers, taking}
+use Rattle.rbd_lock.specs.Steps.{is_instance_among}
+use Rattle.rbd_catalog.proofs.PlanSteps.{at_done, at_not_there}
 use Rattle.rbd_stands.specs.Owned.{changes_image}
 use Rattle.rbd_world.specs.Ways.{AsksNext, IsOfRelease}
 
@@ -46,7 +46,7 @@ module _ (site : SiteId) (image : ℕ) where
   leaves_by_look owner false = leaves_fencing owner
 
   leaves_on_watchers : (owner : Instance) (a : Answer) → LeavesImages (on_watchers site image owner a)
-  leaves_on_watchers owner (answer.Instances watchers) = leaves_by_look owner (is_among watchers owner)
+  leaves_on_watchers owner (answer.Instances watchers) = leaves_by_look owner (is_instance_among watchers owner)
   leaves_on_watchers owner a = at_not_there LeavesImages (λ r. tt) a
 
   leaves_on_taken : (a : Answer) → LeavesImages (on_taken site image (Return reply.Done) a)
@@ -64,7 +64,7 @@ module _ (site : SiteId) (image : ℕ) where
 -- ---- along a walk
 
 module _ (labels : Label → Plan) (leave : (l : Label) → LeavesImages (labels l)) where
-  leaves_settled : (plan : Plan) → LeavesImages plan → LeavesImages (settled labels plan)
+  leaves_settled : (plan : Plan) → LeavesImages plan → LeavesImages (past_label labels plan)
   leaves_settled (Ask site why o next) leaves = leaves
   leaves_settled (Await w next) leaves = leaves
   leaves_settled (Note site image event next) leaves = leaves
@@ -73,9 +73,9 @@ module _ (labels : Label → Plan) (leave : (l : Label) → LeavesImages (labels
 
   leaves_walk : (feds : List Fed) (plan : Plan) (steps : List Answered) (last : Plan) → LeavesImages plan → IsWalk labels plan feds steps last → LeavesImages last
   leaves_walk [] plan steps last leaves (none, same) = subst LeavesImages (sym same) leaves
-  leaves_walk (fed.Answer a ∷ feds) (Ask s why o next) steps last leaves (first, walk) = leaves_walk feds (settled labels (next a)) first.rest last (leaves_settled (next a) (leaves.1 a)) walk
-  leaves_walk (fed.Passed ∷ feds) (Await w next) steps last leaves walk = leaves_walk feds (settled labels next) steps last (leaves_settled next leaves) walk
-  leaves_walk (fed.Passed ∷ feds) (Note s image event next) steps last leaves walk = leaves_walk feds (settled labels next) steps last (leaves_settled next leaves) walk
+  leaves_walk (fed.Answer a ∷ feds) (Ask s why o next) steps last leaves (first, walk) = leaves_walk feds (past_label labels (next a)) first.rest last (leaves_settled (next a) (leaves.1 a)) walk
+  leaves_walk (fed.Passed ∷ feds) (Await w next) steps last leaves walk = leaves_walk feds (past_label labels next) steps last (leaves_settled next leaves) walk
+  leaves_walk (fed.Passed ∷ feds) (Note s image event next) steps last leaves walk = leaves_walk feds (past_label labels next) steps last (leaves_settled next leaves) walk
   leaves_walk (fed.Passed ∷ feds) (Ask s why o next) steps last leaves walk = absurd walk
   leaves_walk (fed.Answer a ∷ feds) (Await w next) steps last leaves walk = absurd walk
   leaves_walk (fed.Answer a ∷ feds) (Note s image event next) steps last leaves walk = absurd walk

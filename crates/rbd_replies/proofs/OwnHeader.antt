@@ -15,11 +15,11 @@ use Rattle.rbd_kinds.specs.declared.operation.Op.{Op}
 use Rattle.rbd_machine.specs.Knowledge.{Knowledge, nothing_known}
 use Rattle.rbd_machine.specs.Path.{Answered, IsWalk, found, looked_at}
 use Rattle.rbd_machine.specs.Plan.{Plan, Ask, Goto, Standing, without_labels}
-use Rattle.rbd_machine.specs.Steps.{change}
+use Rattle.rbd_machine.specs.Steps.{change_plan}
 use Rattle.rbd_machine.specs.declared.seat.Seat.{Seat}
-use Rattle.rbd_rely.proofs.Headers.{IsThere, find_there}
-use Rattle.rbd_rely.specs.Truth.{known_header}
-use Rattle.rbd_requests.specs.Plans.{plan_of, planned, IsPlanFor}
+use Rattle.rbd_interference.proofs.Headers.{IsThere, find_there}
+use Rattle.rbd_interference.specs.Truth.{known_header}
+use Rattle.rbd_catalog.specs.Plans.{plan_of, planned, IsPlanFor}
 use Rattle.rbd_site.specs.Step.{is_fenced}
 use Rattle.rbd_stands.proofs.Served.{is_served}
 use Rattle.rbd_world.specs.Run.{Asked, Doer, Itself, OnWay, House, AfterStop, Happening, Nothing, Waited, Began, Did, Refused, Trimmed, Expired, Heard, Stopped, Restarted, asked_by, is_own, steps_of}
@@ -68,7 +68,7 @@ own_line line (AfterStop slot) s o k before mine recalls = cc
 
 -- the first step tells where its plan is at home
 home_of : (site home : SiteId) (name : List ℕ) (image : ℕ) (sharing : Sharing) (refuses : HeaderView → Option Refusal) (act : ℕ → HeaderView → Plan) (feds : List Fed) (steps : List Answered) (last : Plan)
-    → IsWalk Goto (change site name sharing refuses act) feds (found home name image ∷ steps) last → site ≡ home
+    → IsWalk Goto (change_plan site name sharing refuses act) feds (found home name image ∷ steps) last → site ≡ home
 home_of site home name image sharing refuses act [] steps last (none, same) = absurd (cc)
 home_of site home name image sharing refuses act (fed.Passed ∷ more) steps last walk = absurd walk
 home_of site home name image sharing refuses act (fed.Answer a ∷ more) steps last (first, walk) = sym (head_site (found home name image) steps _ first.rest first.is)
@@ -115,7 +115,7 @@ pub record IsChangeBy (home : SiteId) (c : Command) (name : List ℕ) (image : �
   pub sharing : Sharing
   pub refuses : HeaderView → Option Refusal
   pub act : SiteId → ℕ → HeaderView → Plan
-  pub plan : (seat : Seat) → plan_of seat c ≡ planned (change seat.home name sharing refuses (act seat.home))
+  pub plan : (seat : Seat) → plan_of seat c ≡ planned (change_plan seat.home name sharing refuses (act seat.home))
   pub may_wait : refuses first ≡ None
   pub may : refuses own ≡ None
   pub keeps : KeepsOwn home image (act home image own)
@@ -134,16 +134,16 @@ module _ (homes : ℕ → SiteId) (home : SiteId) (line : ℕ) (run : List Happe
       → known_header k home image ≡ sized image steps (Some own)
   knows_at s o k before goes steps r are =
       let plan : IsPlanFor r.seat asked.command r.start = subst (λ c. IsPlanFor r.seat c r.start) (same_command before goes r.begun.asked r.begun.is) r.plan in
-      let at_plan = same_Some r.start (without_labels (change r.seat.home name changes.sharing changes.refuses (changes.act r.seat.home))) (sym plan ∙ changes.plan r.seat) in
-      let walk : IsWalk Goto (change r.seat.home name changes.sharing changes.refuses (changes.act r.seat.home)) r.feds (way steps) (Ask s r.why o r.next) =
-      subst (λ (xs : List Answered). IsWalk Goto (change r.seat.home name changes.sharing changes.refuses (changes.act r.seat.home)) r.feds xs (Ask s r.why o r.next)) are
+      let at_plan = same_Some r.start (without_labels (change_plan r.seat.home name changes.sharing changes.refuses (changes.act r.seat.home))) (sym plan ∙ changes.plan r.seat) in
+      let walk : IsWalk Goto (change_plan r.seat.home name changes.sharing changes.refuses (changes.act r.seat.home)) r.feds (way steps) (Ask s r.why o r.next) =
+      subst (λ (xs : List Answered). IsWalk Goto (change_plan r.seat.home name changes.sharing changes.refuses (changes.act r.seat.home)) r.feds xs (Ask s r.why o r.next)) are
       (subst (λ (st : Standing). IsWalk st.labels st.plan r.feds (steps_of line before) (Ask s r.why o r.next)) at_plan r.walk) in
       let here = home_of r.seat.home home name image changes.sharing changes.refuses (changes.act r.seat.home) r.feds _ _ walk in
-      let walk_here : IsWalk Goto (change home name changes.sharing changes.refuses (changes.act home)) r.feds (way steps) (Ask s r.why o r.next) =
-      subst (λ site. IsWalk Goto (change site name changes.sharing changes.refuses (changes.act site)) r.feds (way steps) (Ask s r.why o r.next)) here walk in
+      let walk_here : IsWalk Goto (change_plan home name changes.sharing changes.refuses (changes.act home)) r.feds (way steps) (Ask s r.why o r.next) =
+      subst (λ site. IsWalk Goto (change_plan site name changes.sharing changes.refuses (changes.act site)) r.feds (way steps) (Ask s r.why o r.next)) here walk in
       ap (λ (x : Knowledge). known_header x home image)
       (r.known ∙ ap (λ (st : Standing). known_along st.labels nothing_known st.plan r.feds) at_plan
-      ∙ ap (λ site. known_along Goto nothing_known (change site name changes.sharing changes.refuses (changes.act site)) r.feds) here)
+      ∙ ap (λ site. known_along Goto nothing_known (change_plan site name changes.sharing changes.refuses (changes.act site)) r.feds) here)
       ∙ change_knows home name changes.sharing changes.refuses (changes.act home) r.feds image first own steps (Ask s r.why o r.next) changes.may_wait changes.may changes.keeps walk_here
 
   -- ---- the header there

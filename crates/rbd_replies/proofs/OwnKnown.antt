@@ -22,15 +22,15 @@ use Rattle.rbd_kinds.specs.declared.operation.Op.TheVariants as op
 use Rattle.rbd_kinds.proofs.Images.{at_itself}
 use Rattle.rbd_machine.proofs.Lawful.{holding_known}
 use Rattle.rbd_machine.proofs.Settled.{settled_goto}
-use Rattle.rbd_machine.specs.Knowledge.{Knowledge, Own, first_told, header_told, is_at, learned, learned_of_map, learned_of_object, looked_owning, nothing_known, own_of, passed, told_of, with_header}
+use Rattle.rbd_machine.specs.Knowledge.{Knowledge, Own, first_told, header_told, is_at, learned, learned_of_map, learned_of_object, looked_under_lock, nothing_known, own_of, known_after_wait, told_of, with_header}
 use Rattle.rbd_machine.specs.Path.{Answered, IsWalk, found, looked_at}
-use Rattle.rbd_machine.specs.Plan.{Plan, Ask, Await, Note, Return, Goto, settled}
-use Rattle.rbd_machine.specs.Steps.{change, holding, joining, looked, looking, on_header, on_id, owned, owning, unless}
+use Rattle.rbd_machine.specs.Plan.{Plan, Ask, Await, Note, Return, Goto, past_label}
+use Rattle.rbd_machine.specs.Steps.{change_plan, holding, joining, looked, looking, on_header, on_id, owned, under_lock, unless}
 use Rattle.rbd_machine.specs.Wait.{Wait}
 use Rattle.rbd_machine.specs.Wait as wait
 use Rattle.rbd_machine.specs.declared.reason.Reason.{Reason}
 use Rattle.rbd_machine.specs.declared.reason.Reason.TheVariants as reason
-use Rattle.rbd_rely.specs.Truth.{header_of_own, known_header}
+use Rattle.rbd_interference.specs.Truth.{header_of_own, known_header}
 use Rattle.rbd_world.specs.Past.{known_along}
 use Rattle.rbd_replies.proofs.KeepsOwn.{IsOnImage, KeepsOwn, StaysInLine}
 
@@ -85,7 +85,7 @@ module _ (home : SiteId) (image : ℕ) where
   learned_there k s (op.Header i (header.SetSize to)) a here on = refl
   learned_there k s _ a here on = elim on [ ]
 
-  waited_there : (k : Knowledge) (w : Wait) → StaysInLine w → known_header (passed k w) home image ≡ known_header k home image
+  waited_there : (k : Knowledge) (w : Wait) → StaysInLine w → known_header (known_after_wait k w) home image ≡ known_header k home image
   waited_there k (wait.Join site i sharing) stays = refl
   waited_there k (wait.Turn number) stays = refl
   waited_there k (wait.Applied site i) stays = refl
@@ -96,16 +96,16 @@ module _ (home : SiteId) (image : ℕ) where
       → known_header (known_along Goto k plan feds) home image ≡ sized image steps (known_header k home image)
   known_behind [] plan steps last k keeps (none, same) = ap (λ (xs : List Answered). sized image xs (known_header k home image)) (sym none)
   known_behind (fed.Answer a ∷ more) (Ask s why o next) steps last k keeps (first, walk) =
-      known_behind more (settled Goto (next a)) first.rest last (learned k s o a) (subst (KeepsOwn home image) (sym (settled_goto (next a))) (keeps.1 a)) walk
+      known_behind more (past_label Goto (next a)) first.rest last (learned k s o a) (subst (KeepsOwn home image) (sym (settled_goto (next a))) (keeps.1 a)) walk
       ∙ ap (sized image first.rest) (learned_there k s o a keeps.0.0 keeps.0.1)
       ∙ ap (λ xs. sized image xs (known_header k home image)) (sym first.is)
   known_behind (fed.Passed ∷ more) (Ask s why o next) steps last k keeps walk = absurd walk
   known_behind (fed.Passed ∷ more) (Await w next) steps last k keeps walk =
-      known_behind more (settled Goto next) steps last (passed k w) (subst (KeepsOwn home image) (sym (settled_goto next)) keeps.1) walk
+      known_behind more (past_label Goto next) steps last (known_after_wait k w) (subst (KeepsOwn home image) (sym (settled_goto next)) keeps.1) walk
       ∙ ap (sized image steps) (waited_there k w keeps.0)
   known_behind (fed.Answer a ∷ more) (Await w next) steps last k keeps walk = absurd walk
   known_behind (fed.Passed ∷ more) (Note s i event next) steps last k keeps walk =
-      known_behind more (settled Goto next) steps last k (subst (KeepsOwn home image) (sym (settled_goto next)) keeps) walk
+      known_behind more (past_label Goto next) steps last k (subst (KeepsOwn home image) (sym (settled_goto next)) keeps) walk
   known_behind (fed.Answer a ∷ more) (Note s i event next) steps last k keeps walk = absurd walk
   known_behind (f ∷ more) (Return r) steps last k keeps walk = absurd walk
   known_behind (f ∷ more) (Goto label) steps last k keeps walk = absurd walk
@@ -115,7 +115,7 @@ module _ (home : SiteId) (image : ℕ) where
 record OneStep (labels_next : Answer → Plan) (step : Answered) (rest : List Answered) (feds : List Fed) (last : Plan) : Type 0 where
   more : List Fed
   are : feds ≡ fed.Answer step.answer ∷ more
-  walk : IsWalk Goto (settled Goto (labels_next step.answer)) more rest last
+  walk : IsWalk Goto (past_label Goto (labels_next step.answer)) more rest last
 
 one_step : (s : SiteId) (why : Reason) (o : Op) (next : Answer → Plan) (feds : List Fed) (step : Answered) (rest : List Answered) (last : Plan)
     → IsWalk Goto (Ask s why o next) feds (step ∷ rest) last → OneStep next step rest feds last
@@ -129,13 +129,13 @@ one_step s why o next (fed.Answer a ∷ more) step rest last (first, walk) =
     record {
       more = more;
       are = ap (λ b. fed.Answer b ∷ more) (sym told);
-      walk = subst (λ b. IsWalk Goto (settled Goto (next b)) more rest last) (sym told) (subst (λ xs. IsWalk Goto (settled Goto (next a)) more xs last) tail walk);
+      walk = subst (λ b. IsWalk Goto (past_label Goto (next b)) more rest last) (sym told) (subst (λ xs. IsWalk Goto (past_label Goto (next a)) more xs last) tail walk);
     }
 
 record OneWait (next : Plan) (steps : List Answered) (feds : List Fed) (last : Plan) : Type 0 where
   more : List Fed
   are : feds ≡ fed.Passed ∷ more
-  walk : IsWalk Goto (settled Goto next) more steps last
+  walk : IsWalk Goto (past_label Goto next) more steps last
 
 one_wait : (w : Wait) (next : Plan) (feds : List Fed) (step : Answered) (rest : List Answered) (last : Plan) → IsWalk Goto (Await w next) feds (step ∷ rest) last → OneWait next (step ∷ rest) feds last
 one_wait w next [] step rest last (none, same) = absurd (cc)
@@ -151,7 +151,7 @@ own_is_told home image alone own =
     u : Own
     u = record { site = home; image = image; alone = alone; header = None }
 
-    still_owns : (b : Bool) → (looked_owning (cond b (Some (record { site = home; image = image; alone = alone; header = None })) None) home image (holding_known alone home image)).owns
+    still_owns : (b : Bool) → (looked_under_lock (cond b (Some (record { site = home; image = image; alone = alone; header = None })) None) home image (holding_known alone home image)).owns
         ≡ record { site = home; image = image; alone = alone; header = None } ∷ []
     still_owns true = refl
     still_owns false = refl
@@ -164,8 +164,8 @@ own_is_told home image alone own =
 module _ (home : SiteId) (name : List ℕ) (sharing : Sharing) (refuses : HeaderView → Option Refusal) (act : ℕ → HeaderView → Plan) where
   -- what is known behind its look under the lock and these steps
   pub change_knows : (feds : List Fed) (image : ℕ) (first own : HeaderView) (steps : List Answered) (last : Plan) → refuses first ≡ None → refuses own ≡ None → KeepsOwn home image (act image own)
-      → IsWalk Goto (change home name sharing refuses act) feds (found home name image ∷ looked_at home image first ∷ looked_at home image own ∷ steps) last
-      → known_header (known_along Goto nothing_known (change home name sharing refuses act) feds) home image ≡ sized image steps (Some own)
+      → IsWalk Goto (change_plan home name sharing refuses act) feds (found home name image ∷ looked_at home image first ∷ looked_at home image own ∷ steps) last
+      → known_header (known_along Goto nothing_known (change_plan home name sharing refuses act) feds) home image ≡ sized image steps (Some own)
   change_knows feds image first own steps last may_wait may keeps walk =
       let look : Answered = looked_at home image first in
       let again : Answered = looked_at home image own in
@@ -173,19 +173,19 @@ module _ (home : SiteId) (name : List ℕ) (sharing : Sharing) (refuses : Header
       let two = one_wait (wait.Join home image sharing) (looking home refuses act image) one.more look (again ∷ steps) last one.walk in
       let three = one_step home reason.Own (op.Header image header.Get) (on_header (looked home refuses act image)) two.more look (again ∷ steps) last two.walk in
       let goes_on : IsWalk Goto (holding home refuses act image) three.more (again ∷ steps) last =
-      subst (λ r. IsWalk Goto (settled Goto (unless r (holding home refuses act image))) three.more (again ∷ steps) last) may_wait three.walk in
-      let four = one_wait (wait.Hold home image) (owning home refuses act image) three.more again steps last goes_on in
+      subst (λ r. IsWalk Goto (past_label Goto (unless r (holding home refuses act image))) three.more (again ∷ steps) last) may_wait three.walk in
+      let four = one_wait (wait.Hold home image) (under_lock home refuses act image) three.more again steps last goes_on in
       let five = one_step home reason.Own (op.Header image header.Get) (on_header (owned refuses act image)) four.more again steps last four.walk in
-      let acts : IsWalk Goto (settled Goto (act image own)) five.more steps last = subst (λ r. IsWalk Goto (settled Goto (unless r (act image own))) five.more steps last) may five.walk in
+      let acts : IsWalk Goto (past_label Goto (act image own)) five.more steps last = subst (λ r. IsWalk Goto (past_label Goto (unless r (act image own))) five.more steps last) may five.walk in
       let k : Knowledge = learned (holding_known (is_alone sharing) home image) home (op.Header image header.Get) (answer.Header own) in
-      let known : known_along Goto nothing_known (change home name sharing refuses act) feds ≡ known_along Goto k (settled Goto (act image own)) five.more =
-      ap (known_along Goto nothing_known (change home name sharing refuses act)) one.are
+      let known : known_along Goto nothing_known (change_plan home name sharing refuses act) feds ≡ known_along Goto k (past_label Goto (act image own)) five.more =
+      ap (known_along Goto nothing_known (change_plan home name sharing refuses act)) one.are
       ∙ ap (known_along Goto nothing_known (joining home sharing refuses act image)) two.are
-      ∙ ap (known_along Goto (passed nothing_known (wait.Join home image sharing)) (looking home refuses act image)) three.are
-      ∙ ap (λ r. known_along Goto (passed nothing_known (wait.Join home image sharing)) (settled Goto (unless r (holding home refuses act image))) three.more) may_wait
-      ∙ ap (known_along Goto (passed nothing_known (wait.Join home image sharing)) (holding home refuses act image)) four.are
-      ∙ ap (known_along Goto (holding_known (is_alone sharing) home image) (owning home refuses act image)) five.are
-      ∙ ap (λ r. known_along Goto k (settled Goto (unless r (act image own))) five.more) may in
+      ∙ ap (known_along Goto (known_after_wait nothing_known (wait.Join home image sharing)) (looking home refuses act image)) three.are
+      ∙ ap (λ r. known_along Goto (known_after_wait nothing_known (wait.Join home image sharing)) (past_label Goto (unless r (holding home refuses act image))) three.more) may_wait
+      ∙ ap (known_along Goto (known_after_wait nothing_known (wait.Join home image sharing)) (holding home refuses act image)) four.are
+      ∙ ap (known_along Goto (holding_known (is_alone sharing) home image) (under_lock home refuses act image)) five.are
+      ∙ ap (λ r. known_along Goto k (past_label Goto (unless r (act image own))) five.more) may in
       ap (λ (x : Knowledge). known_header x home image) known
-      ∙ known_behind home image five.more (settled Goto (act image own)) steps last k (subst (KeepsOwn home image) (sym (settled_goto (act image own))) keeps) acts
+      ∙ known_behind home image five.more (past_label Goto (act image own)) steps last k (subst (KeepsOwn home image) (sym (settled_goto (act image own))) keeps) acts
       ∙ ap (sized image steps) (own_is_told home image (is_alone sharing) own)

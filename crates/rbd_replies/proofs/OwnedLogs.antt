@@ -6,7 +6,7 @@ use Rattle.rbd_kinds.specs.declared.id.Instance.{Instance}
 use Rattle.rbd_kinds.specs.declared.id.SiteId.{SiteId}
 use Rattle.rbd_kinds.proofs.Images.{same_site_is}
 use Rattle.rbd_machine.specs.Knowledge.{same_site}
-use Rattle.rbd_site.specs.Log.{AreAnswered, IsAnswer, after_all, after_op, expire_line, expired, line_of, trim_line, trimmed}
+use Rattle.rbd_site.specs.Log.{AreAnswered, IsAnswer, after_all, after_op, expire_line, expired, log_line, trim_line, trimmed}
 use Rattle.rbd_site.specs.Records.{Records, no_records}
 use Rattle.rbd_site.specs.Step.{after, answer_to, is_fenced}
 use Rattle.rbd_site.specs.declared.done.Done.{Done}
@@ -15,7 +15,7 @@ use Rattle.rbd_watch.specs.Watching.{oldest_of}
 use Rattle.rbd_stands.specs.Owned.{AreOwned, HasLock, IsLetGo, IsOwnedLine, IsOwnedStep, SomeLine}
 use Rattle.rbd_stands.proofs.LogSteps.{lock_claim, owned_more}
 use Rattle.rbd_world.specs.Run.{Happening, Nothing, Waited, Began, Did, Refused, Trimmed, Expired, Heard, Stopped, Restarted, Operation, lines_at, log_of, records_after, records_behind}
-use Rattle.rbd_world.specs.Sound.{HasRun, IsDone, IsDue, IsRight}
+use Rattle.rbd_world.specs.Sound.{HasRun, IsRightlyDone, IsDue, IsRight}
 use Rattle.rbd_world.specs.World.{WorldView, site_in}
 use Rattle.rbd_world.proofs.Runs.{done_of}
 use Rattle.rbd_replies.specs.Logs.{IsOwnedLog}
@@ -45,12 +45,12 @@ module _ (homes : ℕ → SiteId) (s : SiteId) (run : List Happening) where
   r = records_after s run
 
   -- an operation, at its own site
-  operation_added : (o : Operation) → IsDone o run → (b : Bool) → same_site o.site s ≡ b → Leaves r (log_of s run)
-      → Leaves (cond b (after r o.instance o.op) r) (log_of s run ++ cond b (line_of o.number o.instance o.op o.answer ∷ []) [])
+  operation_added : (o : Operation) → IsRightlyDone o run → (b : Bool) → same_site o.site s ≡ b → Leaves r (log_of s run)
+      → Leaves (cond b (after r o.instance o.op) r) (log_of s run ++ cond b (log_line o.number o.instance o.op o.answer ∷ []) [])
   operation_added o is false elsewhere leaves = same_log r (log_of s run) leaves
   operation_added o is true here leaves =
       let same : o.site ≡ s = same_site_is o.site s here in
-      line_added r (log_of s run) (line_of o.number o.instance o.op o.answer) leaves
+      line_added r (log_of s run) (log_line o.number o.instance o.op o.answer) leaves
       (subst (λ t. o.answer ≡ answer_to (records_after t run) o.instance o.op) same is.answer)
       (subst (λ t. IsOwnedStep (records_after t run) o.instance o.op o.answer) same is.owned)
 

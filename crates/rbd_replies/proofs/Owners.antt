@@ -21,13 +21,13 @@ use Rattle.rbd_kinds.specs.declared.reply.Reply.{Reply}
 use Rattle.rbd_machine.specs.Knowledge.{Knowledge, is_drawn, is_gone}
 use Rattle.rbd_machine.specs.Path.{Answered}
 use Rattle.rbd_machine.specs.Permits.{IsLeftOver, MayMakeMap, OwnsBy, Permits, PermitsOnHeader, PermitsOnMap, PermitsOnObject}
-use Rattle.rbd_rely.proofs.Headers.{owned_there}
-use Rattle.rbd_rely.specs.Truth.{IsTrueAt}
+use Rattle.rbd_interference.proofs.Headers.{owned_there}
+use Rattle.rbd_interference.specs.Truth.{IsTrueAt}
 use Rattle.rbd_site.specs.Records.{Records}
 use Rattle.rbd_site.specs.Step.{answer_served, answer_to, is_fenced}
 use Rattle.rbd_stands.specs.Owned.{IsOwner, changes_data, changes_header, changes_image, changes_map, was_done}
 use Rattle.rbd_world.specs.Run.{Doer, Itself, OnWay, House, AfterStop, Happening, Did, Operation, records_after, steps_of, way_of}
-use Rattle.rbd_world.specs.Sound.{IsDone, IsRight, Recalls, RecallsBy}
+use Rattle.rbd_world.specs.Sound.{IsRightlyDone, IsRight, Recalls, RecallsBy}
 use Rattle.rbd_world.proofs.Runs.{done_of}
 use Rattle.rbd_world.proofs.WaysOfLines.{asked_on_way, lets_go}
 use Rattle.rbd_replies.specs.Fenced.{DidBefore, DidBeforeStop, DrewId, LetsItGo, OwnsOrNone, RemovedHeader, SomeStep, removes_part}
@@ -140,7 +140,7 @@ free_by_change r me o was = by (is_fenced r me) was
 -- ---- in a run
 
 module _ (homes : ℕ → SiteId) (run : List Happening) (o : Operation) (reply : Option Reply) (image : ℕ) (right : IsRight homes (Did o reply ∷ run)) where
-  it : IsDone o run
+  it : IsRightlyDone o run
   it = done_of homes o reply run right.1
 
   abbrev there : Records

@@ -9,22 +9,22 @@ use Rattle.rbd_kinds.specs.declared.layout.Extent.{Extent}
 use Rattle.rbd_kinds.specs.declared.machine.Fed.{Fed}
 use Rattle.rbd_layout.specs.Pieces.{pieces_of}
 use Rattle.rbd_layout.specs.declared.types.Piece.{Piece}
-use Rattle.rbd_machine.specs.Passes.{joined, jumps}
+use Rattle.rbd_machine.specs.Passes.{steps_of_passes, jumps}
 use Rattle.rbd_machine.specs.Path.{Answered, IsWalk}
 use Rattle.rbd_machine.specs.Plan.{Plan, Goto, Standing}
 use Rattle.rbd_machine.specs.Refused.{AreGiven}
 use Rattle.rbd_machine.specs.declared.seat.Seat.{Seat}
 use Rattle.rbd_meaning.specs.Reads.{AreRead, SeeOthers, SeesAnother}
-use Rattle.rbd_requests.specs.Plans.{read_from, IsPlanFor}
-use Rattle.rbd_requests.specs.Profile.{between, is_nothing, most_operations, profile}
-use Rattle.rbd_request.proofs.Meant.{given_behind}
-use Rattle.rbd_request.proofs.Passes.{last_pass}
-use Rattle.rbd_request.specs.Read.{is_read, pass, read_labels}
-use Rattle.rbd_requests.proofs.Given.{walk_asks}
-use Rattle.rbd_requests.specs.Touched.{AsksAtMost, HasAtMost}
+use Rattle.rbd_catalog.specs.Plans.{read_from, IsPlanFor}
+use Rattle.rbd_catalog.specs.Profile.{between, is_nothing, most_operations, profile}
+use Rattle.rbd_data.proofs.Meant.{given_behind}
+use Rattle.rbd_data.proofs.Passes.{last_pass}
+use Rattle.rbd_data.specs.Read.{is_read, pass, read_labels}
+use Rattle.rbd_catalog.proofs.Given.{walk_asks}
+use Rattle.rbd_catalog.specs.Touched.{AsksAtMost, HasAtMost}
 use Rattle.rbd_replies.specs.Bounds.{HaveAtMost, KeepsBound, KeepsPasses, allowed}
-use Rattle.rbd_requests.proofs.FollowsAll.{begins_once}
-use Rattle.rbd_requests.proofs.Bounded.{bounded_by_told, command_is_bounded}
+use Rattle.rbd_catalog.proofs.FollowsAll.{begins_once}
+use Rattle.rbd_catalog.proofs.Bounded.{bounded_by_told, command_is_bounded}
 
 -- ---- without a jump
 
@@ -57,12 +57,12 @@ module _ (site : SiteId) (name : List ℕ) (snap : Option (List ℕ)) (e : Exten
       let all : length steps ≡ suc (suc (length p.reads + 1)) = ap length p.are ∙ ap (λ n. suc (suc n)) (length-append p.reads (_ ∷ [])) in
       omega arith
 
-  pub passes_within : (passes : List (List Answered)) (rest : List Answered) → AreGiven (joined passes ++ rest) → SeeOthers site name snap e passes → HaveAtMost most passes × AreGiven rest
+  pub passes_within : (passes : List (List Answered)) (rest : List Answered) → AreGiven (steps_of_passes passes ++ rest) → SeeOthers site name snap e passes → HaveAtMost most passes × AreGiven rest
   passes_within [] rest given see = (tt, given)
   passes_within (p ∷ passes) rest given (sees, see) =
-      let both : AreGiven (p ++ (joined passes ++ rest)) = subst AreGiven (append_assoc p (joined passes) rest) given in
-      let later = passes_within passes rest (given_behind p (joined passes ++ rest) both) see in
-      ((pass_within p (given_front p (joined passes ++ rest) both) sees, later.0), later.1)
+      let both : AreGiven (p ++ (steps_of_passes passes ++ rest)) = subst AreGiven (append_assoc p (steps_of_passes passes) rest) given in
+      let later = passes_within passes rest (given_behind p (steps_of_passes passes ++ rest) both) see in
+      ((pass_within p (given_front p (steps_of_passes passes ++ rest) both) sees, later.0), later.1)
 
   read_within : (feds : List Fed) (steps : List Answered) (last : Plan) → AsksAtMost (pass site name snap e) most → AreGiven steps
       → IsWalk (read_labels site name snap e) (pass site name snap e) feds steps last → KeepsPasses site name snap e most steps

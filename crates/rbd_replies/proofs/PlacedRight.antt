@@ -3,14 +3,14 @@
 use Rattle.std.proofs.Common.{ℕ, cond, Bool, true, false, List, [], ◌∷◌, ◌++◌}
 use Rattle.rbd_kinds.specs.declared.id.SiteId.{SiteId}
 use Rattle.rbd_world.specs.Run.{Happening, Nothing, Waited, Began, Did, Refused, Trimmed, Expired, Heard, Stopped, Restarted, is_own}
-use Rattle.rbd_world.specs.Sound.{IsDone, IsDue, IsRight, IsStanding}
+use Rattle.rbd_world.specs.Sound.{IsRightlyDone, IsDue, IsRight, IsStanding}
 use Rattle.rbd_world.proofs.Runs.{done_of, standing_at}
-use Rattle.rbd_replies.specs.Places.{Placed, places_in, places_of}
+use Rattle.rbd_replies.specs.Places.{Placed, placed_in, placed_of}
 
 pub record IsPlacedRight (homes : ℕ → SiteId) (p : Placed) : Type 0 where
   pub right : IsRight homes p.before
   pub standing : IsStanding p.done.site p.before
-  pub is : IsDone p.done p.before
+  pub is : IsRightlyDone p.done p.before
 
 abbrev pub ArePlacedRight : (homes : ℕ → SiteId) → List Placed → Type 0
 ArePlacedRight homes [] = Unit {0}
@@ -29,7 +29,7 @@ pub right_back : (homes : ℕ → SiteId) (front back : List Placed) → ArePlac
 right_back homes [] back both = both
 right_back homes (p ∷ front) back (here, both) = right_back homes front back both
 
-right_in : (homes : ℕ → SiteId) (line : ℕ) (h : Happening) (run : List Happening) → IsDue homes h run → IsRight homes run → ArePlacedRight homes (places_in line h run)
+right_in : (homes : ℕ → SiteId) (line : ℕ) (h : Happening) (run : List Happening) → IsDue homes h run → IsRight homes run → ArePlacedRight homes (placed_in line h run)
 right_in homes line Nothing run due right = tt
 right_in homes line Waited run due right = tt
 right_in homes line (Began asked slot) run due right = tt
@@ -45,7 +45,7 @@ right_in homes line (Heard notice) run due right = tt
 right_in homes line (Stopped who wanted lost) run due right = tt
 right_in homes line (Restarted who) run due right = tt
 
-pub places_right : (homes : ℕ → SiteId) (line : ℕ) (run : List Happening) → IsRight homes run → ArePlacedRight homes (places_of line run)
+pub places_right : (homes : ℕ → SiteId) (line : ℕ) (run : List Happening) → IsRight homes run → ArePlacedRight homes (placed_of line run)
 places_right homes line [] right = tt
 places_right homes line (h ∷ run) (standing, due, right) =
-    right_together homes (places_of line run) (places_in line h run) (places_right homes line run right) (right_in homes line h run due right)
+    right_together homes (placed_of line run) (placed_in line h run) (places_right homes line run right) (right_in homes line h run due right)

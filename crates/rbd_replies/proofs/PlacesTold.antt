@@ -9,7 +9,7 @@ use Rattle.rbd_kinds.specs.declared.id.SiteId.{SiteId}
 use Rattle.rbd_kinds.specs.declared.operation.Op.TheVariants as op
 use Rattle.rbd_flat.specs.Flat.{id_of, image_at}
 use Rattle.rbd_machine.specs.Path.{Answered, found, looked_at}
-use Rattle.rbd_meaning.specs.Listings.{listed, renamed}
+use Rattle.rbd_meaning.specs.Listings.{names_told, renamed_to}
 use Rattle.rbd_registry.specs.Directory.{is_full}
 use Rattle.rbd_site.specs.DirectoryStep.{image_found, name_added, name_changed}
 use Rattle.rbd_site.specs.Records.{Records}
@@ -18,7 +18,7 @@ use Rattle.rbd_site.specs.declared.done.DoneOp.TheVariants as done
 use Rattle.rbd_stands.proofs.Served.{free_answer, is_served}
 use Rattle.rbd_stands.proofs.Telling.{header_told}
 use Rattle.rbd_stands.specs.Effect.{effect_of}
-use Rattle.rbd_stands.specs.Reading.{Tells}
+use Rattle.rbd_stands.specs.Reading.{TellsFlatImage}
 use Rattle.rbd_world.specs.Run.{records_after}
 use Rattle.rbd_replies.proofs.PlacedRight.{IsPlacedRight}
 use Rattle.rbd_replies.proofs.Places.{step_at}
@@ -68,10 +68,10 @@ found_there homes p right site name image is =
     (ap (λ names. image_found (finmap.get names name)) (sym right.standing.stands.names) ∙ served_there homes p right (found site name image) is refl)
 
 -- all names are the flat site's there
-pub listed_there : (homes : ℕ → SiteId) (p : Placed) → IsPlacedRight homes p → (site : SiteId) (names : List (List ℕ)) → step_at p ≡ listed site names
+pub listed_there : (homes : ℕ → SiteId) (p : Placed) → IsPlacedRight homes p → (site : SiteId) (names : List (List ℕ)) → step_at p ≡ names_told site names
     → names ≡ finmap.keys (flat_at p).names
 listed_there homes p right site names is =
-    let told : answer.Names (finmap.keys (records_at p).directory.names) ≡ answer.Names names = served_there homes p right (listed site names) is refl in
+    let told : answer.Names (finmap.keys (records_at p).directory.names) ≡ answer.Names names = served_there homes p right (names_told site names) is refl in
     let same : finmap.keys (records_at p).directory.names ≡ names = cc in
     sym same ∙ ap finmap.keys right.standing.stands.names
 
@@ -100,11 +100,11 @@ pub record IsRenamedThere (from to : List ℕ) (p : Placed) : Type 0 where
   pub named : id_of (flat_at p) from ≡ Some image
   pub free : id_of (flat_at p) to ≡ None
 
-pub renamed_there : (homes : ℕ → SiteId) (p : Placed) → IsPlacedRight homes p → (site : SiteId) (from to : List ℕ) → step_at p ≡ renamed site from to → IsRenamedThere from to p
+pub renamed_there : (homes : ℕ → SiteId) (p : Placed) → IsPlacedRight homes p → (site : SiteId) (from to : List ℕ) → step_at p ≡ renamed_to site from to → IsRenamedThere from to p
 renamed_there homes p right site from to is =
     let names = right.standing.stands.names in
     let changed = changed_where (id_of (flat_at p) from) (id_of (flat_at p) to)
-    (ap (λ all. name_changed (finmap.get all from) (finmap.get all to)) (sym names) ∙ served_there homes p right (renamed site from to) is refl) in
+    (ap (λ all. name_changed (finmap.get all from) (finmap.get all to)) (sym names) ∙ served_there homes p right (renamed_to site from to) is refl) in
     record { image = changed.image; named = changed.was; free = changed.free }
 
 -- ---- a header
@@ -115,7 +115,7 @@ looks_there p site image h is = record { asks = ap (λ (s : Answered). s.op) is;
 
 -- the header tells the flat image there
 pub header_there : (homes : ℕ → SiteId) (p : Placed) → IsPlacedRight homes p → (site : SiteId) (image : ℕ) (h : HeaderView) → step_at p ≡ looked_at site image h
-    → Tells h (image_at (flat_at p) image)
+    → TellsFlatImage h (image_at (flat_at p) image)
 header_there homes p right site image h is =
     header_told [] (records_at p) (flat_at p) p.done.instance image h right.standing.stands (answer_there homes p right (looked_at site image h) is)
 

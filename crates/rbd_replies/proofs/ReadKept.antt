@@ -1,5 +1,6 @@
 -- A header that is there stays until it is removed, and no other one comes in its place: its
--- generation never falls, and while it is the same, so is the header, but for the owner of its lock.
+-- generation never falls, and while it is the same, so is the header, but for the owner of its
+-- lock.
 use Rattle.std.proofs.Common.{◌≡◌, ◌⊎◌, inl, inr, ℕ, ◌==◌, ◌≤◌, cond, Bool, true, false, List, [], ◌∷◌, ◌++◌, Option, Some, None, refl, sym, ap, ◌∙◌, subst, append_assoc, arith}
 use Rattle.std.proofs.lemmas.Bool.{eqb-true}
 use Rattle.std.proofs.lemmas.Option.{none-some}
@@ -13,7 +14,7 @@ use Rattle.rbd_kinds.specs.declared.operation.Op.TheVariants as op
 use Rattle.rbd_kinds.proofs.Images.{same_site_is}
 use Rattle.rbd_machine.specs.Knowledge.{Knowledge, is_drawn, same_site}
 use Rattle.rbd_machine.specs.Permits.{Permits, PermitsOnHeader}
-use Rattle.rbd_rely.proofs.Headers.{IsThere}
+use Rattle.rbd_interference.proofs.Headers.{IsThere}
 use Rattle.rbd_site.specs.HeaderStep.{header_after}
 use Rattle.rbd_site.specs.Laws.{is_on_lock}
 use Rattle.rbd_site.specs.Log.{expired, trimmed}
@@ -23,7 +24,7 @@ use Rattle.rbd_site.proofs.GenerationLemmas.{generation_lasts, generation_same, 
 use Rattle.rbd_site.proofs.StepLemmas.{where_fenced}
 use Rattle.rbd_world.specs.Run.{Happening, Nothing, Waited, Began, Did, Refused, Trimmed, Expired, Heard, Stopped, Restarted, records_after, records_behind}
 use Rattle.rbd_world.specs.Past.{HadNoHeader}
-use Rattle.rbd_world.specs.Sound.{IsDone, IsDue, IsRight}
+use Rattle.rbd_world.specs.Sound.{IsRightlyDone, IsDue, IsRight}
 use Rattle.rbd_world.proofs.Runs.{done_of}
 use Rattle.rbd_replies.proofs.ReadOrder.{GoesOn}
 
@@ -177,7 +178,7 @@ module _ (homes : ℕ → SiteId) (s : SiteId) (image : ℕ) where
   there_behind (Refused t line reply) run due old is = inl (kept_as_it_is old _ is)
   there_behind (Did o reply) run due old is = by (same_site o.site s)
     where
-      done : IsDone o run
+      done : IsRightlyDone o run
       done = done_of homes o reply run due
 
       by : (b : Bool) → IsKeptOrGone old ((cond b (after (records_after s run) o.instance o.op) (records_after s run)).headers image)
@@ -206,7 +207,7 @@ module _ (homes : ℕ → SiteId) (s : SiteId) (image : ℕ) where
   none_behind (Refused t line reply) since run due old was none = none
   none_behind (Did o reply) since run due old was none = by (same_site o.site s) refl
     where
-      done : IsDone o (since ++ run)
+      done : IsRightlyDone o (since ++ run)
       done = done_of homes o reply (since ++ run) due
 
       undrawn : o.site ≡ s → is_drawn done.knows.drawn o.site image ≡ true → ⊥

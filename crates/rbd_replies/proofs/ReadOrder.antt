@@ -2,7 +2,7 @@
 use Rattle.std.proofs.Common.{◌≡◌, ℕ, cond, Bool, true, false, List, [], ◌∷◌, ◌++◌, Option, refl, sym, ap, ◌∙◌, append_assoc}
 use Rattle.rbd_kinds.specs.declared.reply.Reply.{Reply}
 use Rattle.rbd_world.specs.Run.{Happening, Nothing, Waited, Began, Did, Refused, Trimmed, Expired, Heard, Stopped, Restarted, is_own}
-use Rattle.rbd_replies.specs.Places.{Placed, places_in, places_of}
+use Rattle.rbd_replies.specs.Places.{Placed, placed_in, placed_of}
 
 -- a run goes on from an earlier one
 pub record GoesOn (later earlier : List Happening) : Type 0 where
@@ -65,7 +65,7 @@ none_more (p ∷ places) are = (behind places are.0, none_more places are.1)
     behind [] are = tt
     behind (q ∷ others) are = (are.0, behind others are.1)
 
-one_in : (line : ℕ) (h : Happening) (run : List Happening) → AreIn (h ∷ run) (places_in line h run)
+one_in : (line : ℕ) (h : Happening) (run : List Happening) → AreIn (h ∷ run) (placed_in line h run)
 one_in line Nothing run = tt
 one_in line Waited run = tt
 one_in line (Began asked slot) run = tt
@@ -81,27 +81,27 @@ one_in line (Did o reply) run = by (is_own line o.by)
     by true = (record { reply = reply; goes = at_once (Did o reply ∷ run) }, tt)
     by false = tt
 
-pub all_in : (line : ℕ) (run : List Happening) → AreIn run (places_of line run)
+pub all_in : (line : ℕ) (run : List Happening) → AreIn run (placed_of line run)
 all_in line [] = tt
-all_in line (h ∷ run) = in_both (h ∷ run) (places_of line run) (places_in line h run) (in_longer h run (places_of line run) (all_in line run)) (one_in line h run)
+all_in line (h ∷ run) = in_both (h ∷ run) (placed_of line run) (placed_in line h run) (in_longer h run (placed_of line run) (all_in line run)) (one_in line h run)
 
-ordered_then : (line : ℕ) (h : Happening) (run : List Happening) → AreOrdered (places_of line run) → AreOrdered (places_of line run ++ places_in line h run)
-ordered_then line Nothing run are = none_more (places_of line run) are
-ordered_then line Waited run are = none_more (places_of line run) are
-ordered_then line (Began asked slot) run are = none_more (places_of line run) are
-ordered_then line (Refused s other reply) run are = none_more (places_of line run) are
-ordered_then line (Trimmed s number image object) run are = none_more (places_of line run) are
-ordered_then line (Expired s number image who) run are = none_more (places_of line run) are
-ordered_then line (Heard notice) run are = none_more (places_of line run) are
-ordered_then line (Stopped who wanted lost) run are = none_more (places_of line run) are
-ordered_then line (Restarted who) run are = none_more (places_of line run) are
+ordered_then : (line : ℕ) (h : Happening) (run : List Happening) → AreOrdered (placed_of line run) → AreOrdered (placed_of line run ++ placed_in line h run)
+ordered_then line Nothing run are = none_more (placed_of line run) are
+ordered_then line Waited run are = none_more (placed_of line run) are
+ordered_then line (Began asked slot) run are = none_more (placed_of line run) are
+ordered_then line (Refused s other reply) run are = none_more (placed_of line run) are
+ordered_then line (Trimmed s number image object) run are = none_more (placed_of line run) are
+ordered_then line (Expired s number image who) run are = none_more (placed_of line run) are
+ordered_then line (Heard notice) run are = none_more (placed_of line run) are
+ordered_then line (Stopped who wanted lost) run are = none_more (placed_of line run) are
+ordered_then line (Restarted who) run are = none_more (placed_of line run) are
 ordered_then line (Did o reply) run are = by (is_own line o.by)
   where
-    by : (b : Bool) → AreOrdered (places_of line run ++ cond b (record { before = run; done = o } ∷ []) [])
-    by true = last_ordered (record { before = run; done = o }) (places_of line run) are (all_in line run)
-    by false = none_more (places_of line run) are
+    by : (b : Bool) → AreOrdered (placed_of line run ++ cond b (record { before = run; done = o } ∷ []) [])
+    by true = last_ordered (record { before = run; done = o }) (placed_of line run) are (all_in line run)
+    by false = none_more (placed_of line run) are
 
-pub places_ordered : (line : ℕ) (run : List Happening) → AreOrdered (places_of line run)
+pub places_ordered : (line : ℕ) (run : List Happening) → AreOrdered (placed_of line run)
 places_ordered line [] = tt
 places_ordered line (h ∷ run) = ordered_then line h run (places_ordered line run)
 

@@ -20,7 +20,7 @@ use Rattle.rbd_site.proofs.StepLemmas.{where_fenced}
 use Rattle.rbd_stands.specs.View.{EachView, Shape}
 use Rattle.rbd_stands.proofs.Views.{each_added, each_removed}
 use Rattle.rbd_world.specs.Run.{Happening, Nothing, Waited, Began, Did, Refused, Trimmed, Expired, Heard, Stopped, Restarted, records_after, records_behind}
-use Rattle.rbd_world.specs.Sound.{IsDone, IsDue, IsRight}
+use Rattle.rbd_world.specs.Sound.{IsRightlyDone, IsDue, IsRight}
 use Rattle.rbd_world.proofs.Runs.{done_of}
 
 abbrev pub HasNoParent : Option ℕ → Shape → Type 0
@@ -109,7 +109,7 @@ module _ (homes : ℕ → SiteId) (s : SiteId) where
   views_behind (Refused t line reply) run due was = was
   views_behind (Did o reply) run due was = by (same_site o.site s)
     where
-      is : IsDone o run
+      is : IsRightlyDone o run
       is = done_of homes o reply run due
 
       by : (b : Bool) → AreAloneIn (cond b (after (records_after s run) o.instance o.op) (records_after s run))

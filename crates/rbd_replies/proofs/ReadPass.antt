@@ -5,7 +5,7 @@ use Rattle.rbd_kinds.specs.declared.id.SiteId.{SiteId}
 use Rattle.rbd_kinds.specs.declared.layout.Extent.{Extent}
 use Rattle.rbd_layout.specs.Pieces.{pieces_of}
 use Rattle.rbd_layout.proofs.Listed.{pieces_listed}
-use Rattle.rbd_machine.specs.Passes.{joined}
+use Rattle.rbd_machine.specs.Passes.{steps_of_passes}
 use Rattle.rbd_machine.specs.Path.{Answered, found, looked_at}
 use Rattle.rbd_meaning.specs.Arrange.{bytes_of_extent}
 use Rattle.rbd_meaning.specs.Reads.{AreRead, ShowsAtLast, ShowsBetween, bytes_read}
@@ -146,5 +146,5 @@ module _ (homes : ℕ → SiteId) (home : SiteId) (name : List ℕ) (snap : Opti
   pub shows_at_places : (places : List Placed) → ArePlacedRight homes places → AreOrdered places → ShowsAtLast home name snap e (map step_at places) bytes → ShowsBytes name snap e bytes places
   shows_at_places places right ordered shows =
       whole_shown places right ordered shows.pass shows.shows
-      (take_apart home name shows.shows.pass.image shows.shows.pass.first shows.shows.closing shows.shows.pass.reads (joined shows.passes) places
-      (shows.are ∙ ap (λ pass. joined shows.passes ++ pass) shows.shows.pass.are))
+      (take_apart home name shows.shows.pass.image shows.shows.pass.first shows.shows.closing shows.shows.pass.reads (steps_of_passes shows.passes) places
+      (shows.are ∙ ap (λ pass. steps_of_passes shows.passes ++ pass) shows.shows.pass.are))

@@ -1,5 +1,5 @@
--- An `rm` that is done freed the name, where one was left, and then the image went: nothing else that
--- it did has an effect, since the image has no header any more.
+-- An `rm` that is done freed the name, where one was left, and then the image went: nothing else
+-- that it did has an effect, since the image has no header any more.
 use Rattle.std.proofs.Common.{◌≡◌, ℕ, ◌==◌, cond, Bool, true, false, List, [], ◌∷◌, ◌++◌, map, Option, Some, None, refl, sym, ap, ◌∙◌, subst, eq-eqb}
 use Rattle.std.specs.Prelude.{IsFalse}
 use Rattle.std.proofs.lemmas.Option.{none-some}
@@ -25,7 +25,7 @@ use Rattle.rbd_machine.specs.Path.{Answered, found, looked_at}
 use Rattle.rbd_meaning.specs.Removals.{AreRemovals, IsRemovedBy, RemovesImage, first_link, link_of, parent_in, removal, removing_journal, removing_map_of, removing_object, unlinking, used_objects, watchers_told}
 use Rattle.rbd_meaning.specs.Snaps.{map_told}
 use Rattle.rbd_meaning.proofs.Allowed.{no_snapshots_listed}
-use Rattle.rbd_registry.specs.Directory.{Listing, holds}
+use Rattle.rbd_registry.specs.Directory.{Listing, holds_id}
 use Rattle.rbd_site.specs.Found.{done_where}
 use Rattle.rbd_site.specs.HeaderStep.{header_after}
 use Rattle.rbd_site.specs.Step.{after, after_served, answer_served, is_fenced}
@@ -132,9 +132,9 @@ module _ (homes : ℕ → SiteId) (home : SiteId) (image : ℕ) where
 -- ---- the name
 
 -- where it went, one led to the image still
-named_by : (d : Listing) (image : ℕ) (a : Answer) → done_where (holds image d) ≡ a → IsRemovedBy (op.Directory (directory.Remove image)) a
-    → effect_of_op None (op.Directory (directory.Remove image)) a ≡ cond (holds image d) (Some (effect.NameFree image)) None
-named_by d image a told gone = by (holds image d) told
+named_by : (d : Listing) (image : ℕ) (a : Answer) → done_where (holds_id image d) ≡ a → IsRemovedBy (op.Directory (directory.Remove image)) a
+    → effect_of_op None (op.Directory (directory.Remove image)) a ≡ cond (holds_id image d) (Some (effect.NameFree image)) None
+named_by d image a told gone = by (holds_id image d) told
   where
     by : (b : Bool) → done_where b ≡ a → effect_of_op None (op.Directory (directory.Remove image)) a ≡ cond b (Some (effect.NameFree image)) None
     by true is = ap (effect_of_op None (op.Directory (directory.Remove image))) (sym is)
@@ -165,11 +165,11 @@ module _ (homes : ℕ → SiteId) (home : SiteId) (name : List ℕ) (session : �
   went_at image own bits s was alone n (q ∷ places) right ordered behind (naming, frees, freed, (here, is, gone, are)) =
       let at_name = records_at n in
       let removing : Op = op.Directory (directory.Remove image) in
-      let told : done_where (holds image at_name.directory) ≡ n.done.answer =
+      let told : done_where (holds_id image at_name.directory) ≡ n.done.answer =
       ap (λ (what : Op). answer_served at_name n.done.instance what) (sym frees) ∙ served_there homes n right.0 (step_at n) refl (removed_is_served removing n.done.answer freed) in
-      let freeing : n.done.effect ≡ cond (holds image at_name.directory) (Some (effect.NameFree image)) None =
+      let freeing : n.done.effect ≡ cond (holds_id image at_name.directory) (Some (effect.NameFree image)) None =
       effect_there homes n right.0 (step_at n) refl ∙ ap (λ (what : Op). effect_of at_name (done.Op what) n.done.answer) frees ∙ named_by at_name.directory image n.done.answer told freed in
-      let named : holds image at_name.directory ≡ is_named image (flat_at n) = ap (λ names. list_any (λ e. e.1 == image) (finmap.entries names)) right.0.standing.stands.names in
+      let named : holds_id image at_name.directory ≡ is_named image (flat_at n) = ap (λ names. list_any (λ e. e.1 == image) (finmap.entries names)) right.0.standing.stands.names in
       let gone_done : q.done.answer ≡ answer.Done = header_goes image q.done.answer gone in
       let going : q.done.effect ≡ Some (effect.Gone image) =
       effect_there homes q right.1.0 (step_at q) refl
@@ -178,8 +178,8 @@ module _ (homes : ℕ → SiteId) (home : SiteId) (name : List ℕ) (session : �
       let headless = headless_behind homes home image s q own was behind.1.0 (removed_there homes home image q right.1.0 here is gone_done) (rest_of image own bits) places are right.1.1 ordered.1.0 in
       let silent : effects_of places ≡ [] = removed_silently homes home image (rest_of image own bits) (rest_is_silent image own bits alone) places right.1.1 headless are in
       ap (λ e. with_effect e (with_effect q.done.effect (effects_of places))) freeing
-      ∙ ap (λ e. with_effect (cond (holds image at_name.directory) (Some (effect.NameFree image)) None) (with_effect e (effects_of places))) going
-      ∙ ap (λ rest. with_effect (cond (holds image at_name.directory) (Some (effect.NameFree image)) None) (effect.Gone image ∷ rest)) silent
+      ∙ ap (λ e. with_effect (cond (holds_id image at_name.directory) (Some (effect.NameFree image)) None) (with_effect e (effects_of places))) going
+      ∙ ap (λ rest. with_effect (cond (holds_id image at_name.directory) (Some (effect.NameFree image)) None) (effect.Gone image ∷ rest)) silent
       ∙ ap (λ b. with_effect (cond b (Some (effect.NameFree image)) None) (effect.Gone image ∷ [])) named
       ∙ by (is_named image (flat_at n))
     where

@@ -30,7 +30,7 @@ use Rattle.rbd_replies.proofs.ChangesLike.{IsOfLine, discard_at, resize_at, roll
 use Rattle.rbd_replies.proofs.InLine.{places_in_line}
 use Rattle.rbd_replies.proofs.Removing.{remove_removes}
 use Rattle.rbd_replies.proofs.WriteWhole.{writes_at_places}
-use Rattle.rbd_replies.specs.Places.{Placed, effects_of, places_of}
+use Rattle.rbd_replies.specs.Places.{Placed, effects_of, placed_of}
 use Rattle.rbd_replies.specs.Replies.{IsReplyOf, changes_no_image}
 
 reply_of : (homes : ℕ → SiteId) (seat : Seat) (places : List Placed) → ArePlacedRight homes places → AreOrdered places
@@ -62,10 +62,10 @@ reply_of homes seat places right ordered _ _ meant of silent = absurd meant
 
 -- a reply that is meant behind a run that is right is the asked command's
 pub reply_at_places : (homes : ℕ → SiteId) (line : ℕ) (r : Reply) (before run : List Happening) (asked : Asked) → IsRight homes run → asked_by line run ≡ asked_by line before
-    → IsReplyMeant homes line r before run → asked_by line before ≡ Some asked → IsReplyOf asked.command r (places_of line run)
+    → IsReplyMeant homes line r before run → asked_by line before ≡ Some asked → IsReplyOf asked.command r (placed_of line run)
 reply_at_places homes line r before run asked right still is asks =
     let seat : Seat = seat_at homes is.begun.asked.who.session in
-    let places : List Placed = places_of line run in
+    let places : List Placed = placed_of line run in
     let meant : IsMeantBy seat is.begun.asked.command (map step_at places) r = subst (λ steps. IsMeantBy seat is.begun.asked.command steps r) (sym (steps_at_places line run)) is.meant in
     subst (λ (a : Asked). IsReplyOf a.command r places) (same_Some is.begun.asked asked (sym is.begun.is ∙ asks))
     (reply_of homes seat places (places_right homes line run right) (places_ordered line run) is.begun.asked.command r meant
@@ -94,20 +94,20 @@ refused_before homes seat c r x more places right is meant =
     (λ early. nothing_at_places homes places right (nothing_before steps more (meant_changes_nothing seat c (steps ++ more) x refused early)))
 
 refused_on_way : (homes : ℕ → SiteId) (line : ℕ) (o : Operation) (r : Reply) (run : List Happening) (asked : Asked) → IsRight homes run
-    → IsRefusedOnWay homes line r o run → asked_by line run ≡ Some asked → IsReplyOf asked.command r (places_of line run)
+    → IsRefusedOnWay homes line r o run → asked_by line run ≡ Some asked → IsReplyOf asked.command r (placed_of line run)
 refused_on_way homes line o r run asked right is asks =
     let told = refused_there o.answer r is.refuses in
     let look : List Answered = look_answered o.site is.image o.answer ∷ [] in
-    subst (λ (a : Asked). IsReplyOf a.command r (places_of line run)) (same_Some is.begun.asked asked (sym is.begun.is ∙ asks))
-    (refused_before homes (seat_at homes is.begun.asked.who.session) is.begun.asked.command r told.reason look (places_of line run) (places_right homes line run right) told.is
+    subst (λ (a : Asked). IsReplyOf a.command r (placed_of line run)) (same_Some is.begun.asked asked (sym is.begun.is ∙ asks))
+    (refused_before homes (seat_at homes is.begun.asked.who.session) is.begun.asked.command r told.reason look (placed_of line run) (places_right homes line run right) told.is
     (subst (λ steps. IsMeantBy (seat_at homes is.begun.asked.who.session) is.begun.asked.command (steps ++ look) r) (sym (steps_at_places line run)) is.meant))
 
 -- ---- any that ends with an operation
 
 pub reply_behind : (homes : ℕ → SiteId) (line : ℕ) (o : Operation) (r : Reply) (run : List Happening) (asked : Asked) → IsRight homes (Did o (Some r) ∷ run)
-    → is_for line o.by ≡ true → asked_by line run ≡ Some asked → IsReplyOf asked.command r (places_of line (Did o (Some r) ∷ run))
+    → is_for line o.by ≡ true → asked_by line run ≡ Some asked → IsReplyOf asked.command r (placed_of line (Did o (Some r) ∷ run))
 reply_behind homes line o r run asked right mine asks = by (ends_so homes line o r run mine right.1.1)
   where
-    by : (IsReplyMeant homes line r run (Did o (Some r) ∷ run)) ⊎ (EndsOnWay homes line r o run o.by) → IsReplyOf asked.command r (places_of line (Did o (Some r) ∷ run))
+    by : (IsReplyMeant homes line r run (Did o (Some r) ∷ run)) ⊎ (EndsOnWay homes line r o run o.by) → IsReplyOf asked.command r (placed_of line (Did o (Some r) ∷ run))
     by (inl is) = reply_at_places homes line r run (Did o (Some r) ∷ run) asked right refl is asks
     by (inr way) = subst (IsReplyOf asked.command r) (sym (places_on_way line o (Some r) run way.apart)) (refused_on_way homes line o r run asked right.2 way.is asks)

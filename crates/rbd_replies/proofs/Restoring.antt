@@ -1,5 +1,5 @@
--- Each object that became what it was at a snapshot was read there, and its head has the effect of the
--- bytes that were read.
+-- Each object that became what it was at a snapshot was read there, and its head has the effect of
+-- the bytes that were read.
 use Rattle.std.proofs.Common.{◌≡◌, ℕ, List, [], ◌∷◌, ◌++◌, map, Some, option_map, unwrap_or, refl, sym, ap, ◌∙◌, subst, arith}
 use Rattle.std.specs.Prelude.{IsSome}
 use Rattle.std.proofs.lemmas.List.Elements.{All-head, All-tail}
@@ -19,12 +19,12 @@ use Rattle.rbd_meaning.specs.Reads.{bytes_shown}
 use Rattle.rbd_meaning.specs.Rollbacks.{AreRestored, IsRestored}
 use Rattle.rbd_stands.specs.Condition.{extents_of}
 use Rattle.rbd_stands.specs.View.{shape_of_snap}
-use Rattle.rbd_zero.specs.Full.{cut_bytes, replaced_by, replaced}
-use Rattle.rbd_zero.specs.Operations.{data_write_full, map_set, done}
-use Rattle.rbd_zero.specs.Zero.{head_of, is_inside}
+use Rattle.rbd_pieces.specs.Full.{cut_bytes, replaced_by, replaced}
+use Rattle.rbd_pieces.specs.Operations.{data_write_full, map_set, done}
+use Rattle.rbd_pieces.specs.Zero.{head_of, is_inside}
 use Rattle.rbd_replies.specs.Places.{Placed, effects_of}
 use Rattle.rbd_replies.specs.Reads.{IsPieceAt}
-use Rattle.rbd_replies.specs.RolledBack.{RestoresAll, RestoresFirst, replacing}
+use Rattle.rbd_replies.specs.RolledBack.{RestoresAll, RestoresFirst, replacing_effect}
 use Rattle.rbd_replies.proofs.Measured.{AllLike, IsLike, below_there, like_back, like_front, replace_there}
 use Rattle.rbd_replies.proofs.PlacedRight.{ArePlacedRight, IsPlacedRight, right_back, right_front}
 use Rattle.rbd_replies.proofs.Places.{step_at}
@@ -69,7 +69,7 @@ module _ (homes : ℕ → SiteId) (home : SiteId) (image : ℕ) (h : HeaderView)
   -- ---- what replaces it
 
   replaced_there : (piece : Piece) → IsPartsOf h.layout (head_of h) piece.object piece.parts → (left : List ℕ) (places : List Placed) → ArePlacedRight homes places → AllLike image h places
-      → map step_at places ≡ replaced_by home image h piece left → effects_of places ≡ replacing image piece left ∷ []
+      → map step_at places ≡ replaced_by home image h piece left → effects_of places ≡ replacing_effect image piece left ∷ []
   replaced_there piece whole [] places right like are = all_there homes home image h (context_of h) piece whole (is_inside h piece.object) places right like are
   replaced_there piece whole (byte ∷ left) [] right like are = absurd (cc)
   replaced_there piece whole (byte ∷ left) (p ∷ []) right like are = absurd (cc)

@@ -6,10 +6,10 @@ use Rattle.rbd_kinds.specs.declared.id.Instance.{Instance}
 use Rattle.rbd_kinds.specs.declared.id.SiteId.{SiteId}
 use Rattle.rbd_kinds.specs.declared.operation.Op.{Op}
 use Rattle.rbd_kinds.specs.declared.reply.Reply.{Reply}
-use Rattle.rbd_session.specs.Session.{held_in}
+use Rattle.rbd_slots.specs.Session.{held_in}
 use Rattle.rbd_world.specs.Late.{comes_among, comes_in, is_stopped_among, stops_in}
 use Rattle.rbd_world.specs.Run.{Doer, Itself, OnWay, House, AfterStop, Happening, Nothing, Waited, Began, Did, Refused, Trimmed, Expired, Heard, Stopped, Restarted, Operation, Sent, comes_of, sent_after, sent_of}
-use Rattle.rbd_world.specs.Sound.{EndsWith, IsDue, IsOf, IsRight, IsStop}
+use Rattle.rbd_world.specs.Sound.{EndsItsLine, IsDue, IsOf, IsRight, IsStop}
 use Rattle.rbd_world.proofs.Runs.{done_of}
 use Rattle.rbd_replies.specs.Sent.{ComesOnce, WasSent, WasSentBy}
 
@@ -78,7 +78,7 @@ module _ (homes : ℕ → SiteId) (run : List Happening) (o : Operation) where
   -- it ends no line
   ends_none : (reply : Option Reply) (slot : ℕ) → IsDue homes (Did o reply) run → o.by ≡ AfterStop slot → reply ≡ None
   ends_none None slot due is = refl
-  ends_none (Some told) slot due is = absurd (subst (EndsWith homes o told run) is due.1)
+  ends_none (Some told) slot due is = absurd (subst (EndsItsLine homes o told run) is due.1)
 
   pub was_sent : (reply : Option Reply) (slot : ℕ) → IsRight homes (Did o reply ∷ run) → o.by ≡ AfterStop slot → WasSent homes slot o reply run
   was_sent reply slot right is =

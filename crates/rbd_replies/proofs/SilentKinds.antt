@@ -15,10 +15,10 @@ use Rattle.rbd_kinds.specs.declared.operation.Op.TheVariants as op
 use Rattle.rbd_machine.specs.Path.{Answered}
 use Rattle.rbd_machine.specs.Plan.{Plan}
 use Rattle.rbd_machine.specs.declared.seat.Seat.{Seat}
-use Rattle.rbd_requests.proofs.Consequences.{none_done}
-use Rattle.rbd_requests.proofs.FollowsAll.{command_follows}
-use Rattle.rbd_requests.specs.Follows.{AreNoneOf}
-use Rattle.rbd_requests.specs.Profile.{changes_what_is_seen, profile}
+use Rattle.rbd_catalog.proofs.Consequences.{none_done}
+use Rattle.rbd_catalog.proofs.FollowsAll.{command_follows}
+use Rattle.rbd_catalog.specs.Follows.{AreNoneOf}
+use Rattle.rbd_catalog.specs.Profile.{changes_what_is_seen, profile}
 use Rattle.rbd_stands.specs.Effect.{effect_of_op}
 use Rattle.rbd_world.specs.Sound.{IsLedTo}
 use Rattle.rbd_replies.proofs.Silent.{AreSilent}

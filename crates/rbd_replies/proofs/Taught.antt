@@ -19,13 +19,13 @@ use Rattle.rbd_kinds.specs.declared.map_op.MapOp.{MapOp}
 use Rattle.rbd_kinds.specs.declared.map_op.MapOp.TheVariants as states
 use Rattle.rbd_kinds.specs.declared.operation.Op.{Op}
 use Rattle.rbd_kinds.specs.declared.operation.Op.TheVariants as op
-use Rattle.rbd_machine.specs.Knowledge.{Knowledge, Own, first_told, header_told, is_at, is_drawn, is_gone, learned, learned_of_directory, learned_of_header, learned_of_listing, learned_of_map, learned_of_object, looked_by, looked_owning, nothing_known, own_of, passed}
+use Rattle.rbd_machine.specs.Knowledge.{Knowledge, Own, first_told, header_told, is_at, is_drawn, is_gone, learned, learned_of_directory, learned_of_header, learned_of_listing, learned_of_map, learned_of_object, looked_by, looked_under_lock, nothing_known, own_of, known_after_wait}
 use Rattle.rbd_machine.specs.Label.{Label}
 use Rattle.rbd_machine.specs.Path.{Answered, IsWalk}
-use Rattle.rbd_machine.specs.Plan.{Plan, Ask, Await, Note, Return, Goto, settled}
+use Rattle.rbd_machine.specs.Plan.{Plan, Ask, Await, Note, Return, Goto, past_label}
 use Rattle.rbd_machine.specs.Wait.{Wait}
 use Rattle.rbd_machine.specs.Wait as wait
-use Rattle.rbd_rely.proofs.Less.{place_of}
+use Rattle.rbd_interference.proofs.Less.{place_of}
 use Rattle.rbd_world.specs.Past.{known_along}
 use Rattle.rbd_world.proofs.Unborn.{learned_drawn}
 use Rattle.rbd_replies.specs.Fenced.{DrewId, RemovedHeader, SomeStep}
@@ -35,10 +35,10 @@ use Rattle.rbd_replies.specs.Fenced.{DrewId, RemovedHeader, SomeStep}
 -- What is known holds only by a step that made it so: none of the waits does, and an answer only
 -- where it is such a step.
 module _ (Known : Knowledge → Type 0) (P : Answered → Type 0) (by_answer : (k : Knowledge) (s : SiteId) (o : Op) (a : Answer) → Known (learned k s o a) → Known k ⊎ P (record { site = s; op = o; answer = a }))
-    (by_wait : (k : Knowledge) (w : Wait) → Known (passed k w) → Known k) (labels : Label → Plan) where
+    (by_wait : (k : Knowledge) (w : Wait) → Known (known_after_wait k w) → Known k) (labels : Label → Plan) where
   pub taught : (feds : List Fed) (plan : Plan) (k : Knowledge) (steps : List Answered) (last : Plan) → IsWalk labels plan feds steps last → Known (known_along labels k plan feds) → Known k ⊎ SomeStep P steps
   taught [] plan k steps last walk known = inl known
-  taught (fed.Answer a ∷ feds) (Ask s why o next) k steps last (first, walk) known = by (taught feds (settled labels (next a)) (learned k s o a) first.rest last walk known)
+  taught (fed.Answer a ∷ feds) (Ask s why o next) k steps last (first, walk) known = by (taught feds (past_label labels (next a)) (learned k s o a) first.rest last walk known)
     where
       here : SomeStep P (record { site = s; op = o; answer = a } ∷ first.rest) → SomeStep P steps
       here = subst (SomeStep P) (sym first.is)
@@ -50,12 +50,12 @@ module _ (Known : Knowledge → Type 0) (P : Answered → Type 0) (by_answer : (
           now_or (inl before) = inl before
           now_or (inr step) = inr (here (inl step))
       by (inr later) = inr (here (inr later))
-  taught (fed.Passed ∷ feds) (Await w next) k steps last walk known = by (taught feds (settled labels next) (passed k w) steps last walk known)
+  taught (fed.Passed ∷ feds) (Await w next) k steps last walk known = by (taught feds (past_label labels next) (known_after_wait k w) steps last walk known)
     where
-      by : Known (passed k w) ⊎ SomeStep P steps → Known k ⊎ SomeStep P steps
+      by : Known (known_after_wait k w) ⊎ SomeStep P steps → Known k ⊎ SomeStep P steps
       by (inl now) = inl (by_wait k w now)
       by (inr step) = inr step
-  taught (fed.Passed ∷ feds) (Note s image event next) k steps last walk known = taught feds (settled labels next) k steps last walk known
+  taught (fed.Passed ∷ feds) (Note s image event next) k steps last walk known = taught feds (past_label labels next) k steps last walk known
   taught (fed.Passed ∷ feds) (Ask s why o next) k steps last walk known = absurd walk
   taught (fed.Answer a ∷ feds) (Await w next) k steps last walk known = absurd walk
   taught (fed.Answer a ∷ feds) (Note s image event next) k steps last walk known = absurd walk
@@ -67,7 +67,7 @@ module _ (Known : Knowledge → Type 0) (P : Answered → Type 0) (by_answer : (
 abbrev Drawn : SiteId → (image : ℕ) → Knowledge → Type 0
 Drawn t image k = is_drawn k.drawn t image ≡ true
 
-passed_drawn : (t : SiteId) (image : ℕ) (k : Knowledge) (w : Wait) → Drawn t image (passed k w) → Drawn t image k
+passed_drawn : (t : SiteId) (image : ℕ) (k : Knowledge) (w : Wait) → Drawn t image (known_after_wait k w) → Drawn t image k
 passed_drawn t image k (wait.Join site i sharing) drawn = drawn
 passed_drawn t image k (wait.Hold site i) drawn = drawn
 passed_drawn t image k (wait.Turn number) drawn = drawn
@@ -94,7 +94,7 @@ drew_it labels feds plan last steps t image walk drawn =
 abbrev Gone : SiteId → (image : ℕ) → Knowledge → Type 0
 Gone t image k = is_gone k.gone t image ≡ true
 
-passed_gone : (t : SiteId) (image : ℕ) (k : Knowledge) (w : Wait) → Gone t image (passed k w) → Gone t image k
+passed_gone : (t : SiteId) (image : ℕ) (k : Knowledge) (w : Wait) → Gone t image (known_after_wait k w) → Gone t image k
 passed_gone t image k (wait.Join site i sharing) gone = gone
 passed_gone t image k (wait.Hold site i) gone = gone
 passed_gone t image k (wait.Turn number) gone = gone
@@ -102,7 +102,7 @@ passed_gone t image k (wait.Applied site i) gone = gone
 passed_gone t image k (wait.Leave site i) gone = gone
 
 module _ (t : SiteId) (image : ℕ) (k : Knowledge) (s : SiteId) where
-  looked_gone : (i : ℕ) (h : HeaderView) (o : Option Own) → Gone t image (header_told s i (first_told h) (looked_owning o s i k)) → Gone t image k
+  looked_gone : (i : ℕ) (h : HeaderView) (o : Option Own) → Gone t image (header_told s i (first_told h) (looked_under_lock o s i k)) → Gone t image k
   looked_gone i h None gone = gone
   looked_gone i h (Some o) gone = by o.header gone
     where

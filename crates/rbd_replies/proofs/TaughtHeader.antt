@@ -18,19 +18,19 @@ use Rattle.rbd_kinds.specs.declared.map_op.MapOp.{MapOp}
 use Rattle.rbd_kinds.specs.declared.map_op.MapOp.TheVariants as states
 use Rattle.rbd_kinds.specs.declared.operation.Op.{Op}
 use Rattle.rbd_kinds.specs.declared.operation.Op.TheVariants as op
-use Rattle.rbd_machine.specs.Knowledge.{Knowledge, Own, first_told, header_told, is_at, learned, learned_of_directory, learned_of_header, learned_of_listing, learned_of_map, learned_of_object, looked_behind, looked_by, looked_owning, nothing_known, own_of, passed, told_of}
+use Rattle.rbd_machine.specs.Knowledge.{Knowledge, Own, first_told, header_told, is_at, learned, learned_of_directory, learned_of_header, learned_of_listing, learned_of_map, learned_of_object, looked_behind, looked_by, looked_under_lock, nothing_known, own_of, known_after_wait, told_of}
 use Rattle.rbd_machine.specs.Label.{Label}
 use Rattle.rbd_machine.specs.Path.{Answered, IsWalk}
 use Rattle.rbd_machine.specs.Plan.{Plan}
 use Rattle.rbd_machine.specs.Wait.{Wait}
-use Rattle.rbd_rely.specs.Truth.{header_of_own, known_header}
-use Rattle.rbd_rely.proofs.Less.{left_own, place_of, waited_less, IsOwnOf}
-use Rattle.rbd_rely.proofs.Told.{header_changed, told_apart, told_knew}
+use Rattle.rbd_interference.specs.Truth.{header_of_own, known_header}
+use Rattle.rbd_interference.proofs.Less.{left_own, place_of, waited_less, IsOwnOf}
+use Rattle.rbd_interference.proofs.Told.{header_changed, told_apart, told_knew}
 use Rattle.rbd_site.specs.Records.{Records}
 use Rattle.rbd_site.specs.Step.{answer_served, answer_to, is_fenced}
 use Rattle.rbd_world.specs.Past.{HadNoHeader, known_along}
 use Rattle.rbd_world.specs.Run.{Happening, Nothing, Waited, Began, Did, Refused, Trimmed, Expired, Heard, Stopped, Restarted, Operation, is_own, records_after, step_of, steps_in, steps_of}
-use Rattle.rbd_world.specs.Sound.{IsDone, IsRight}
+use Rattle.rbd_world.specs.Sound.{IsRightlyDone, IsRight}
 use Rattle.rbd_world.proofs.Runs.{done_of}
 use Rattle.rbd_replies.specs.Fenced.{SomeStep, ToldHeader}
 use Rattle.rbd_replies.proofs.Taught.{taught}
@@ -43,8 +43,8 @@ KnowsHeader t image k = IsSome (known_header k t image)
 own_before : (t : SiteId) (image : ℕ) (new old : Knowledge) → IsOwnOf (own_of new.owns t image) (own_of old.owns t image) → KnowsHeader t image new → KnowsHeader t image old
 own_before t image new old less some = ap (λ o. is_some (header_of_own o)) (sym (less some)) ∙ some
 
-passed_known : (t : SiteId) (image : ℕ) (k : Knowledge) (w : Wait) → KnowsHeader t image (passed k w) → KnowsHeader t image k
-passed_known t image k w some = own_before t image (passed k w) k ((waited_less t k w).owns image) some
+passed_known : (t : SiteId) (image : ℕ) (k : Knowledge) (w : Wait) → KnowsHeader t image (known_after_wait k w) → KnowsHeader t image k
+passed_known t image k w some = own_before t image (known_after_wait k w) k ((waited_less t k w).owns image) some
 
 module _ (t : SiteId) (image : ℕ) (k : Knowledge) (s : SiteId) where
   abbrev Knows : Knowledge → Type 0
@@ -61,7 +61,7 @@ module _ (t : SiteId) (image : ℕ) (k : Knowledge) (s : SiteId) where
       of None = refl
       of (Some h) = refl
 
-      by : (o : Option Own) → (looked_owning o s on k).owns ≡ k.owns
+      by : (o : Option Own) → (looked_under_lock o s on k).owns ≡ k.owns
       by None = refl
       by (Some o) = of o.header
 
@@ -164,7 +164,7 @@ untold r me image h none told = by (is_fenced r me) told
     by false answered = served (r.headers image) refl answered
 
 module _ (homes : ℕ → SiteId) (line : ℕ) (s : SiteId) (image : ℕ) where
-  told_here : (o : Operation) (run : List Happening) → IsDone o run → (records_after s run).headers image ≡ None → ToldHeader s image (step_of o) → ⊥
+  told_here : (o : Operation) (run : List Happening) → IsRightlyDone o run → (records_after s run).headers image ≡ None → ToldHeader s image (step_of o) → ⊥
   told_here o run done none told =
       untold (records_after s run) o.instance image told.header none
       (ap (λ t. answer_to (records_after t run) o.instance (op.Header image header.Get)) (sym told.site)

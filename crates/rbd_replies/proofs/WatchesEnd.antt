@@ -13,7 +13,7 @@ use Rattle.rbd_kinds.specs.declared.operation.Op.TheVariants as op
 use Rattle.rbd_kinds.specs.declared.reply.Reply.{Reply}
 use Rattle.rbd_kinds.proofs.Images.{same_site_is}
 use Rattle.rbd_machine.specs.Knowledge.{same_site}
-use Rattle.rbd_rely.specs.Truth.{changed_by}
+use Rattle.rbd_interference.specs.Truth.{changed_by}
 use Rattle.rbd_site.proofs.GenerationLemmas.{looked_at}
 use Rattle.rbd_site.specs.Laws.{is_look}
 use Rattle.rbd_site.specs.HeaderStep.{header_answer}
@@ -22,7 +22,7 @@ use Rattle.rbd_site.specs.Step.{after, answer_served, answer_to, is_fenced}
 use Rattle.rbd_stands.proofs.NoEffect.{look_none}
 use Rattle.rbd_stands.specs.Owned.{HasLock, IsOwner, changes_image, was_done}
 use Rattle.rbd_world.specs.Run.{Happening, Did, Operation, flat_after, records_after}
-use Rattle.rbd_world.specs.Sound.{IsDone, IsDue, IsRight}
+use Rattle.rbd_world.specs.Sound.{IsRightlyDone, IsDue, IsRight}
 use Rattle.rbd_world.specs.Watched.{ends_it, ends_watch}
 use Rattle.rbd_world.proofs.Runs.{done_of}
 use Rattle.rbd_world.proofs.StillWatching.{stays_or_ends}
@@ -53,7 +53,7 @@ module _ (homes : ℕ → SiteId) (who : Instance) (s : SiteId) (image : ℕ) (r
   removed_by_owner o reply due ended removes =
       subst (λ t. HasLock image o.instance (records_after t run)) removal.here (has_lock ((records_after o.site run).headers image) refl)
     where
-      is : IsDone o run
+      is : IsRightlyDone o run
       is = done_of homes o reply run due
 
       removal : Removes o.site o.answer s

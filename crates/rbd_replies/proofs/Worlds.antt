@@ -1,5 +1,5 @@
--- Each reply in a world's history is the flat-copy machine's, at its place there; and events are told
--- one by one.
+-- Each reply in a world's history is the flat-copy machine's, at its place there; and events are
+-- told one by one.
 use Rattle.std.proofs.Common.{◌≡◌, ℕ, ◌||◌, true, false, List, [], ◌∷◌, ◌++◌, map, Option, Some, None, refl, sym, ap, subst, ◌∙◌, append_assoc, append-nil}
 use Rattle.std.proofs.lemmas.Bool.{eq-eqb}
 use Rattle.rbd_flat.specs.declared.effect.Effect.{Effect}
@@ -11,7 +11,7 @@ use Rattle.rbd_kinds.specs.declared.id.SiteId.{SiteId}
 use Rattle.rbd_kinds.specs.declared.reply.Reply.{Reply}
 use Rattle.rbd_machine.specs.Plan.{Standing}
 use Rattle.rbd_world.specs.Run.{Doer, Itself, OnWay, House, AfterStop, Happening, Nothing, Waited, Began, Did, Refused, Trimmed, Expired, Heard, Stopped, Restarted, Operation, cause_of, ending_entries, entries_of, entry_by, entry_of, entry_unfenced, fence_of, history_of, is_for, reply_entries}
-use Rattle.rbd_world.specs.Sound.{EndsWith, HasRun, IsOpen, IsReplyMeant, IsRight}
+use Rattle.rbd_world.specs.Sound.{EndsItsLine, HasRun, IsOpen, IsReplyMeant, IsRight}
 use Rattle.rbd_world.specs.World.{WorldView}
 use Rattle.rbd_world.specs.declared.event.Call.{Call}
 use Rattle.rbd_replies.proofs.RepliesOf.{reply_at_places, reply_behind}
@@ -103,7 +103,7 @@ itself line = ap (λ b. b || false) (eq-eqb line line refl)
 abbrev ToldHere : (h : Happening) (run : List Happening) → List Entry → Entry → Type 0
 ToldHere h run front e = IsToldIn (h ∷ run) (history_of run ++ front) e
 
-ending_told : (homes : ℕ → SiteId) (o : Operation) (r : Reply) (run : List Happening) → IsRight homes (Did o (Some r) ∷ run) → (doer : Doer) → o.by ≡ doer → EndsWith homes o r run doer
+ending_told : (homes : ℕ → SiteId) (o : Operation) (r : Reply) (run : List Happening) → IsRight homes (Did o (Some r) ∷ run) → (doer : Doer) → o.by ≡ doer → EndsItsLine homes o r run doer
     → EachBehind (λ front e. ToldHere (Did o (Some r)) run (entry_of o ∷ front) e) (ending_entries doer (Some r))
 ending_told homes o r run right (Itself line) is ends =
     (told_with homes line o r run right (ap (is_for line) is ∙ itself line) ends.begun (ap (λ d. ending_entries d (Some r)) is), tt)

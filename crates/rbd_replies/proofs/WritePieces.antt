@@ -14,8 +14,8 @@ use Rattle.rbd_machine.specs.Path.{Answered}
 use Rattle.rbd_machine.specs.Permits.{LiesBelow, MayWrite, OwnsBy, Permits}
 use Rattle.rbd_meaning.specs.Writes.{piece_written, pieces_written, state_raised}
 use Rattle.rbd_parts.specs.Parts.{bytes_for}
-use Rattle.rbd_rely.proofs.Done.{may_do}
-use Rattle.rbd_rely.proofs.Headers.{owned_there}
+use Rattle.rbd_interference.proofs.Done.{may_do}
+use Rattle.rbd_interference.proofs.Headers.{owned_there}
 use Rattle.rbd_site.specs.DataStep as step
 use Rattle.rbd_site.specs.declared.done.DoneOp.TheVariants as done
 use Rattle.rbd_stands.specs.Condition.{ArePartsBelow, IsPartBelow}
@@ -42,7 +42,7 @@ module _ (homes : ℕ → SiteId) (home : SiteId) (image : ℕ) (own : HeaderVie
       let free = unfenced_there homes p right (piece_written home image own from bytes piece) is refl in
       let there = owned_there p.done.site (records_at p) p.done.instance right.is.knows image _ right.is.truth free owns in
       let v = there.view in
-      let may : step.MayWrite piece.parts (bytes_for piece.parts from bytes) =
+      let may : step.MayWriteParts piece.parts (bytes_for piece.parts from bytes) =
       may_do p.done.site (records_at p) p.done.instance right.is.knows most right.standing.form right.standing.mapped right.is.truth (op_of piece) owns free in
       let lie : ArePartsBelow v v.size piece.object piece.parts =
       subst (λ w. ArePartsBelow w w.size piece.object piece.parts) (sym there.same)

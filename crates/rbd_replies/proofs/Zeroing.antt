@@ -1,5 +1,5 @@
--- Each piece that became zeros has its effect, whichever way it went; and a size that is set has that
--- of the pieces that a shrink zeros, and its own.
+-- Each piece that became zeros has its effect, whichever way it went; and a size that is set has
+-- that of the pieces that a shrink zeros, and its own.
 use Rattle.std.proofs.Common.{◌≡◌, ℕ, ◌+◌, ◌-◌, ◌≤◌, ◌<◌, cond, Bool, true, false, List, [], ◌∷◌, ◌++◌, map, Some, None, refl, sym, ap, ◌∙◌, subst, arith}
 use Rattle.std.specs.Prelude.{All, nat_le}
 use Rattle.std.proofs.lemmas.Bool.Decides.{nat_tests}
@@ -15,11 +15,11 @@ use Rattle.rbd_layout.proofs.Listed.{pieces_listed}
 use Rattle.rbd_layout.specs.Pieces.{IsPartsOf, pieces_of}
 use Rattle.rbd_layout.specs.declared.types.Piece.{Piece}
 use Rattle.rbd_stands.specs.Condition.{AreWhole}
-use Rattle.rbd_zero.proofs.AllBytes.{whole_is_all}
-use Rattle.rbd_zero.specs.Operations.{header_set_size, map_resize, map_set, done}
-use Rattle.rbd_zero.specs.Shrink.{has_bytes, head_from, pieces_from}
-use Rattle.rbd_zero.specs.Size.{IsResized, IsResizedBy, grown, pieces_zeroed, shrunk, states_told}
-use Rattle.rbd_zero.specs.Zero.{all_zeroed, is_inside, is_whole, zeroed, zeroed_by}
+use Rattle.rbd_pieces.proofs.AllBytes.{whole_is_all}
+use Rattle.rbd_pieces.specs.Operations.{header_set_size, map_resize, map_set, done}
+use Rattle.rbd_pieces.specs.Shrink.{piece_has_bytes, head_from, pieces_from}
+use Rattle.rbd_pieces.specs.Size.{IsResized, IsResizedBy, grown, pieces_zeroed, shrunk, states_told}
+use Rattle.rbd_pieces.specs.Zero.{all_zeroed, is_inside, is_whole, zeroed_steps, zeroed_by}
 use Rattle.rbd_replies.specs.Places.{Placed, effects_of}
 use Rattle.rbd_replies.specs.Zeroed.{SetsSize, zero_effect, zero_effects}
 use Rattle.rbd_replies.proofs.Measured.{AllLike, effects_append, laid_there, like_back, like_front, empty_there, remove_there, zero_there}
@@ -88,7 +88,7 @@ module _ (homes : ℕ → SiteId) (home : SiteId) (image : ℕ) (h : HeaderView)
       → map step_at places ≡ pieces_zeroed home image h pieces → effects_of places ≡ zero_effects image pieces
   zeros_there e within [] parts places right like are = ap effects_of (none_taken places are)
   zeros_there e within (piece ∷ pieces) parts places right like are =
-      let both = divide (zeroed home image h piece) (pieces_zeroed home image h pieces) places are in
+      let both = divide (zeroed_steps home image h piece) (pieces_zeroed home image h pieces) places are in
       let right_both : ArePlacedRight homes (both.front ++ both.back) = subst (ArePlacedRight homes) both.are right in
       let like_both : AllLike image h (both.front ++ both.back) = subst (AllLike image h) both.are like in
       let first = piece_there e within piece (All-head (λ (q : Piece). IsPartsOf h.layout e q.object q.parts) piece pieces parts) (is_whole h piece) refl (context_of h) (is_inside h piece.object)
@@ -106,7 +106,7 @@ module _ (homes : ℕ → SiteId) (home : SiteId) (image : ℕ) (h : HeaderView)
       ∙ ap (λ rest. effect.Size image to ∷ effects_of rest) (none_taken places none)
 
   cut_pieces : (to : ℕ) (bits : List ℕ) → ArePiecesIn h (head_from h to) (pieces_of h.layout (head_from h to)) → ArePiecesIn h (head_from h to) (pieces_from h to bits)
-  cut_pieces to bits parts = All-filter (has_bytes h bits) (λ (p : Piece). IsPartsOf h.layout (head_from h to) p.object p.parts) (pieces_of h.layout (head_from h to)) parts
+  cut_pieces to bits parts = All-filter (piece_has_bytes h bits) (λ (p : Piece). IsPartsOf h.layout (head_from h to) p.object p.parts) (pieces_of h.layout (head_from h to)) parts
 
   up_to_size : (to : ℕ) → nat_le h.size to ≡ false → to + (h.size - to) ≤ h.size
   up_to_size to shrinks = let less : to < h.size = grind (arith, nat_tests) in omega arith

@@ -5,13 +5,13 @@ use Rattle.rbd_commands.specs.declared.command.Command.{Command}
 use Rattle.rbd_commands.specs.declared.command.Command.TheVariants as command
 use Rattle.rbd_kinds.specs.declared.id.SiteId.{SiteId}
 use Rattle.rbd_kinds.specs.declared.layout.Extent.{Extent}
-use Rattle.rbd_machine.specs.Passes.{joined}
+use Rattle.rbd_machine.specs.Passes.{steps_of_passes}
 use Rattle.rbd_machine.specs.Path.{Answered}
 use Rattle.rbd_meaning.specs.Reads.{SeeOthers}
-use Rattle.rbd_requests.specs.Profile.{between, more_by, most_operations, profile}
+use Rattle.rbd_catalog.specs.Profile.{between, more_by, most_operations, profile}
 use Rattle.rbd_world.specs.Run.{Happening, Did, Refused, is_for}
 
--- each has so many operations at most
+-- the number of a command's operations is bounded by the number of objects that its extent touches
 abbrev pub HaveAtMost : (most : ℕ) → List (List Answered) → Type 0
 HaveAtMost most [] = Unit {0}
 HaveAtMost most (pass ∷ passes) = (length pass ≤ most) × HaveAtMost most passes
@@ -22,7 +22,7 @@ HaveAtMost most (pass ∷ passes) = (length pass ≤ most) × HaveAtMost most pa
 pub record KeepsPasses (site : SiteId) (name : List ℕ) (snap : Option (List ℕ)) (e : Extent) (most : ℕ) (steps : List Answered) : Type 0 where
   pub passes : List (List Answered)
   pub pass : List Answered
-  pub are : steps ≡ joined passes ++ pass
+  pub are : steps ≡ steps_of_passes passes ++ pass
   pub before : SeeOthers site name snap e passes
   pub each : HaveAtMost most passes
   pub last : length pass ≤ most
@@ -46,7 +46,7 @@ KeepsBound home c pieces steps = DoesAtMost home c (allowed c pieces steps) step
 pub record IsInPass (site : SiteId) (name : List ℕ) (snap : Option (List ℕ)) (e : Extent) (most : ℕ) (steps : List Answered) : Type 0 where
   pub passes : List (List Answered)
   pub pass : List Answered
-  pub are : steps ≡ joined passes ++ pass
+  pub are : steps ≡ steps_of_passes passes ++ pass
   pub before : SeeOthers site name snap e passes
   pub each : HaveAtMost most passes
   pub fewer : length pass < most

@@ -7,11 +7,11 @@ use Rattle.rbd_kinds.specs.declared.header.Role.TheVariants.{Plain}
 use Rattle.rbd_kinds.specs.Extents.{fits}
 use Rattle.rbd_layout.specs.Pieces.{pieces_of}
 use Rattle.rbd_meaning.specs.Range.{extent_at}
-use Rattle.rbd_stands.specs.Reading.{Tells, flat_snap_named}
+use Rattle.rbd_stands.specs.Reading.{TellsFlatImage, flat_snap_named}
 use Rattle.rbd_stands.specs.Writing.{piece_effects}
 use Rattle.rbd_replies.specs.Places.{LooksAt, Placed, effects_of, flat_at}
 
--- The name was free, and has a new image of zeros.
+-- The name was free, and leads now to a new image of zeros.
 pub record Creates (name : List ℕ) (size : ℕ) (places : List Placed) : Type 0 where
   pub first : Placed
   pub mapped : Placed
@@ -33,17 +33,17 @@ pub record FindsImage (name : List ℕ) (places : List Placed) : Type 0 where
   pub named : id_of (flat_at found) name ≡ Some image
   pub header : HeaderView
   pub looked : LooksAt image header own
-  pub tells : Tells header (image_at (flat_at own) image)
+  pub tells : TellsFlatImage header (image_at (flat_at own) image)
 
--- Each of its pieces was written, one after another, and nothing else: the piece of an object has
--- the bytes that go there. They lie within the size that its look under the lock told.
+-- Each piece was written, one after another, and nothing else was done: the object of each has the
+-- bytes that go there. They lie within the size that the look under the lock told.
 pub record Writes (name : List ℕ) (at : ℕ) (bytes : List ℕ) (places : List Placed) : Type 0 where
   pub finds : FindsImage name places
   pub within : fits (extent_at at bytes) finds.header.size ≡ true
   pub effects : effects_of places ≡ piece_effects finds.image at bytes (pieces_of finds.header.layout (extent_at at bytes))
 
--- A snapshot was taken, and nothing else done. At its look under the lock the flat image had none
--- of the name.
+-- A snapshot was taken, and nothing else was done. At the look under the lock the flat image had
+-- none of the name.
 pub record TakesSnap (name snap : List ℕ) (places : List Placed) : Type 0 where
   pub finds : FindsImage name places
   pub flat : FlatImage
@@ -52,8 +52,8 @@ pub record TakesSnap (name snap : List ℕ) (places : List Placed) : Type 0 wher
   pub taken : ℕ
   pub effects : effects_of places ≡ effect.Snap finds.image taken snap ∷ []
 
--- The snapshot that the flat image had under the name at its look under the lock was removed, and
--- nothing else done.
+-- The snapshot that the flat image had under the name at the look under the lock was removed, and
+-- nothing else was done.
 pub record RemovesSnap (name snap : List ℕ) (places : List Placed) : Type 0 where
   pub finds : FindsImage name places
   pub flat : FlatImage

@@ -16,8 +16,8 @@ use Rattle.rbd_site.specs.Step.{is_fenced}
 use Rattle.rbd_stands.specs.Owned.{HasLock, changes_image, was_done}
 use Rattle.rbd_world.specs.Late.{is_stopped_among}
 use Rattle.rbd_world.specs.Past.{HadNoHeader}
-use Rattle.rbd_world.specs.Run.{Doer, Itself, AfterStop, Happening, Did, Stopped, Operation, flat_after, is_among, mail_of, records_after, steps_of}
-use Rattle.rbd_world.specs.Sound.{StandsAt}
+use Rattle.rbd_world.specs.Run.{Doer, Itself, AfterStop, Happening, Did, Stopped, Operation, flat_after, is_line_among, mail_of, records_after, steps_of}
+use Rattle.rbd_world.specs.Sound.{AsksFor}
 
 -- It has no effect, and leaves the flat sites, the records of both sites and the notices as they
 -- were.
@@ -28,13 +28,13 @@ pub record LeavesAll (o : Operation) (reply : Option Reply) (before : List Happe
   pub mail : mail_of (Did o reply ∷ before) ≡ mail_of before
 
 -- It is answered so, and leaves all as it was.
-pub record ChangesNothing (o : Operation) (reply : Option Reply) (before : List Happening) : Type 0 where
+pub record IsWithoutEffect (o : Operation) (reply : Option Reply) (before : List Happening) : Type 0 where
   pub answered : o.answer ≡ answer.Fenced
   pub leaves : LeavesAll o reply before
 
--- It is nothing where its instance is fenced at its site.
+-- An operation changes nothing where its instance is fenced at its site.
 abbrev pub IsStoppedByTheFence : Operation → Option Reply → List Happening → Type 0
-IsStoppedByTheFence o reply before = is_fenced (records_after o.site before) o.instance ≡ true → ChangesNothing o reply before
+IsStoppedByTheFence o reply before = is_fenced (records_after o.site before) o.instance ≡ true → IsWithoutEffect o reply before
 
 -- ---- an image without a header
 
@@ -43,8 +43,8 @@ abbrev pub SomeStep : (P : Answered → Type 0) → List Answered → Type 0
 SomeStep P [] = ⊥
 SomeStep P (step ∷ steps) = P step ⊎ SomeStep P steps
 
--- The operation was sent by a line that was lost when its instance's session was stopped last: there
--- the line's command stood at it, and had done such a one itself before.
+-- The operation was sent by a line that was lost when its instance's session was stopped last.
+-- There the line's command stood at the operation, and had done such a one itself before.
 pub record DidBeforeStop (homes : ℕ → SiteId) (P : Answered → Type 0) (o : Operation) (before : List Happening) : Type 0 where
   -- what the slots wanted, which lines were lost, what was until the stop, and what came since
   pub wanted : List (Option (SiteId × Op))
@@ -54,8 +54,8 @@ pub record DidBeforeStop (homes : ℕ → SiteId) (P : Answered → Type 0) (o :
   pub are : before ≡ since ++ Stopped o.instance wanted lost ∷ until
   pub last : is_stopped_among o.instance.session since ≡ false
   pub line : ℕ
-  pub among : is_among line lost ≡ true
-  pub stands : StandsAt homes line o.site o.op until
+  pub among : is_line_among line lost ≡ true
+  pub stands : AsksFor homes line o.site o.op until
   pub mine : stands.begun.asked.who ≡ o.instance
   pub did : SomeStep P (steps_of line until)
 
@@ -85,8 +85,8 @@ pub record ToldHeader (s : SiteId) (image : ℕ) (step : Answered) : Type 0 wher
   pub header : HeaderView
   pub told : step.answer ≡ answer.Header header
 
--- The map of an image is made, which has no header and never had one: so nobody can own it. Its
--- maker drew the image's id.
+-- The operation makes a map of an image that has no header and never had one: so nobody can own the
+-- image. Its maker drew the image's id.
 pub record MakesMap (homes : ℕ → SiteId) (image : ℕ) (o : Operation) (before : List Happening) : Type 0 where
   pub count : ℕ
   pub is : o.op ≡ op.Map image (states.Resize count)
@@ -94,37 +94,39 @@ pub record MakesMap (homes : ℕ → SiteId) (image : ℕ) (o : Operation) (befo
   pub new : HadNoHeader o.site image before
   pub drew : DidBefore homes (DrewId o.site image) o.by o before
 
--- whether it removes an object of an image, or an object map
+-- whether an operation removes an object of an image, or an object map
 abbrev pub removes_part : (image : ℕ) → Op → Bool
 removes_part image (op.Data other number (object.Remove context)) = other == image
 removes_part image (op.Map other (states.Remove view)) = other == image
 removes_part image _ = false
 
--- What the command had done that removes a part of an image without a header: it had removed the
--- header. The command of a lost line may have been told the header instead, which went since: but
+-- What a command had done that removes a part of an image without a header: it had removed the
+-- header. The command of a lost line may have been told the header instead, which went since; but
 -- not where it removes the head's map.
 abbrev pub LetsItGo : Doer → Op → SiteId → (image : ℕ) → Answered → Type 0
 LetsItGo (AfterStop slot) (op.Data other number o) s image step = RemovedHeader s image step ⊎ ToldHeader s image step
 LetsItGo (AfterStop slot) (op.Map other (states.Remove (Some snap))) s image step = RemovedHeader s image step ⊎ ToldHeader s image step
 LetsItGo by o s image step = RemovedHeader s image step
 
--- What is left of an image goes, whose header is gone: so nobody owns it any more. Who removes it
--- removed the header, or came late to an image that he knew.
+-- The operation removes what is left of an image whose header is gone: so nobody owns the image any
+-- more. The command had removed the header; or the operation came late, and its command knew the
+-- image.
 pub record RemovesRest (homes : ℕ → SiteId) (image : ℕ) (o : Operation) (before : List Happening) : Type 0 where
   pub is : removes_part image o.op ≡ true
   pub headless : (records_after o.site before).headers image ≡ None
   pub removed : DidBefore homes (LetsItGo o.by o.op o.site image) o.by o before
 
--- Who changes an image has its lock, by its header; or makes the map of one whose id he drew, and
--- that has no header yet; or removes what is left of one whose header he removed. That of who comes
--- late is said of the line that was lost.
+-- Who changes an image has its lock, by its header; or makes the map of an image whose id it drew
+-- and that has no header yet; or removes what is left of one whose header it removed. Of an
+-- operation that comes late this is said of the line that was lost.
 abbrev pub OwnsOrNone : (homes : ℕ → SiteId) (image : ℕ) → Operation → (before : List Happening) → Type 0
 OwnsOrNone homes image o before =
     HasLock image o.instance (records_after o.site before) ⊎ (MakesMap homes image o before ⊎ RemovesRest homes image o before)
 
 -- ---- all of it
 
--- Whoever changes an image may do so; and a lock is broken only where its owner is fenced.
+-- An operation that changes an image may do so, and one that breaks a lock comes only where the
+-- lock's owner is fenced.
 pub record IsTheOwners (homes : ℕ → SiteId) (o : Operation) (reply : Option Reply) (before : List Happening) : Type 0 where
   pub change : (image : ℕ) → changes_image image o.op ≡ true → was_done o.answer ≡ true → OwnsOrNone homes image o before
   pub broken : (image : ℕ) (owner : Instance) → o.op ≡ op.Header image (header.LockBreak owner) → o.answer ≡ answer.Done

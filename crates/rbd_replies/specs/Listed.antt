@@ -10,7 +10,7 @@ use Rattle.rbd_kinds.specs.declared.map_op.MapOp.TheVariants as states
 use Rattle.rbd_kinds.specs.declared.operation.Op.TheVariants as op
 use Rattle.rbd_kinds.specs.Striping.{IsObjectCount}
 use Rattle.rbd_meaning.specs.Listings.{used_among}
-use Rattle.rbd_stands.specs.Reading.{IsToldBy, Tells}
+use Rattle.rbd_stands.specs.Reading.{IsToldBy, TellsFlatImage}
 use Rattle.rbd_replies.specs.Places.{LooksAt, Placed, flat_at}
 
 -- all names of the flat site at one place
@@ -19,8 +19,8 @@ pub record ListsNames (names : List (List ℕ)) (places : List Placed) : Type 0 
   pub are : places ≡ at_place ∷ []
   pub names_are : names ≡ finmap.keys (flat_at at_place).names
 
--- The image that the name had at one place, and at the next the header that a look was told tells
--- it: its size, its role and its snapshots are the flat image's.
+-- At one place the name leads to the image, and at the next a look is told the image's header: the
+-- size, the role and the snapshots are those of the flat image.
 pub record ShowsImage (name : List ℕ) (h : HeaderView) (places : List Placed) : Type 0 where
   pub found : Placed
   pub look : Placed
@@ -28,17 +28,17 @@ pub record ShowsImage (name : List ℕ) (h : HeaderView) (places : List Placed) 
   pub image : ℕ
   pub named : id_of (flat_at found) name ≡ Some image
   pub looked : LooksAt image h look
-  pub tells : Tells h (image_at (flat_at look) image)
+  pub tells : TellsFlatImage h (image_at (flat_at look) image)
 
 pub record ShowsSnaps (name : List ℕ) (snaps : List SnapView) (places : List Placed) : Type 0 where
   pub header : HeaderView
   pub shows : ShowsImage name header places
   pub snaps_are : snaps ≡ header.snaps
 
--- The image that the name had at one place, and at the next the header that a look was told tells
--- it: so many objects the flat image's size has. So many of them are in use by the states that its
--- head's map told behind.
-pub record ShowsUsed (name : List ℕ) (used of : ℕ) (places : List Placed) : Type 0 where
+-- At one place the name leads to the image, and at the next a look is told its header: so many
+-- objects the flat image's size has. Behind that the head's map is told: so many of these objects
+-- are in use by its states.
+pub record ShowsUsedAt (name : List ℕ) (used of : ℕ) (places : List Placed) : Type 0 where
   pub found : Placed
   pub look : Placed
   pub told : Placed

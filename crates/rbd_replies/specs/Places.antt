@@ -14,16 +14,16 @@ pub record Placed : Type 0 where
   pub before : List Happening
   pub done : Operation
 
-abbrev pub places_in : (line : ℕ) → Happening → (before : List Happening) → List Placed
-places_in line (Did o reply) before = if is_own line o.by then record { before = before; done = o } ∷ [] else []
-places_in line h before = []
+abbrev pub placed_in : (line : ℕ) → Happening → (before : List Happening) → List Placed
+placed_in line (Did o reply) before = if is_own line o.by then record { before = before; done = o } ∷ [] else []
+placed_in line h before = []
 
--- in their order
-abbrev pub places_of : (line : ℕ) → List Happening → List Placed
-places_of line [] = []
-places_of line (h ∷ run) = places_of line run ++ places_in line h run
+-- the operations of a line, in their order
+abbrev pub placed_of : (line : ℕ) → List Happening → List Placed
+placed_of line [] = []
+placed_of line (h ∷ run) = placed_of line run ++ placed_in line h run
 
--- the flat site there, of the effects of all that was done before
+-- the flat site at a place, by the effects of all that was done before
 abbrev pub flat_at : Placed → Flat
 flat_at p = flat_after p.done.site p.before
 
@@ -36,7 +36,7 @@ abbrev pub with_effect : Option Effect → List Effect → List Effect
 with_effect None effects = effects
 with_effect (Some e) effects = e ∷ effects
 
--- what they did to the flat site, in order
+-- what these operations did to the flat site, in order
 abbrev pub effects_of : List Placed → List Effect
 effects_of [] = []
 effects_of (p ∷ places) = with_effect p.done.effect (effects_of places)

@@ -12,7 +12,7 @@ use Rattle.rbd_layout.specs.declared.types.Piece.{Piece}
 use Rattle.rbd_machine.specs.Objects.{data_read}
 use Rattle.rbd_meaning.specs.Arrange.{bytes_of_extent}
 use Rattle.rbd_meaning.specs.Reads.{bytes_shown}
-use Rattle.rbd_stands.specs.Reading.{Tells, bytes_at_parts}
+use Rattle.rbd_stands.specs.Reading.{TellsFlatImage, bytes_at_parts}
 use Rattle.rbd_replies.specs.Places.{LooksAt, Placed, flat_at}
 
 -- The operation there reads the piece, of this image at this view, and its answer shows these
@@ -46,10 +46,10 @@ pub record ShowsBytes (name : List ℕ) (snap : Option (List ℕ)) (e : Extent) 
   pub named : id_of (flat_at found) name ≡ Some image
   pub header : HeaderView
   pub looked : LooksAt image header first
-  pub tells : Tells header (image_at (flat_at first) image)
+  pub tells : TellsFlatImage header (image_at (flat_at first) image)
   pub again : HeaderView
   pub looked_again : LooksAt image again closing
-  pub tells_again : Tells again (image_at (flat_at closing) image)
+  pub tells_again : TellsFlatImage again (image_at (flat_at closing) image)
   pub generation : again.generation ≡ header.generation
   pub view : View
   pub viewed : view_of header snap ≡ Some view

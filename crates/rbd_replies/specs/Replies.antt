@@ -5,9 +5,9 @@ use Rattle.rbd_commands.specs.declared.command.Command.TheVariants as command
 use Rattle.rbd_kinds.specs.declared.reply.Reply.{Reply}
 use Rattle.rbd_kinds.specs.declared.reply.Reply.TheVariants as reply
 use Rattle.rbd_meaning.specs.Undone.{ComesLate}
-use Rattle.rbd_requests.specs.Profile.{changes_anything, changes_what_is_seen, has_none_of, profile}
+use Rattle.rbd_catalog.specs.Profile.{changes_anything, changes_what_is_seen, has_none_of, profile}
 use Rattle.rbd_replies.specs.Changed.{Creates, RemovesSnap, Renames, TakesSnap, Writes}
-use Rattle.rbd_replies.specs.Listed.{ListsNames, ShowsImage, ShowsSnaps, ShowsUsed}
+use Rattle.rbd_replies.specs.Listed.{ListsNames, ShowsImage, ShowsSnaps, ShowsUsedAt}
 use Rattle.rbd_replies.specs.Places.{Placed, effects_of}
 use Rattle.rbd_replies.specs.Reads.{ShowsBytes}
 use Rattle.rbd_replies.specs.Removed.{RemovesAll}
@@ -34,7 +34,7 @@ IsReplyOf (command.Read image snap at len) (reply.Bytes bytes) places = ShowsByt
 IsReplyOf command.List (reply.Names names) places = ListsNames names places
 IsReplyOf (command.Info image) (reply.Info h) places = ShowsImage image h places
 IsReplyOf (command.SnapList image) (reply.Snaps snaps) places = ShowsSnaps image snaps places
-IsReplyOf (command.Used image) (reply.Used used of) places = ShowsUsed image used of places
+IsReplyOf (command.Used image) (reply.Used used of) places = ShowsUsedAt image used of places
 IsReplyOf (command.Close image) reply.Done places = effects_of places ≡ []
 IsReplyOf (command.Quiesce image) reply.Done places = effects_of places ≡ []
 IsReplyOf (command.Resume image) reply.Done places = effects_of places ≡ []

@@ -8,22 +8,22 @@ use Rattle.rbd_layout.specs.Pieces.{pieces_of}
 use Rattle.rbd_layout.specs.declared.types.Piece.{Piece}
 use Rattle.rbd_stands.specs.Condition.{extents_of}
 use Rattle.rbd_stands.specs.Reading.{flat_snap_named}
-use Rattle.rbd_zero.specs.Full.{cut_bytes}
+use Rattle.rbd_pieces.specs.Full.{cut_bytes}
 use Rattle.rbd_replies.specs.Changed.{FindsImage}
 use Rattle.rbd_replies.specs.Places.{Placed, effects_of, flat_at}
 use Rattle.rbd_replies.specs.Reads.{IsPieceAt}
 use Rattle.rbd_replies.specs.Zeroed.{SetsSize, zero_effect}
 
 -- A piece gets bytes up to the last that isn't zero, and behind them zeros.
-abbrev pub replacing : (image : ℕ) → Piece → (left : List ℕ) → Effect
-replacing image piece [] = zero_effect image piece
-replacing image piece (byte ∷ left) = effect.Piece image (extents_of piece.parts) (byte ∷ left)
+abbrev pub replacing_effect : (image : ℕ) → Piece → (left : List ℕ) → Effect
+replacing_effect image piece [] = zero_effect image piece
+replacing_effect image piece (byte ∷ left) = effect.Piece image (extents_of piece.parts) (byte ∷ left)
 
 abbrev pub replace_effect : (image : ℕ) → Piece → (bytes : List ℕ) → Effect
-replace_effect image piece bytes = replacing image piece (cut_bytes bytes)
+replace_effect image piece bytes = replacing_effect image piece (cut_bytes bytes)
 
--- A piece was read at the snapshot: its bytes are the flat snapshot's at that place. The head got
--- them, and then the others theirs.
+-- A piece was read at the snapshot, and its bytes are the flat snapshot's at that place. The head
+-- got these bytes; and so on with the other pieces.
 pub record RestoresFirst (AreOthers : List Placed → Type 0) (image snap : ℕ) (piece : Piece) (places : List Placed) : Type 0 where
   pub reading : Placed
   pub replaced : List Placed

@@ -92,7 +92,7 @@
 //! comes in its place then; its generation never falls, and what leaves the generation leaves the
 //! header, but for its owner. Where no reply came, a walk of the command's plan led to where the
 //! line is or was lost (`IsLedTo` of `rbd_world`), and what it may ask for on its way is said by
-//! the row of its command (`profile` of `rbd_requests`).
+//! the row of its command (`profile` of `rbd_catalog`).
 //!
 //! Which bytes a discard, a resize and a rollback changed depends on the header at each operation.
 //! That is the one that the command's look under the lock told, with its own changes since: the run

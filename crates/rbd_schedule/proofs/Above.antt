@@ -13,17 +13,17 @@ use Rattle.rbd_kinds.specs.declared.machine.Fed.{Fed}
 use Rattle.rbd_kinds.specs.declared.operation.Op.{Op}
 use Rattle.rbd_kinds.specs.declared.reply.Reply.{Reply}
 use Rattle.rbd_machine.specs.Plan.{Standing}
-use Rattle.rbd_session.specs.Session.{OfRunning, SessionView, held_in}
-use Rattle.rbd_session.specs.declared.running.Occupant.{Occupant}
-use Rattle.rbd_session.specs.declared.running.Running.{Running}
+use Rattle.rbd_slots.specs.Session.{OfRunning, SessionView, held_in}
+use Rattle.rbd_slots.specs.declared.running.Occupant.{Occupant}
+use Rattle.rbd_slots.specs.declared.running.Running.{Running}
 use Rattle.rbd_world.specs.declared.event.Event.{Event}
 use Rattle.rbd_world.specs.declared.event.Event.TheVariants as event
 use Rattle.rbd_world.specs.declared.event.Outcome.{Outcome}
 use Rattle.rbd_world.specs.declared.event.Outcome.TheVariants as outcome
 use Rattle.rbd_world.specs.Run.{Asked, Happening, Nothing, Waited, Began, Did, Refused, Trimmed, Expired, Heard, Stopped, Restarted, outcome_of}
 use Rattle.rbd_world.specs.Sound.{IsSoundWorld, held_of}
-use Rattle.rbd_world.specs.Step.{Becomes, BecomesOf, IsStep, RunsOn, begins_of, happening, is_begun, submitted}
-use Rattle.rbd_world.specs.World.{WorldView, client_in, running_of, session_in, session_of}
+use Rattle.rbd_world.specs.Step.{Becomes, BecomesOf, IsWorldStep, RunsOn, begins_of, happening, is_begun, submitted}
+use Rattle.rbd_world.specs.World.{WorldView, client_in, running_of, session_in, session_of_client}
 use Rattle.rbd_schedule.specs.Playing.{IsNoStart, highest_after}
 use Rattle.rbd_schedule.specs.Schedule.{is_held}
 use Rattle.rbd_schedule.proofs.Clients.{client_then, no_way}
@@ -113,14 +113,14 @@ module _ {R : Type 0} (stands : R → Standing) where
   abbrev pub AreSoundIf : Option (ClientView R) → Type 0
   AreSoundIf o = (c : ClientView R) → o ≡ Some c → IsSoundClient stands c
 
-  free_of : (e : Event) (h : Happening) (old new : Option (ClientView R)) → IsNoStart e → AreSoundIf old → BecomesOf stands e h old new → (other : ℕ) → held_of other (session_of old) ≡ None → held_of other (session_of new) ≡ None
-  free_of e h None new none sound becomes other free = ap (λ o. held_of other (session_of o)) becomes
+  free_of : (e : Event) (h : Happening) (old new : Option (ClientView R)) → IsNoStart e → AreSoundIf old → BecomesOf stands e h old new → (other : ℕ) → held_of other (session_of_client old) ≡ None → held_of other (session_of_client new) ≡ None
+  free_of e h None new none sound becomes other free = ap (λ o. held_of other (session_of_client o)) becomes
   free_of e h (Some a) None none sound becomes other free = absurd becomes
   free_of e h (Some a) (Some b) none sound becomes other free = stays_free e h a b none (sound a refl) becomes other free
 
   runs_free : (e : Event) (h : Happening) (home : SiteId) (old new : Option (ClientView R)) → IsNoStart e → AreSoundIf old → RunsOn stands e h home old new
-      → (other : ℕ) → held_of other (session_of old) ≡ None → held_of other (session_of new) ≡ None
-  runs_free e (Stopped who wanted lost) home old new none sound runs other free = ap (λ o. held_of other (session_of o)) runs
+      → (other : ℕ) → held_of other (session_of_client old) ≡ None → held_of other (session_of_client new) ≡ None
+  runs_free e (Stopped who wanted lost) home old new none sound runs other free = ap (λ o. held_of other (session_of_client o)) runs
   runs_free e (Restarted who) home old None none sound runs other free = refl
   runs_free e (Restarted who) home old (Some b) none sound runs other free = runs.slots other
   runs_free e Nothing home old new none sound runs other free = free_of e Nothing old new none sound runs other free
@@ -132,12 +132,12 @@ module _ {R : Type 0} (stands : R → Standing) where
   runs_free e (Expired s number image who) home old new none sound runs other free = free_of e (Expired s number image who) old new none sound runs other free
   runs_free e (Heard notice) home old new none sound runs other free = free_of e (Heard notice) old new none sound runs other free
 
-  pub event_above : (e : Event) (old : WorldView R) (result : Outcome) (new : WorldView R) → IsNoStart e → IsSoundWorld stands old → IsStep stands e old result new
+  pub event_above : (e : Event) (old : WorldView R) (result : Outcome) (new : WorldView R) → IsNoStart e → IsSoundWorld stands old → IsWorldStep stands e old result new
       → (s other : ℕ) → is_held s other old ≡ false → is_held s other new ≡ false
   event_above e old result new none sound (is, does) s other free = is_free s other new (by (client_then stands e (happening stands e old) old new does s))
     where
       by : (client_in s new.lives ≡ client_in s old.lives) ⊎ ((home : SiteId) × RunsOn stands e (happening stands e old) home (client_in s old.lives) (client_in s new.lives)) → held_of other (session_in s new.lives) ≡ None
-      by (inl same) = ap (λ o. held_of other (session_of o)) same ∙ not_held s other old free
+      by (inl same) = ap (λ o. held_of other (session_of_client o)) same ∙ not_held s other old free
       by (inr (home, runs)) =
           runs_free e (happening stands e old) home (client_in s old.lives) (client_in s new.lives) none (λ c at. (sound.clients s c at).sound) runs other (not_held s other old free)
 
@@ -161,8 +161,8 @@ module _ {R : Type 0} (stands : R → Standing) where
 
   begins_free : (session line : ℕ) (command : Command) (begun : Bool) (highest : ℕ) (old new : Option (ClientView R))
       → BecomesOf stands (event.Submit session line command) (submitted begun line command old) old new
-      → (other : ℕ) → highest_after highest (outcome_of (submitted begun line command old)) < other → held_of other (session_of old) ≡ None → held_of other (session_of new) ≡ None
-  begins_free session line command begun highest None new becomes other above free = ap (λ o. held_of other (session_of o)) becomes
+      → (other : ℕ) → highest_after highest (outcome_of (submitted begun line command old)) < other → held_of other (session_of_client old) ≡ None → held_of other (session_of_client new) ≡ None
+  begins_free session line command begun highest None new becomes other above free = ap (λ o. held_of other (session_of_client o)) becomes
   begins_free session line command begun highest (Some a) None becomes other above free = absurd becomes
   begins_free session line command begun highest (Some a) (Some b) becomes other above free = begins_below session line command begun highest a b becomes other above free
 
@@ -177,7 +177,7 @@ module _ {R : Type 0} (stands : R → Standing) where
       by false runs = runs
 
   -- who is named by a submission goes on as it says, and who isn't stays
-  pub submitted_then : (session line : ℕ) (command : Command) (old new : WorldView R) (result : Outcome) → IsStep stands (event.Submit session line command) old result new → (s : ℕ)
+  pub submitted_then : (session line : ℕ) (command : Command) (old new : WorldView R) (result : Outcome) → IsWorldStep stands (event.Submit session line command) old result new → (s : ℕ)
       → (client_in s new.lives ≡ client_in s old.lives)
       ⊎ ((s ≡ session) × BecomesOf stands (event.Submit session line command) (submitted (is_begun line old.history) line command (client_in s old.lives)) (client_in s old.lives) (client_in s new.lives))
   submitted_then session line command old new result (is, does) s = by (session == s) refl (client_then stands (event.Submit session line command) _ old new does s)
@@ -197,7 +197,7 @@ module _ {R : Type 0} (stands : R → Standing) where
           )
       by false other (inr on) = inl (ap running_of (does.others s other))
 
-  pub submit_above : (session line : ℕ) (command : Command) (old : WorldView R) (result : Outcome) (new : WorldView R) (highest : ℕ) → IsStep stands (event.Submit session line command) old result new
+  pub submit_above : (session line : ℕ) (command : Command) (old : WorldView R) (result : Outcome) (new : WorldView R) (highest : ℕ) → IsWorldStep stands (event.Submit session line command) old result new
       → ((s other : ℕ) → highest < other → is_held s other old ≡ false) → (s other : ℕ) → highest_after highest result < other → is_held s other new ≡ false
   submit_above session line command old result new highest step before s other above = is_free s other new (by (submitted_then session line command old new result step s))
     where
@@ -207,7 +207,7 @@ module _ {R : Type 0} (stands : R → Standing) where
       by : (client_in s new.lives ≡ client_in s old.lives)
           ⊎ ((s ≡ session) × BecomesOf stands (event.Submit session line command) (submitted (is_begun line old.history) line command (client_in s old.lives)) (client_in s old.lives) (client_in s new.lives))
           → held_of other (session_in s new.lives) ≡ None
-      by (inl same) = ap (λ o. held_of other (session_of o)) same ∙ free
+      by (inl same) = ap (λ o. held_of other (session_of_client o)) same ∙ free
       by (inr (same, becomes)) =
           begins_free session line command (is_begun line old.history) highest (client_in s old.lives) (client_in s new.lives) becomes other
           (subst (λ n. highest_after highest (outcome_of (submitted (is_begun line old.history) line command (client_in n old.lives))) < other) (sym same) (subst (λ r. highest_after highest r < other) step.0 above))
@@ -227,7 +227,7 @@ module _ {R : Type 0} (stands : R → Standing) where
           go true room = room
           go false room = few
 
-  pub submit_most : (session line : ℕ) (command : Command) (old : WorldView R) (result : Outcome) (new : WorldView R) (highest : ℕ) → IsStep stands (event.Submit session line command) old result new → highest ≤ 64
+  pub submit_most : (session line : ℕ) (command : Command) (old : WorldView R) (result : Outcome) (new : WorldView R) (highest : ℕ) → IsWorldStep stands (event.Submit session line command) old result new → highest ≤ 64
       → highest_after highest result ≤ 64
   submit_most session line command old result new highest (is, does) few =
       subst (λ r. highest_after highest r ≤ 64) (sym is) (most_of (is_begun line old.history) line command highest (client_in session old.lives) few)

@@ -16,17 +16,17 @@ use Rattle.rbd_script.specs.declared.script.Line.{Line}
 use Rattle.rbd_script.specs.declared.script.Said.{Said}
 use Rattle.rbd_script.specs.declared.script.Said.TheVariants as said
 use Rattle.rbd_script.specs.declared.script.Script.{Script}
-use Rattle.rbd_script.specs.Command.{command_of}
+use Rattle.rbd_script.specs.Command.{command_of_tokens}
 use Rattle.rbd_script.specs.Form.{From, and_then, form}
-use Rattle.rbd_script.specs.Line.{asked, declaration_of, declaring, request_of, said_behind, saying, with_line, with_tokens}
+use Rattle.rbd_script.specs.Line.{asked_of, declaration_of, declaring, request_of_tokens, said_behind, saying, with_line, with_tokens}
 use Rattle.rbd_script.specs.Number.{greatest}
-use Rattle.rbd_script.specs.Part.{Front, Part, Value, before, part_of, place}
+use Rattle.rbd_script.specs.Part.{Front, Part, Value, with_rest, part_of, place}
 use Rattle.rbd_script.specs.Part.Part.{Kind, NewSession, Number, ScheduleWord, Session, Site, Times}
 use Rattle.rbd_script.specs.Reading.{and_on, limit, lines_before, no_script, reading, too_long, with_lines}
 use Rattle.rbd_script.specs.Schedule.{schedule_form, schedule_of}
-use Rattle.rbd_script.specs.Session.{is_named, is_session_name, known, new_session_of, session_of}
-use Rattle.rbd_script.specs.Token.{begins_with, is as is_word, lines_of, tokens_of}
-use Rattle.rbd_schedule.specs.InOrder.{AreBehind, AreDeclared, AreInOrder, NamesDeclared}
+use Rattle.rbd_script.specs.Session.{has_session_name, is_session_name, known, new_session_of, session_of_token}
+use Rattle.rbd_script.specs.Token.{begins_with, is as is_word, text_lines, tokens_of}
+use Rattle.rbd_schedule.specs.InOrder.{AreAscendingFrom, AreDeclared, AreLinesInOrder, NamesDeclared}
 
 -- ---- what the parts of a line say of its sessions
 
@@ -38,10 +38,10 @@ known_some (Some m) n is = cc
 nobody : Declared
 nobody = record { line = 0; name = []; home = A }
 
-named_is_declared : (sessions : List Declared) (token : List ℕ) (n : ℕ) → session_of sessions token ≡ Ok n → n < length sessions
-unfolding session_of
+named_is_declared : (sessions : List Declared) (token : List ℕ) (n : ℕ) → session_of_token sessions token ≡ Ok n → n < length sessions
+unfolding session_of_token
 named_is_declared sessions token n is =
-    (position-Some (is_named token) sessions n nobody (known_some (position (is_named token) sessions) n is)).0
+    (position-Some (has_session_name token) sessions n nobody (known_some (position (has_session_name token) sessions) n is)).0
 
 third_of : (a b c : Bool) (token name : List ℕ) → cond (a && b && c) (Ok token) (Err BadName) ≡ Ok name → c ≡ true
 third_of true true true token name is = refl
@@ -52,7 +52,7 @@ third_of false b c token name is = absurd (cc)
 new_has_room : (sessions : List Declared) (token name : List ℕ) → new_session_of sessions token ≡ Ok name → length sessions < 32
 unfolding new_session_of
 new_has_room sessions token name is =
-    let few : nat_lt (length sessions) 32 ≡ true = third_of (is_session_name token) (not (list_any (is_named token) sessions)) (nat_lt (length sessions) 32) token name is in
+    let few : nat_lt (length sessions) 32 ≡ true = third_of (is_session_name token) (not (list_any (has_session_name token) sessions)) (nat_lt (length sessions) 32) token name is in
     grind (arith, nat_tests)
 
 -- a session that is named is declared, and a new one has room
@@ -61,7 +61,7 @@ IsSessionPart (Session sessions) n = n < length sessions
 IsSessionPart (NewSession sessions) name = length sessions < 32
 IsSessionPart _ value = Unit {0}
 
-before_value : {X : Type 0} (tokens : List (List ℕ)) (r : Result X LineCause) (value : X) (behind : List (List ℕ)) → before tokens r ≡ Ok (value, behind) → r ≡ Ok value
+before_value : {X : Type 0} (tokens : List (List ℕ)) (r : Result X LineCause) (value : X) (behind : List (List ℕ)) → with_rest tokens r ≡ Ok (value, behind) → r ≡ Ok value
 before_value {X} tokens (Ok other) value behind is =
     let same : (other, tokens) ≡ (value, behind) = cc in ap (λ (p : X × List (List ℕ)). Ok p.0) same
 before_value tokens (Err cause) value behind is = absurd (cc)
@@ -73,7 +73,7 @@ place_value read value P goes (token ∷ tokens) behind is = goes token (before_
 
 part_says : (p : Part) (tokens : List (List ℕ)) (value : Value p) (behind : List (List ℕ)) → part_of p tokens ≡ Ok (value, behind) → IsSessionPart p value
 unfolding part_of
-part_says (Session sessions) tokens value behind is = place_value (session_of sessions) value _ (λ token. named_is_declared sessions token value) tokens behind is
+part_says (Session sessions) tokens value behind is = place_value (session_of_token sessions) value _ (λ token. named_is_declared sessions token value) tokens behind is
 part_says (NewSession sessions) tokens value behind is = place_value (new_session_of sessions) value _ (λ token. new_has_room sessions token value) tokens behind is
 part_says _ tokens value behind is = tt
 
@@ -122,23 +122,23 @@ module _ (sessions : List Declared) where
       then_goes (part_of ScheduleWord tokens) (schedule_form sessions) what (NamesDeclared (length sessions) what)
       (λ verb behind _. schedule_declared verb behind what) is
 
-  asked_by : (session : ℕ) (beside : Bool) (r : Result Command LineCause) (what : Said) → session < length sessions → asked session beside r ≡ Ok what → NamesDeclared (length sessions) what
+  asked_by : (session : ℕ) (beside : Bool) (r : Result Command LineCause) (what : Said) → session < length sessions → asked_of session beside r ≡ Ok what → NamesDeclared (length sessions) what
   asked_by session beside (Ok command) what among is =
       let same : said.Command session beside command ≡ what = cc in subst (NamesDeclared (length sessions)) same among
   asked_by session beside (Err cause) what among is = absurd (cc)
 
-  of_request : (beside : Bool) (tokens : List (List ℕ)) (what : Said) → request_of sessions beside tokens ≡ Ok what → NamesDeclared (length sessions) what
-  unfolding request_of
+  of_request : (beside : Bool) (tokens : List (List ℕ)) (what : Said) → request_of_tokens sessions beside tokens ≡ Ok what → NamesDeclared (length sessions) what
+  unfolding request_of_tokens
   of_request beside tokens what is =
-      then_goes (part_of (Session sessions) tokens) (λ session command. asked session beside (command_of command)) what (NamesDeclared (length sessions) what)
-      (λ session behind said. asked_by session beside (command_of behind) what (part_says (Session sessions) tokens session behind said)) is
+      then_goes (part_of (Session sessions) tokens) (λ session command. asked_of session beside (command_of_tokens command)) what (NamesDeclared (length sessions) what)
+      (λ session behind said. asked_by session beside (command_of_tokens behind) what (part_says (Session sessions) tokens session behind said)) is
 
   saying_declared : (threads : Bool) (first : List ℕ) (tokens : List (List ℕ)) (what : Said) → said_behind threads sessions first tokens ≡ Ok what → NamesDeclared (length sessions) what
   saying_declared threads first tokens what = by_word (begins_with 64 first) threads (is_word (codes "&") first)
     where
       by_word : (event threads beside : Bool)
           → cond event (cond threads (Err ScheduleLine) (schedule_of sessions (first ∷ tokens)))
-          (cond beside (request_of sessions true tokens) (request_of sessions false (first ∷ tokens))) ≡ Ok what
+          (cond beside (request_of_tokens sessions true tokens) (request_of_tokens sessions false (first ∷ tokens))) ≡ Ok what
           → NamesDeclared (length sessions) what
       by_word true true beside is = absurd (cc)
       by_word true false beside is = of_schedule (first ∷ tokens) what is
@@ -166,8 +166,8 @@ before_more : (number : ℕ) (lines : List Line) (what : Said) → AreBefore num
 before_more number [] what are = (omega arith, tt)
 before_more number (line ∷ lines) what (first, are) = (omega arith, before_more number lines what are)
 
-behind_more : (from number : ℕ) (lines : List Line) (what : Said) → from < number → AreBehind from lines → AreBefore number lines
-    → AreBehind from (lines ++ record { number = number; said = what } ∷ [])
+behind_more : (from number : ℕ) (lines : List Line) (what : Said) → from < number → AreAscendingFrom from lines → AreBefore number lines
+    → AreAscendingFrom from (lines ++ record { number = number; said = what } ∷ [])
 behind_more from number [] what less behind are = (less, tt)
 behind_more from number (line ∷ lines) what less (first, behind) (below, are) = (first, behind_more line.number number lines what below behind are)
 
@@ -197,7 +197,7 @@ declared_still few more (line ∷ lines) less (first, are) = (one_declared few m
 -- ---- all lines
 
 pub record IsOrderly (s : Script) : Type 0 where
-  pub lines : AreInOrder s.lines
+  pub lines : AreLinesInOrder s.lines
   pub declared : AreDeclared (length s.sessions) s.lines
   pub sessions : length s.sessions ≤ 32
 
@@ -283,7 +283,7 @@ unfolding reading
 script_in_order threads bytes s = by_length (nat_le (length bytes) limit)
   where
     by_length : (within : Bool)
-        → cond within (with_lines threads 1 no_script (lines_of bytes)) (too_long (length (lines_before bytes)) (with_lines threads 1 no_script (lines_before bytes))) ≡ Ok s
+        → cond within (with_lines threads 1 no_script (text_lines bytes)) (too_long (length (lines_before bytes)) (with_lines threads 1 no_script (lines_before bytes))) ≡ Ok s
         → IsOrderly s
-    by_length true is = lines_keep threads 1 no_script s (lines_of bytes) (omega arith) none_yet is
+    by_length true is = lines_keep threads 1 no_script s (text_lines bytes) (omega arith) none_yet is
     by_length false is = absurd (never_too_long (length (lines_before bytes)) (with_lines threads 1 no_script (lines_before bytes)) s is)

@@ -12,17 +12,17 @@ use Rattle.rbd_kinds.specs.Instances.{same_instance}
 use Rattle.rbd_machine.specs.Label.{Label}
 use Rattle.rbd_machine.specs.Path.{at_operation}
 use Rattle.rbd_machine.specs.Plan.{Plan, Ask, Await, Note, Return, Goto, Standing}
-use Rattle.rbd_owner.specs.Acquire.{op_of}
-use Rattle.rbd_owner.specs.Release.{release_op}
-use Rattle.rbd_session.specs.Advance.{track_of}
-use Rattle.rbd_session.specs.Session.{held_in}
-use Rattle.rbd_session.specs.Waits.{waits}
-use Rattle.rbd_session.specs.declared.running.Occupant.{Occupant}
-use Rattle.rbd_session.specs.declared.running.Occupant.TheVariants as occupant
-use Rattle.rbd_session.specs.declared.running.Running.{Running}
+use Rattle.rbd_lock.specs.Acquire.{op_of}
+use Rattle.rbd_lock.specs.Release.{release_op}
+use Rattle.rbd_slots.specs.Advance.{track_of}
+use Rattle.rbd_slots.specs.Session.{held_in}
+use Rattle.rbd_slots.specs.Waits.{waits}
+use Rattle.rbd_slots.specs.declared.running.Occupant.{Occupant}
+use Rattle.rbd_slots.specs.declared.running.Occupant.TheVariants as occupant
+use Rattle.rbd_slots.specs.declared.running.Running.{Running}
 use Rattle.rbd_site.specs.Log.{SiteLog}
 use Rattle.rbd_site.specs.Step.{answer_to}
-use Rattle.rbd_watch.specs.Posting.{numbered}
+use Rattle.rbd_watch.specs.Posting.{notice_numbered}
 use Rattle.rbd_watch.specs.Watching.{oldest_of}
 use Rattle.rbd_world.specs.declared.event.Event.{Event}
 use Rattle.rbd_world.specs.declared.event.Event.TheVariants as event
@@ -120,7 +120,7 @@ module _ {R : Type 0} (stands : R → Standing) where
   pub event_begins : (line : ℕ) (e : Event) (w : WorldView R) → IsNoStart e → is_begun line (entries_of (happening stands e w)) ≡ false
   event_begins line (event.Submit session number command) w none = absurd none
   event_begins line (event.Poll session slot) w none = poll_begins line w.sites slot (client_in session w.lives)
-  event_begins line (event.Deliver number) w none = delivery_begins line w.lives (numbered number w.sites.mail)
+  event_begins line (event.Deliver number) w none = delivery_begins line w.lives (notice_numbered number w.sites.mail)
   event_begins line (event.Expire session s image) w none = watch_begins line (site_in s w.sites) s image (oldest_of session ((records_in s w.sites).watchers image))
   event_begins line (event.Stop session) w none = stop_begins line (client_in session w.lives)
   event_begins line (event.Late session slot) w none = late_begins line w.sites slot (late_at session slot w.lives)

@@ -16,19 +16,19 @@ use Rattle.rbd_script.specs.declared.script.Declared.{Declared}
 use Rattle.rbd_script.specs.declared.script.Said.{Said}
 use Rattle.rbd_script.specs.declared.script.Said.TheVariants as said
 use Rattle.rbd_script.specs.declared.script.Script.{Script}
-use Rattle.rbd_locks.specs.Locks.{state_at}
-use Rattle.rbd_line.specs.Line.{any_past}
-use Rattle.rbd_session.specs.Lines.{lines_of}
-use Rattle.rbd_session.specs.Session.{SessionView, held_in, script_line}
-use Rattle.rbd_session.specs.declared.running.Occupant.{Occupant}
+use Rattle.rbd_lock.specs.Locks.{lock_state_at}
+use Rattle.rbd_queue.specs.Line.{any_past}
+use Rattle.rbd_slots.specs.Lines.{lines_of}
+use Rattle.rbd_slots.specs.Session.{SessionView, held_in, script_line}
+use Rattle.rbd_slots.specs.declared.running.Occupant.{Occupant}
 use Rattle.rbd_world.specs.declared.event.Event.{Event}
 use Rattle.rbd_world.specs.declared.event.Outcome.{Outcome}
-use Rattle.rbd_world.specs.Run.{Asked, Doer, Itself, OnWay, House, AfterStop, Happening, Nothing, Waited, Began, Did, Refused, Trimmed, Expired, Heard, Stopped, Restarted, asked_by, cause_of, ending_entries, ends, entries_of, fence_of, history_of, is_among, is_for}
+use Rattle.rbd_world.specs.Run.{Asked, Doer, Itself, OnWay, House, AfterStop, Happening, Nothing, Waited, Began, Did, Refused, Trimmed, Expired, Heard, Stopped, Restarted, asked_by, cause_of, ending_entries, ends, entries_of, fence_of, history_of, is_line_among, is_for}
 use Rattle.rbd_world.specs.Sound.{IsAtHome, IsInSlot, IsSoundWorld, has_ended, held_of, line_at}
-use Rattle.rbd_world.specs.Step.{Does, IsStep, LivesOnIf, happening, is_begun, names_session}
-use Rattle.rbd_world.specs.World.{LivesView, WorldView, client_in, free_in, lives_in, running_of, session_of}
+use Rattle.rbd_world.specs.Step.{Does, IsWorldStep, LivesOnIf, happening, is_begun, names_session}
+use Rattle.rbd_world.specs.World.{LivesView, WorldView, client_in, free_in, lives_in, running_of, session_of_client}
 use Rattle.rbd_world.proofs.Runs.{begun_is_asked}
-use Rattle.rbd_session.proofs.Sound.{held_range}
+use Rattle.rbd_slots.proofs.Sound.{held_range}
 use Rattle.rbd_schedule.specs.declared.given.Given.{Given}
 use Rattle.rbd_schedule.specs.Deeds.{Deeds}
 use Rattle.rbd_schedule.specs.Ends.{AreOver, HasCalmed, IsStuck, IsStuckIn, SomebodyIsHeldUp}
@@ -64,7 +64,7 @@ ended_entries line (OnWay other) reply = ap (λ b. b || false) (eqb_flip line ot
 ended_entries line House reply = refl
 ended_entries line (AfterStop slot) reply = refl
 
-lost_entries : (line : ℕ) (lost : List ℕ) → is_ended line (map entry.Lost lost) ≡ is_among line lost
+lost_entries : (line : ℕ) (lost : List ℕ) → is_ended line (map entry.Lost lost) ≡ is_line_among line lost
 lost_entries line [] = refl
 lost_entries line (other ∷ lost) = ap (λ b. b || is_ended line (map entry.Lost lost)) (eqb_flip line other) ∙ ap (λ b. (other == line) || b) (lost_entries line lost)
 
@@ -117,7 +117,7 @@ module _ {R : Type 0} (stands : R → Standing) where
   same_there e h old new does s true named = there_stays e h (lives_in s old.lives) (lives_in s new.lives) (does.named s named)
   same_there e h old new does s false other = ap is_some (does.others s other)
 
-  sessions_stay : (n : ℕ) (e : Event) (result : Outcome) (old new : WorldView R) → IsStep stands e old result new → AreSessions n old → AreSessions n new
+  sessions_stay : (n : ℕ) (e : Event) (result : Outcome) (old new : WorldView R) → IsWorldStep stands e old result new → AreSessions n old → AreSessions n new
   sessions_stay n e result old new (is, does) are =
       let h = happening stands e old in
       record {
@@ -203,7 +203,7 @@ module _ {R : Type 0} (stands : R → Standing) (script : Script) (w : WorldView
       slot_of c runs None held at = absurd (none-some line at)
       slot_of c runs (Some o) held at = record { client = c; runs = runs; occupant = o; held = held }
 
-      by : (o : Option (ClientView R)) → client_in session w.lives ≡ o → script_line (held_of slot (session_of o)) ≡ Some line → IsHolder session slot line
+      by : (o : Option (ClientView R)) → client_in session w.lives ≡ o → script_line (held_of slot (session_of_client o)) ≡ Some line → IsHolder session slot line
       by None runs at = absurd (none-some line at)
       by (Some c) runs at = slot_of c runs (held_in slot c.session.slots) refl at
 
@@ -214,7 +214,7 @@ module _ {R : Type 0} (stands : R → Standing) (script : Script) (w : WorldView
     quiet_all : AllQuiet w
     quiet_all s c is site image asked = by (keeps s (who_runs_below s c is) c is site image asked)
       where
-        by : ((state_at site image c.locks).quiesced ≡ true) ⊎ ((any_past (lines_of c.session.lines site image) ≡ true) ⊎ HasTaken c) → (state_at site image c.locks).quiesced ≡ true
+        by : ((lock_state_at site image c.locks).quiesced ≡ true) ⊎ ((any_past (lines_of c.session.lines site image) ≡ true) ⊎ HasTaken c) → (lock_state_at site image c.locks).quiesced ≡ true
         by (inl quiesced) = quiesced
         by (inr (inl past)) = absurd (false≢true (sym (none_past stands c (sound_there s c is) (still s c is) site image) ∙ past))
         by (inr (inr it)) = absurd (none_taken stands c (sound_there s c is) (still s c is) it.slot it.image it.taken)
@@ -268,7 +268,7 @@ module _ {R : Type 0} (stands : R → Standing) (script : Script) (w : WorldView
       room_there s c is =
           let sound = (sound_there s c is).session in
           let free : held_in 1 c.session.slots ≡ None
-          = free_there (held_in 1 c.session.slots) (sym (ap (λ x. script_line (held_of 1 (session_of x))) is) ∙ nobody s (who_runs_below s c is) 1 (omega arith)) in
+          = free_there (held_in 1 c.session.slots) (sym (ap (λ x. script_line (held_of 1 (session_of_client x))) is) ∙ nobody s (who_runs_below s c is) 1 (omega arith)) in
           let least : c.session.lowest ≡ 1 = only_one c.session.lowest sound.lowest.some (λ more. false≢true (sym (ap is_some free) ∙ sound.lowest.below 1 (omega arith) more)) in
           ap (λ x. is_some (free_in x)) is ∙ ap (λ n. is_some (cond (nat_lt 64 n) None (Some n))) least
         where
@@ -388,9 +388,9 @@ module _ {R : Type 0} (stands : R → Standing) (script : Script) (w : WorldView
   own_before before same s c there = by (client_in s w.lives) refl
     where
       by : (o : Option (ClientView R)) → client_in s w.lives ≡ o → c.session.instance.session ≡ s
-      by None at = absurd (none-some c.session (sym (ap session_of at) ∙ same s ∙ ap session_of there))
+      by None at = absurd (none-some c.session (sym (ap session_of_client at) ∙ same s ∙ ap session_of_client there))
       by (Some x) at =
-          let one : c.session ≡ x.session = same_Some c.session x.session (sym (ap session_of there) ∙ sym (same s) ∙ ap session_of at) in
+          let one : c.session ≡ x.session = same_Some c.session x.session (sym (ap session_of_client there) ∙ sym (same s) ∙ ap session_of_client at) in
           ap (λ (y : SessionView R). y.instance.session) one ∙ (world.clients s x at).whose
 
   round_calms : ((s : ℕ) (c : ClientView R) → client_in s w.lives ≡ Some c → WaysAreShown stands (is_lost_by script.lines) w c) → (before : WorldView R) → Round stands given lost count false before w → IsQuiet given before → HasCalmed stands script w

@@ -3,16 +3,16 @@ use Rattle.std.proofs.Common.{◌≡◌, ℕ, ◌==◌, ◌⊎◌, inl, inr, con
 use Rattle.std.proofs.lemmas.Bool.{false≢true}
 use Rattle.rbd_client.specs.declared.actor.Actor.TheVariants as actor
 use Rattle.rbd_client.specs.declared.slot_state.SlotState.{SlotState}
-use Rattle.rbd_client.specs.Actor.{actor_at, actor_at_look, actor_on, due_release, is_acquiring, releasing}
+use Rattle.rbd_client.specs.Actor.{actor_at, actor_at_look, actor_on, due_release, is_acquiring, release_actor}
 use Rattle.rbd_client.specs.Client.{ClientView}
 use Rattle.rbd_client.specs.Sound.{IsSoundClient}
 use Rattle.rbd_kinds.specs.declared.id.SiteId.{SiteId}
 use Rattle.rbd_kinds.specs.declared.image_at.ImageAt.{ImageAt}
 use Rattle.rbd_machine.specs.Plan.{Standing}
-use Rattle.rbd_owner.specs.declared.acquire.Acquire.{Acquire}
-use Rattle.rbd_owner.specs.declared.release.Release.{Release}
-use Rattle.rbd_session.specs.Session.{going_in, held_in, own_look_in}
-use Rattle.rbd_session.specs.declared.running.Occupant.{Occupant}
+use Rattle.rbd_lock.specs.declared.acquire.Acquire.{Acquire}
+use Rattle.rbd_lock.specs.declared.release.Release.{Release}
+use Rattle.rbd_slots.specs.Session.{going_in, held_in, look_under_lock_in}
+use Rattle.rbd_slots.specs.declared.running.Occupant.{Occupant}
 use Rattle.rbd_world.specs.declared.event.Event.{Event}
 use Rattle.rbd_world.specs.Run.{Happening}
 use Rattle.rbd_world.specs.Step.{Does, LivesOnIf, RunsOn, names_session}
@@ -36,20 +36,20 @@ module _ {R : Type 0} (stands : R → Standing) where
 
   -- ---- at a slot that is free
 
-  release_acquires : (r : Option Release) (due : Option ImageAt) → is_acquiring (releasing r due) ≡ false
+  release_acquires : (r : Option Release) (due : Option ImageAt) → is_acquiring (release_actor r due) ≡ false
   release_acquires (Some r) due = refl
   release_acquires None (Some p) = refl
   release_acquires None None = refl
 
-  nobody_acquires : (b : Bool) (r : Option Release) (due : Option ImageAt) → is_acquiring (cond b (releasing r due) actor.Request) ≡ false
+  nobody_acquires : (b : Bool) (r : Option Release) (due : Option ImageAt) → is_acquiring (cond b (release_actor r due) actor.Request) ≡ false
   nobody_acquires true r due = release_acquires r due
   nobody_acquires false r due = refl
 
   free_actor : (c : ClientView R) (slot : ℕ) → IsSoundClient stands c → held_in slot c.session.slots ≡ None
-      → actor_at stands slot c ≡ cond (slot == 0) (releasing c.release (due_release c)) actor.Request
+      → actor_at stands slot c ≡ cond (slot == 0) (release_actor c.release (due_release c)) actor.Request
   free_actor c slot sound none =
-      ap (λ (s : SlotState). cond (slot == 0) (releasing c.release (due_release c)) (actor_on s.way (own_look_in stands slot c.session.lines (going_in slot (held_in slot c.session.slots) c.session.lines)) c.locks)) (sound.free slot none)
-      ∙ ap (λ (o : Option (Occupant R)). cond (slot == 0) (releasing c.release (due_release c)) (actor_at_look (own_look_in stands slot c.session.lines (going_in slot o c.session.lines)) c.locks)) none
+      ap (λ (s : SlotState). cond (slot == 0) (release_actor c.release (due_release c)) (actor_on s.way (look_under_lock_in stands slot c.session.lines (going_in slot (held_in slot c.session.slots) c.session.lines)) c.locks)) (sound.free slot none)
+      ∙ ap (λ (o : Option (Occupant R)). cond (slot == 0) (release_actor c.release (due_release c)) (actor_at_look (look_under_lock_in stands slot c.session.lines (going_in slot o c.session.lines)) c.locks)) none
 
   -- no request is on its way there
   pub no_way : (c : ClientView R) (slot : ℕ) → IsSoundClient stands c → held_in slot c.session.slots ≡ None → (a : Acquire) → actor_at stands slot c ≡ actor.Way a → ⊥

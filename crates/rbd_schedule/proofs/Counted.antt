@@ -1,5 +1,5 @@
--- The rounds that close a script are no more than the events of its play, and eight: in each round in
--- which a session runs there is an event, and where none runs eight rounds are the last.
+-- The rounds that close a script are no more than the events of its play, and eight: in each round
+-- in which a session runs there is an event, and where none runs eight rounds are the last.
 use Rattle.std.proofs.Common.{◌≡◌, ◌⊎◌, inl, inr, ℕ, zero, suc, ◌+◌, ◌*◌, ◌<◌, ◌≤◌, ◌^◌, cond, Bool, true, false, List, length, refl, sym, ap, ◌∙◌, subst, arith}
 use Rattle.std.proofs.lemmas.Bool.{cases_lt}
 use Rattle.std.proofs.lemmas.List.{length_push}
@@ -8,15 +8,15 @@ use Rattle.rbd_script.specs.declared.script.Script.{Script}
 use Rattle.rbd_world.specs.declared.event.Event.{Event}
 use Rattle.rbd_world.specs.declared.event.Event.TheVariants as event
 use Rattle.rbd_world.specs.declared.event.Outcome.{Outcome}
-use Rattle.rbd_world.specs.Step.{IsStep, call_of, happening}
+use Rattle.rbd_world.specs.Step.{IsWorldStep, call_of, happening}
 use Rattle.rbd_world.specs.World.{WorldView}
 use Rattle.rbd_schedule.specs.declared.given.Given.{Given}
 use Rattle.rbd_schedule.specs.Deeds.{Deeds}
 use Rattle.rbd_schedule.specs.Given.{commands_of, given_in, is_lost_by}
-use Rattle.rbd_schedule.specs.Notices.{is_due, runs}
+use Rattle.rbd_schedule.specs.Notices.{is_notice_due, runs}
 use Rattle.rbd_schedule.specs.Playing.{IsPlay}
 use Rattle.rbd_schedule.specs.Schedule.{Calm, DeliversWhere, Pace, PollsIn, PollsWhere, RoundsOn, Submits, Turn, TurnOf, TurnWhere, closing_rounds, is_held, most_idle}
-use Rattle.rbd_schedule.specs.Slots.{AreCounted}
+use Rattle.rbd_schedule.specs.Slots.{AreClientsCounted}
 use Rattle.rbd_schedule.proofs.Ended.{NoneRuns, skip_turns}
 use Rattle.rbd_schedule.proofs.Kept.{kept_by_deeds, kept_by_starts, kept_where, kept_where_due, kept_where_runs}
 
@@ -26,12 +26,12 @@ HasMade n w = n ≤ length w.calls
 
 module _ {R : Type 0} (stands : R → Standing) (given : (session : ℕ) → List Given) (lost : (number : ℕ) → Bool) where
   -- each event is one more
-  one_event : (n : ℕ) (e : Event) (result : Outcome) (old new : WorldView R) → IsStep stands e old result new → HasMade n old → HasMade (suc n) new
+  one_event : (n : ℕ) (e : Event) (result : Outcome) (old new : WorldView R) → IsWorldStep stands e old result new → HasMade n old → HasMade (suc n) new
   one_event n e result old new (is, does) made =
       let more = length_push old.calls (call_of e (happening stands e old)) in
       subst (λ calls. suc n ≤ length calls) (sym does.calls) (omega (arith, more, made))
 
-  keeps : (n : ℕ) (e : Event) (result : Outcome) (old new : WorldView R) → Unit {0} → IsStep stands e old result new → AreCounted new → HasMade n old → HasMade n new
+  keeps : (n : ℕ) (e : Event) (result : Outcome) (old new : WorldView R) → Unit {0} → IsWorldStep stands e old result new → AreClientsCounted new → HasMade n old → HasMade n new
   keeps n e result old new may step counted made = let more = one_event n e result old new step made in omega (arith, more)
 
   starts_keep : (n session : ℕ) (old new : WorldView R) → Submits stands given session old new → HasMade n old → HasMade n new
@@ -46,8 +46,8 @@ module _ {R : Type 0} (stands : R → Standing) (given : (session : ℕ) → Lis
   -- so does the turn of a session that runs
   turn_makes : (n session : ℕ) (old new : Pace R) → Turn stands given lost session old new → HasMade n old.world → HasMade (suc n) new.world
   turn_makes n session old new turn made =
-      let told = kept_by_deeds (HasMade n) (λ k. DeliversWhere stands given (is_due lost session (k + 1) old.world) (k + 1))
-      (λ k. kept_where_due stands (HasMade n) (λ e. Unit {0}) (λ s i. tt) (λ i. tt) (keeps n) given (starts_keep n) (is_due lost session (k + 1) old.world) (k + 1))
+      let told = kept_by_deeds (HasMade n) (λ k. DeliversWhere stands given (is_notice_due lost session (k + 1) old.world) (k + 1))
+      (λ k. kept_where_due stands (HasMade n) (λ e. Unit {0}) (λ s i. tt) (λ i. tt) (keeps n) given (starts_keep n) (is_notice_due lost session (k + 1) old.world) (k + 1))
       (length old.world.sites.mail) old.world turn.told turn.notices made in
       kept_by_deeds (λ (p : Pace R). HasMade (suc n) p.world) (λ k. PollsWhere stands given (is_held session (k + 1) turn.polls.point.world) session (k + 1))
       (λ k. kept_where stands (HasMade (suc n)) (λ e. Unit {0}) (λ s i. tt) (λ i. tt) (keeps (suc n)) given (starts_keep (suc n)) (is_held session (k + 1) turn.polls.point.world) session (k + 1))

@@ -9,19 +9,19 @@ use Rattle.rbd_commands.specs.declared.command.Command.{Command}
 use Rattle.rbd_kinds.specs.declared.notice.Notice.{Notice}
 use Rattle.rbd_kinds.specs.Instances.{same_instance}
 use Rattle.rbd_machine.specs.Plan.{Standing}
-use Rattle.rbd_watch.specs.Posting.{numbered}
+use Rattle.rbd_watch.specs.Posting.{notice_numbered}
 use Rattle.rbd_world.specs.declared.event.Event.TheVariants as event
 use Rattle.rbd_world.specs.declared.event.Outcome.{Outcome}
 use Rattle.rbd_world.specs.declared.sites.Sites.{Sites}
 use Rattle.rbd_world.specs.Run.{Nothing, Began, Heard}
-use Rattle.rbd_world.specs.Step.{BecomesOf, IsStep, begins_of, delivered, heard_by, is_begun, mail_then, submitted}
+use Rattle.rbd_world.specs.Step.{BecomesOf, IsWorldStep, begins_of, delivered, heard_by, is_begun, mail_then, submitted}
 use Rattle.rbd_world.specs.World.{LivesView, WorldView, client_in}
 use Rattle.rbd_schedule.specs.declared.given.Given.{Given}
 use Rattle.rbd_schedule.specs.declared.queue.Queue.{Queue}
 use Rattle.rbd_schedule.specs.declared.runner.Runner.{Runner}
 use Rattle.rbd_schedule.specs.Deeds.{Deeds}
-use Rattle.rbd_schedule.specs.Notices.{hears, is_due, is_heard, is_to, was_heard}
-use Rattle.rbd_schedule.specs.Playing.{IsGiven, KeepsUp, commands_in, given_to}
+use Rattle.rbd_schedule.specs.Notices.{hears, is_notice_due, is_heard, is_to, was_heard}
+use Rattle.rbd_schedule.specs.Playing.{IsGivenCommand, KeepsUp, commands_in, given_to}
 use Rattle.rbd_schedule.specs.Schedule.{DeliversWhere, Starts}
 use Rattle.rbd_schedule.proofs.Above.{submitted_then}
 use Rattle.rbd_schedule.proofs.Entries.{start_is_earliest}
@@ -73,17 +73,17 @@ module _ {R : Type 0} (stands : R → Standing) where
   delivered_mail (Some n) lives sites = heard_mail n (client_in n.to.session lives) sites
 
   due_along : (lost : (number : ℕ) → Bool) (session number : ℕ) (old new : WorldView R) → IsSameLife (client_in session old.lives) (client_in session new.lives) → new.sites.mail ≡ old.sites.mail
-      → was_heard number new.calls ≡ was_heard number old.calls → is_due lost session number new ≡ is_due lost session number old
+      → was_heard number new.calls ≡ was_heard number old.calls → is_notice_due lost session number new ≡ is_notice_due lost session number old
   due_along lost session number old new life mail heard =
-      ap (λ m. is_to (client_in session new.lives) (numbered number m) && (not (was_heard number new.calls) && not (lost number))) mail
-      ∙ ap (λ b. is_to (client_in session new.lives) (numbered number old.sites.mail) && (not b && not (lost number))) heard
-      ∙ ap (λ b. b && (not (was_heard number old.calls) && not (lost number))) (to_same (client_in session old.lives) (client_in session new.lives) (numbered number old.sites.mail) life)
+      ap (λ m. is_to (client_in session new.lives) (notice_numbered number m) && (not (was_heard number new.calls) && not (lost number))) mail
+      ∙ ap (λ b. is_to (client_in session new.lives) (notice_numbered number old.sites.mail) && (not b && not (lost number))) heard
+      ∙ ap (λ b. b && (not (was_heard number old.calls) && not (lost number))) (to_same (client_in session old.lives) (client_in session new.lives) (notice_numbered number old.sites.mail) life)
 
-  due_by_delivery : (lost : (number : ℕ) → Bool) (session number other : ℕ) (old new : WorldView R) (result : Outcome) → other ≢ number → IsStep stands (event.Deliver number) old result new
-      → is_due lost session other new ≡ is_due lost session other old
+  due_by_delivery : (lost : (number : ℕ) → Bool) (session number other : ℕ) (old new : WorldView R) (result : Outcome) → other ≢ number → IsWorldStep stands (event.Deliver number) old result new
+      → is_notice_due lost session other new ≡ is_notice_due lost session other old
   due_by_delivery lost session number other old new result away step =
       due_along lost session other old new (heard_life (client_in session old.lives) (client_in session new.lives) (delivery_leaves stands number old new result step session))
-      (step.1.mail ∙ delivered_mail (numbered number old.sites.mail) old.lives old.sites)
+      (step.1.mail ∙ delivered_mail (notice_numbered number old.sites.mail) old.lives old.sites)
       (heard_then stands (event.Deliver number) result old new step other
       ∙ ap (λ b. was_heard other old.calls || (b && is_heard result)) (ne_eqb number other (λ same. away (sym same))) ∙ or-false (was_heard other old.calls))
 
@@ -106,8 +106,8 @@ module _ {R : Type 0} (stands : R → Standing) where
       by true = refl
       by false = refl
 
-  due_by_submission : (lost : (number : ℕ) → Bool) (session number named line : ℕ) (command : Command) (old new : WorldView R) (result : Outcome) → IsStep stands (event.Submit named line command) old result new
-      → is_due lost session number new ≡ is_due lost session number old
+  due_by_submission : (lost : (number : ℕ) → Bool) (session number named line : ℕ) (command : Command) (old new : WorldView R) (result : Outcome) → IsWorldStep stands (event.Submit named line command) old result new
+      → is_notice_due lost session number new ≡ is_notice_due lost session number old
   due_by_submission lost session number named line command old new result step =
       due_along lost session number old new (by (submitted_then stands named line command old new result step session))
       (step.1.mail ∙ submitted_mail (is_begun line old.history) line command (client_in named old.lives) old.sites)
@@ -119,27 +119,27 @@ module _ {R : Type 0} (stands : R → Standing) where
       by (inl same) = same_life (client_in session old.lives) (client_in session new.lives) same
       by (inr (at, becomes)) = submitted_life named line command (is_begun line old.history) (client_in session old.lives) (client_in session new.lives) becomes
 
-  module _ (given : (session : ℕ) → List Given) (all : (session : ℕ) → All (IsGiven session) (given session)) (lost : (number : ℕ) → Bool) (session number : ℕ) where
-    due_by_start : (old new : WorldView R) → Starts stands given old new → is_due lost session number new ≡ is_due lost session number old
+  module _ (given : (session : ℕ) → List Given) (all : (session : ℕ) → All (IsGivenCommand session) (given session)) (lost : (number : ℕ) → Bool) (session number : ℕ) where
+    due_by_start : (old new : WorldView R) → Starts stands given old new → is_notice_due lost session number new ≡ is_notice_due lost session number old
     due_by_start old new starts =
         let c = starts.submits.command in
-        let it = earliest_is_given (IsGiven starts.session) _ _ true (given starts.session) c (all starts.session) (start_is_earliest (given starts.session) old starts.session c starts.submits.may) in
-        due_by_submission lost session number starts.session c.line it.command old new starts.submits.result (subst (λ e. IsStep stands e old starts.submits.result new) it.submission starts.submits.step)
+        let it = earliest_is_given (IsGivenCommand starts.session) _ _ true (given starts.session) c (all starts.session) (start_is_earliest (given starts.session) old starts.session c starts.submits.may) in
+        due_by_submission lost session number starts.session c.line it.command old new starts.submits.result (subst (λ e. IsWorldStep stands e old starts.submits.result new) it.submission starts.submits.step)
 
-    due_by_starts : (count : ℕ) (old new : WorldView R) → Deeds (λ k. Starts stands given) count old new → is_due lost session number new ≡ is_due lost session number old
+    due_by_starts : (count : ℕ) (old new : WorldView R) → Deeds (λ k. Starts stands given) count old new → is_notice_due lost session number new ≡ is_notice_due lost session number old
     unfolding Deeds
-    due_by_starts zero old new done = ap (is_due lost session number) done
+    due_by_starts zero old new done = ap (is_notice_due lost session number) done
     due_by_starts (suc n) old new (between, before, it) = due_by_start between new it ∙ due_by_starts n old between before
 
-    pub due_stays : (due : Bool) (told : ℕ) (old new : WorldView R) → number ≢ told → DeliversWhere stands given due told old new → is_due lost session number new ≡ is_due lost session number old
+    pub due_stays : (due : Bool) (told : ℕ) (old new : WorldView R) → number ≢ told → DeliversWhere stands given due told old new → is_notice_due lost session number new ≡ is_notice_due lost session number old
     due_stays true told old new away happens =
         due_by_starts happens.comes.starts.count happens.comes.between new happens.comes.starts.starts ∙ due_by_delivery lost session told number old happens.comes.between happens.result away happens.comes.step
-    due_stays false told old new away same = ap (is_due lost session number) same
+    due_stays false told old new away same = ap (is_notice_due lost session number) same
 
 -- the commands of a runner are such
-pub given_all : (r : Runner) → KeepsUp r → (session : ℕ) → All (IsGiven session) (given_to r session)
+pub given_all : (r : Runner) → KeepsUp r → (session : ℕ) → All (IsGivenCommand session) (given_to r session)
 given_all r keeps session = by (slice_get r.queues.items session) refl
   where
-    by : (o : Option Queue) → slice_get r.queues.items session ≡ o → All (IsGiven session) (commands_in o)
-    by None e = All-nil (IsGiven session)
+    by : (o : Option Queue) → slice_get r.queues.items session ≡ o → All (IsGivenCommand session) (commands_in o)
+    by None e = All-nil (IsGivenCommand session)
     by (Some q) e = (keeps.queues session q e).given

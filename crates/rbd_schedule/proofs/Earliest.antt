@@ -5,7 +5,7 @@ use Rattle.std.proofs.lemmas.Option.{none-some, same_Some, slice_get-get_or}
 use Rattle.std.proofs.lemmas.List.Elements.{All-head, All-same, All-tail, All-weaker}
 use Rattle.std.proofs.lemmas.List.{append-nil}
 use Rattle.rbd_schedule.specs.declared.given.Given.{Given}
-use Rattle.rbd_schedule.specs.Playing.{is_beside, is_over}
+use Rattle.rbd_schedule.specs.Playing.{may_start_beside, is_over}
 use Rattle.rbd_schedule.specs.Starts.{earliest}
 
 module _ (b a : (line : ℕ) → Bool) where
@@ -19,7 +19,7 @@ module _ (b a : (line : ℕ) → Bool) where
       by true false is = absurd (false≢true is)
       by false q is = absurd (false≢true is)
 
-  none_first : (c : Given) (given : List Given) → is_beside b c ≡ false → earliest b a false (c ∷ given) ≡ earliest b a false given
+  none_first : (c : Given) (given : List Given) → may_start_beside b c ≡ false → earliest b a false (c ∷ given) ≡ earliest b a false given
   none_first c given = by (b c.line) c.beside
     where
       by : (p q : Bool) → (q && not p) ≡ false → cond (not p && (q || false)) (Some c) (earliest b a false given) ≡ earliest b a false given
@@ -45,7 +45,7 @@ module _ (b a : (line : ℕ) → Bool) where
       by true false closed begun = refl
       by false q closed begun = absurd (false≢true begun)
 
-  beside_first : (c : Given) (given : List Given) → is_beside b c ≡ true → earliest b a false (c ∷ given) ≡ Some c
+  beside_first : (c : Given) (given : List Given) → may_start_beside b c ≡ true → earliest b a false (c ∷ given) ≡ Some c
   beside_first c given = by (b c.line) c.beside
     where
       by : (p q : Bool) → (q && not p) ≡ true → cond (not p && (q || false)) (Some c) (earliest b a false given) ≡ Some c
@@ -60,12 +60,12 @@ module _ (b a : (line : ℕ) → Bool) where
   over_all [] ys over = refl
   over_all (c ∷ xs) ys over = over_first c (xs ++ ys) (All-head (λ c. is_over b a c ≡ true) c xs over) ∙ over_all xs ys (All-tail (λ c. is_over b a c ≡ true) c xs over)
 
-  none_all : (xs ys : List Given) → All (λ c. is_beside b c ≡ false) xs → earliest b a false (xs ++ ys) ≡ earliest b a false ys
+  none_all : (xs ys : List Given) → All (λ c. may_start_beside b c ≡ false) xs → earliest b a false (xs ++ ys) ≡ earliest b a false ys
   none_all [] ys none = refl
-  none_all (c ∷ xs) ys none = none_first c (xs ++ ys) (All-head (λ c. is_beside b c ≡ false) c xs none) ∙ none_all xs ys (All-tail (λ c. is_beside b c ≡ false) c xs none)
+  none_all (c ∷ xs) ys none = none_first c (xs ++ ys) (All-head (λ c. may_start_beside b c ≡ false) c xs none) ∙ none_all xs ys (All-tail (λ c. may_start_beside b c ≡ false) c xs none)
 
   -- a command that is over was begun, so none that is starts beside the others
-  begun_none : (c : Given) → b c.line ≡ true → is_beside b c ≡ false
+  begun_none : (c : Given) → b c.line ≡ true → may_start_beside b c ≡ false
   begun_none c = by (b c.line) c.beside
     where
       by : (p q : Bool) → p ≡ true → (q && not p) ≡ false
@@ -73,7 +73,7 @@ module _ (b a : (line : ℕ) → Bool) where
       by true false is = refl
       by false q is = absurd (false≢true is)
 
-  over_none : (c : Given) → is_over b a c ≡ true → is_beside b c ≡ false
+  over_none : (c : Given) → is_over b a c ≡ true → may_start_beside b c ≡ false
   over_none c = by (b c.line) (a c.line) c.beside
     where
       by : (p q r : Bool) → (p && q) ≡ true → (r && not p) ≡ false
@@ -81,8 +81,8 @@ module _ (b a : (line : ℕ) → Bool) where
       by true q false is = refl
       by false q r is = absurd (false≢true is)
 
-  over_nones : (xs : List Given) → All (λ c. is_over b a c ≡ true) xs → All (λ c. is_beside b c ≡ false) xs
-  over_nones xs over = All-weaker (λ c. is_over b a c ≡ true) (λ c. is_beside b c ≡ false) over_none xs over
+  over_nones : (xs : List Given) → All (λ c. is_over b a c ≡ true) xs → All (λ c. may_start_beside b c ≡ false) xs
+  over_nones xs over = All-weaker (λ c. is_over b a c ≡ true) (λ c. may_start_beside b c ≡ false) over_none xs over
 
   -- ---- at a place of the list
 
@@ -115,13 +115,13 @@ module _ (b a : (line : ℕ) → Bool) where
       ap (earliest b a true) (cut_at n xs c is) ∙ over_all (take n xs) (c ∷ drop (suc n) xs) over ∙ open_first c (drop (suc n) xs) unanswered begun
       ∙ sym (ap (earliest b a false) (cut_at n xs c is) ∙ none_all (take n xs) (c ∷ drop (suc n) xs) (over_nones (take n xs) over) ∙ none_first c (drop (suc n) xs) (begun_none c begun))
 
-  pub earliest_beside : (n : ℕ) (xs : List Given) (c : Given) → All (λ x. is_beside b x ≡ false) (take n xs) → slice_get xs n ≡ Some c → is_beside b c ≡ true → earliest b a false xs ≡ Some c
+  pub earliest_beside : (n : ℕ) (xs : List Given) (c : Given) → All (λ x. may_start_beside b x ≡ false) (take n xs) → slice_get xs n ≡ Some c → may_start_beside b c ≡ true → earliest b a false xs ≡ Some c
   earliest_beside n xs c none is beside =
       ap (earliest b a false) (cut_at n xs c is) ∙ none_all (take n xs) (c ∷ drop (suc n) xs) none ∙ beside_first c (drop (suc n) xs) beside
 
-  pub none_beside : (n : ℕ) (xs : List Given) → All (λ x. is_beside b x ≡ false) (take n xs) → slice_get xs n ≡ None → earliest b a false xs ≡ None
+  pub none_beside : (n : ℕ) (xs : List Given) → All (λ x. may_start_beside b x ≡ false) (take n xs) → slice_get xs n ≡ None → earliest b a false xs ≡ None
   none_beside n xs none end =
-      ap (earliest b a false) (sym (append-nil xs)) ∙ none_all xs [] (All-same (λ c. is_beside b c ≡ false) xs (take n xs) (sym (past_end n xs end)) none)
+      ap (earliest b a false) (sym (append-nil xs)) ∙ none_all xs [] (All-same (λ c. may_start_beside b c ≡ false) xs (take n xs) (sym (past_end n xs end)) none)
 
 -- what stands at a place of a list that is this one
 pub found_there : (ys xs : List Given) (n : ℕ) (x : Given) → ys ≡ xs → true ≡ nat_lt n (length ys) → x ≡ get_or ys n x → slice_get xs n ≡ Some x

@@ -9,15 +9,15 @@ use Rattle.rbd_kinds.specs.declared.id.Instance.{Instance}
 use Rattle.rbd_kinds.specs.declared.notice.Notice.{Notice}
 use Rattle.rbd_kinds.proofs.Instances.{same_instance_is}
 use Rattle.rbd_machine.specs.Plan.{Standing}
-use Rattle.rbd_session.specs.Session.{SessionView}
-use Rattle.rbd_watch.specs.Posting.{numbered}
+use Rattle.rbd_slots.specs.Session.{SessionView}
+use Rattle.rbd_watch.specs.Posting.{notice_numbered}
 use Rattle.rbd_world.specs.declared.sites.Sites.{Sites}
 use Rattle.rbd_world.specs.Run.{Heard, Nothing}
 use Rattle.rbd_world.specs.Step.{delivered, heard_by, hears_in, mail_then}
-use Rattle.rbd_world.specs.World.{LivesView, WorldView, client_in, running_of, session_of}
+use Rattle.rbd_world.specs.World.{LivesView, WorldView, client_in, running_of, session_of_client}
 use Rattle.rbd_schedule.specs.declared.given.Given.{Given}
 use Rattle.rbd_schedule.specs.Deeds.{Deeds}
-use Rattle.rbd_schedule.specs.Notices.{is_due, is_to, runs}
+use Rattle.rbd_schedule.specs.Notices.{is_notice_due, is_to, runs}
 use Rattle.rbd_schedule.specs.Schedule.{DeliversWhere, Pace, PollsAll, PollsIn, PollsWhere, Round, Starts, TurnOf, TurnWhere, is_held}
 use Rattle.rbd_schedule.specs.Starts.{IsQuiet}
 use Rattle.rbd_schedule.proofs.Ended.{AreSoundSessions, HeldPolls, before_polls, before_turn, before_where, either_way, keeps_dues, keeps_poll, keeps_polls, keeps_turns, no_starts, not_zero, sounds_step, step_of}
@@ -87,11 +87,11 @@ module _ {R : Type 0} (stands : R → Standing) (given : (session : ℕ) → Lis
   abbrev pub AreOfSessions : WorldView R → Type 0
   AreOfSessions w = (s : ℕ) (c : ClientView R) → client_in s w.lives ≡ Some c → c.session.instance.session ≡ s
 
-  due_elsewhere : (lost : (number : ℕ) → Bool) (session number : ℕ) (start old : WorldView R) → AreOfSessions start → old.sites.mail ≡ start.sites.mail → is_due lost session number start ≡ true → (s : ℕ) → s ≢ session
-      → hears_in (delivered (numbered number old.sites.mail) old.lives) s ≡ false
+  due_elsewhere : (lost : (number : ℕ) → Bool) (session number : ℕ) (start old : WorldView R) → AreOfSessions start → old.sites.mail ≡ start.sites.mail → is_notice_due lost session number start ≡ true → (s : ℕ) → s ≢ session
+      → hears_in (delivered (notice_numbered number old.sites.mail) old.lives) s ≡ false
   due_elsewhere lost session number start old own mail due s away =
-      ap (λ m. hears_in (delivered (numbered number m) old.lives) s) mail
-      ∙ by (client_in session start.lives) refl (numbered number start.sites.mail) (and_parts (is_to (client_in session start.lives) (numbered number start.sites.mail)) _ due).0
+      ap (λ m. hears_in (delivered (notice_numbered number m) old.lives) s) mail
+      ∙ by (client_in session start.lives) refl (notice_numbered number start.sites.mail) (and_parts (is_to (client_in session start.lives) (notice_numbered number start.sites.mail)) _ due).0
     where
       by : (o : Option (ClientView R)) → client_in session start.lives ≡ o → (n : Option Notice) → is_to o n ≡ true → hears_in (delivered n old.lives) s ≡ false
       by o at None to = refl
@@ -100,25 +100,25 @@ module _ {R : Type 0} (stands : R → Standing) (given : (session : ℕ) → Lis
           let whose : n.to.session ≡ session = sym (ap (λ (i : Instance). i.session) (same_instance_is c.session.instance n.to to)) ∙ own session c at in
           heard_elsewhere n (client_in n.to.session old.lives) s (ne_eqb n.to.session s (λ is. away (sym is ∙ whose)))
 
-  due_apart : (lost : (number : ℕ) → Bool) (session number : ℕ) (start old new : WorldView R) → AreOfSessions start → old.sites.mail ≡ start.sites.mail → (due : Bool) → is_due lost session number start ≡ due
+  due_apart : (lost : (number : ℕ) → Bool) (session number : ℕ) (start old new : WorldView R) → AreOfSessions start → old.sites.mail ≡ start.sites.mail → (due : Bool) → is_notice_due lost session number start ≡ due
       → DeliversWhere stands given due number old new → IsQuiet given old → (s : ℕ) → s ≢ session → (client_in s new.lives ≡ client_in s old.lives) × (new.sites.mail ≡ start.sites.mail)
   due_apart lost session number start old new own mail false due same quiet s away = (ap (λ (w : WorldView R). client_in s w.lives) same, ap (λ (w : WorldView R). w.sites.mail) same ∙ mail)
   due_apart lost session number start old new own mail true due happens quiet s away =
       let comes = happens.comes in
       let same = settled old comes.between new (Told number happens.result comes.step) comes.starts.count comes.starts.starts quiet in (
         ap (λ (w : WorldView R). client_in s w.lives) same ∙ ap running_of (comes.step.1.others s (due_elsewhere lost session number start old own mail due s away)),
-        ap (λ (w : WorldView R). w.sites.mail) same ∙ comes.step.1.mail ∙ told_mail old.sites (numbered number old.sites.mail) old.lives ∙ mail,
+        ap (λ (w : WorldView R). w.sites.mail) same ∙ comes.step.1.mail ∙ told_mail old.sites (notice_numbered number old.sites.mail) old.lives ∙ mail,
       )
 
   dues_apart : (lost : (number : ℕ) → Bool) (session : ℕ) (start : WorldView R) (n : ℕ) (new : WorldView R) → AreOfSessions start
-      → Deeds (λ k. DeliversWhere stands given (is_due lost session (k + 1) start) (k + 1)) n start new → IsQuiet given start → (s : ℕ) → s ≢ session
+      → Deeds (λ k. DeliversWhere stands given (is_notice_due lost session (k + 1) start) (k + 1)) n start new → IsQuiet given start → (s : ℕ) → s ≢ session
       → (client_in s new.lives ≡ client_in s start.lives) × (new.sites.mail ≡ start.sites.mail)
   unfolding Deeds
   dues_apart lost session start zero new own done quiet s away = (ap (λ (w : WorldView R). client_in s w.lives) done, ap (λ (w : WorldView R). w.sites.mail) done)
   dues_apart lost session start (suc n) new own (between, first, it) quiet s away =
       let before = dues_apart lost session start n between own first quiet s away in
-      let then = keeps_dues stands given Any any_step (λ k. is_due lost session (k + 1) start) n start between first (tt, quiet) in
-      let last = due_apart lost session (n + 1) start between new own before.1 (is_due lost session (n + 1) start) refl it then.1 s away in
+      let then = keeps_dues stands given Any any_step (λ k. is_notice_due lost session (k + 1) start) n start between first (tt, quiet) in
+      let last = due_apart lost session (n + 1) start between new own before.1 (is_notice_due lost session (n + 1) start) refl it then.1 s away in
       (last.0 ∙ before.0, last.1)
 
   -- ---- a turn
@@ -132,7 +132,7 @@ module _ {R : Type 0} (stands : R → Standing) (given : (session : ℕ) → Lis
   pub turn_apart : (lost : (number : ℕ) → Bool) (running : Bool) (session : ℕ) (old new : Pace R) → TurnWhere stands given lost running session old new → new.went_on ≡ false → IsQuiet given old.world → AreOfSessions old.world
       → (s : ℕ) → s ≢ session → client_in s new.world.lives ≡ client_in s old.world.lives
   turn_apart lost true session old new turn still quiet own s away =
-      let then = keeps_dues stands given Any any_step (λ k. is_due lost session (k + 1) old.world) (length old.world.sites.mail) old.world turn.told turn.notices (tt, quiet) in
+      let then = keeps_dues stands given Any any_step (λ k. is_notice_due lost session (k + 1) old.world) (length old.world.sites.mail) old.world turn.told turn.notices (tt, quiet) in
       all_apart session (record { world = turn.told; went_on = old.went_on }) new turn.polls still then.1 s away
       ∙ (dues_apart lost session old.world (length old.world.sites.mail) turn.told own turn.notices quiet s away).0
   turn_apart lost false session old new same still quiet own s away = ap (λ (p : Pace R). client_in s p.world.lives) same
@@ -162,7 +162,7 @@ module _ {R : Type 0} (stands : R → Standing) (given : (session : ℕ) → Lis
   turn_keeps lost true session old new at turn still quiet sound =
       let polls = turn.polls in
       let before = before_polls stands given session polls.point 64 polls.point new polls.held still in
-      let told = keeps_dues stands given (AreSoundSessions stands given) (sounds_step stands given) (λ k. is_due lost session (k + 1) old.world) (length old.world.sites.mail) old.world turn.told turn.notices (sound, quiet) in
+      let told = keeps_dues stands given (AreSoundSessions stands given) (sounds_step stands given) (λ k. is_notice_due lost session (k + 1) old.world) (length old.world.sites.mail) old.world turn.told turn.notices (sound, quiet) in
       let comes = polls.slot_0.comes in
       let none = step_of stands given session 0 (record { world = turn.told; went_on = old.went_on }) polls.point polls.slot_0 before in
       let same = settled turn.told comes.between polls.point.world (Asked session 0 polls.slot_0.result none comes.step) comes.starts.count comes.starts.starts told.1 in
@@ -181,9 +181,9 @@ module _ {R : Type 0} (stands : R → Standing) (given : (session : ℕ) → Lis
   own_step a b step own s c there = by (client_in s a.lives) refl
     where
       by : (o : Option (ClientView R)) → client_in s a.lives ≡ o → c.session.instance.session ≡ s
-      by None at = absurd (none-some c.session (sym (ap session_of at) ∙ sym (same_sessions stands a b step s) ∙ ap session_of there))
+      by None at = absurd (none-some c.session (sym (ap session_of_client at) ∙ sym (same_sessions stands a b step s) ∙ ap session_of_client there))
       by (Some x) at =
-          let same : c.session ≡ x.session = same_Some c.session x.session (sym (ap session_of there) ∙ same_sessions stands a b step s ∙ ap session_of at) in
+          let same : c.session ≡ x.session = same_Some c.session x.session (sym (ap session_of_client there) ∙ same_sessions stands a b step s ∙ ap session_of_client at) in
           ap (λ (y : SessionView R). y.instance.session) same ∙ own s x at
 
   right_step : (a b : WorldView R) → IsIdleStep stands a b → IsRightIn a → IsRightIn b

@@ -5,18 +5,18 @@ use Rattle.std.proofs.lemmas.Option.{none-some, same_Some}
 use Rattle.rbd_client.specs.Actor.{actor_at}
 use Rattle.rbd_client.specs.Client.{ClientView}
 use Rattle.rbd_machine.specs.Plan.{Standing}
-use Rattle.rbd_session.specs.Session.{IsSoundSession, SessionView, held_in, script_line}
-use Rattle.rbd_session.specs.declared.running.Occupant.{Occupant}
-use Rattle.rbd_session.specs.declared.running.Occupant.TheVariants as occupant
+use Rattle.rbd_slots.specs.Session.{IsSoundSession, SessionView, held_in, script_line}
+use Rattle.rbd_slots.specs.declared.running.Occupant.{Occupant}
+use Rattle.rbd_slots.specs.declared.running.Occupant.TheVariants as occupant
 use Rattle.rbd_world.specs.declared.event.Event.TheVariants as event
 use Rattle.rbd_world.specs.declared.event.Outcome.{Outcome}
 use Rattle.rbd_world.specs.Run.{outcome_of}
 use Rattle.rbd_world.specs.Sound.{held_of}
-use Rattle.rbd_world.specs.Step.{IsStep, polled}
-use Rattle.rbd_world.specs.World.{WorldView, client_in, session_in, session_of}
+use Rattle.rbd_world.specs.Step.{IsWorldStep, polled}
+use Rattle.rbd_world.specs.World.{WorldView, client_in, session_in, session_of_client}
 use Rattle.rbd_schedule.specs.declared.given.Given.{Given}
 use Rattle.rbd_schedule.specs.Deeds.{Deeds}
-use Rattle.rbd_schedule.specs.Notices.{is_due, runs}
+use Rattle.rbd_schedule.specs.Notices.{is_notice_due, runs}
 use Rattle.rbd_schedule.specs.Schedule.{Comes, DeliversWhere, Happens, Pace, PollsAll, PollsIn, PollsWhere, Starts, TurnOf, TurnWhere, goes_on, is_held}
 use Rattle.rbd_schedule.specs.Starts.{IsIdle, IsQuiet}
 use Rattle.rbd_schedule.proofs.Idle.{Asked, IsIdleStep, IsStill, IsStillIn, StaysIn, Told, same_sessions, stays_quiet, stays_still, still_before}
@@ -132,7 +132,7 @@ module _ {R : Type 0} (stands : R → Standing) (given : (session : ℕ) → Lis
       pub keeps_turn : (running : Bool) (session : ℕ) (old new : Pace R) → TurnWhere stands given lost running session old new → new.went_on ≡ false → Keeps old.world → Keeps new.world
       keeps_turn true session old new turn still keeps =
           keeps_all session (record { world = turn.told; went_on = old.went_on }) new turn.polls still
-          (keeps_dues (λ k. is_due lost session (k + 1) old.world) (length old.world.sites.mail) old.world turn.told turn.notices keeps)
+          (keeps_dues (λ k. is_notice_due lost session (k + 1) old.world) (length old.world.sites.mail) old.world turn.told turn.notices keeps)
       keeps_turn false session old new same still keeps = subst (λ (p : Pace R). Keeps p.world) (sym same) keeps
 
       pub keeps_turns : (n : ℕ) (old new : Pace R) → Deeds (TurnOf stands given lost) n old new → new.went_on ≡ false → Keeps old.world → Keeps new.world
@@ -147,9 +147,9 @@ module _ {R : Type 0} (stands : R → Standing) (given : (session : ℕ) → Lis
   AreSoundSessions w = (s : ℕ) (c : ClientView R) → client_in s w.lives ≡ Some c → IsSoundSession stands c.session
 
   session_at : (s : ℕ) (w : WorldView R) (c : ClientView R) → client_in s w.lives ≡ Some c → session_in s w.lives ≡ Some c.session
-  session_at s w c is = ap session_of is
+  session_at s w c is = ap session_of_client is
 
-  pub client_of : (s : ℕ) (o : Option (ClientView R)) (x : SessionView R) → session_of o ≡ Some x → (c : ClientView R) × (o ≡ Some c) × (c.session ≡ x)
+  pub client_of : (s : ℕ) (o : Option (ClientView R)) (x : SessionView R) → session_of_client o ≡ Some x → (c : ClientView R) × (o ≡ Some c) × (c.session ≡ x)
   client_of s None x is = absurd (none-some x is)
   client_of s (Some c) x is = (c, refl, same_Some c.session x is)
 
@@ -171,7 +171,7 @@ module _ {R : Type 0} (stands : R → Standing) (given : (session : ℕ) → Lis
 
   -- ---- a slot that was polled is still
 
-  still_by_poll : (session slot : ℕ) (old new : WorldView R) (result : Outcome) → IsStep stands (event.Poll session slot) old result new → goes_on result ≡ false → AreSoundSessions old → IsStillIn stands session slot old
+  still_by_poll : (session slot : ℕ) (old new : WorldView R) (result : Outcome) → IsWorldStep stands (event.Poll session slot) old result new → goes_on result ≡ false → AreSoundSessions old → IsStillIn stands session slot old
   still_by_poll session slot old new result (is, does) still sound c at =
       still_before stands old.sites c slot (sound session c at)
       (ap (λ o. goes_on (outcome_of (polled stands old.sites slot o))) (sym at) ∙ sym (ap goes_on is) ∙ still)
@@ -181,12 +181,12 @@ module _ {R : Type 0} (stands : R → Standing) (given : (session : ℕ) → Lis
 
   -- ---- what holds of each slot that was polled, and stays
 
-  -- `I` holds of the worlds of an idle round. `Q` holds for a slot of a session behind its poll, and
-  -- where it is free; and what an idle round plays leaves it.
+  -- `I` holds of the worlds of an idle round. `Q` holds for a slot of a session behind its poll,
+  -- and where it is free; and what an idle round plays leaves it.
   module _ (I : WorldView R → Type 0) (I_step : (a b : WorldView R) → IsIdleStep stands a b → I a → I b) where
     module _ (Q : (session slot : ℕ) → WorldView R → Type 0)
         (Q_step : (session slot : ℕ) → (slot == 0) ≡ false → (a b : WorldView R) → IsIdleStep stands a b → I a → Q session slot a → Q session slot b)
-        (Q_behind : (session slot : ℕ) → (slot == 0) ≡ false → (a b : WorldView R) (result : Outcome) → IsStep stands (event.Poll session slot) a result b → goes_on result ≡ false → I a → Q session slot b)
+        (Q_behind : (session slot : ℕ) → (slot == 0) ≡ false → (a b : WorldView R) (result : Outcome) → IsWorldStep stands (event.Poll session slot) a result b → goes_on result ≡ false → I a → Q session slot b)
         (Q_free : (session slot : ℕ) (w : WorldView R) → ((c : ClientView R) → client_in session w.lives ≡ Some c → held_in slot c.session.slots ≡ None) → Q session slot w) where
       -- a slot that was polled, or wasn't held
       holds_where : (held : Bool) (session k : ℕ) (point old new : Pace R) → is_held session (k + 1) point.world ≡ held → PollsWhere stands given held session (k + 1) old new → new.went_on ≡ false
@@ -231,7 +231,7 @@ module _ {R : Type 0} (stands : R → Standing) (given : (session : ℕ) → Lis
         holds_turn true session old new at turn still quiet is k below =
             let polls = turn.polls in
             let before = before_polls session polls.point 64 polls.point new polls.held still in
-            let told = keeps_dues I I_step (λ k. is_due lost session (k + 1) old.world) (length old.world.sites.mail) old.world turn.told turn.notices (is, quiet) in
+            let told = keeps_dues I I_step (λ k. is_notice_due lost session (k + 1) old.world) (length old.world.sites.mail) old.world turn.told turn.notices (is, quiet) in
             let point = keeps_poll I I_step session 0 (record { world = turn.told; went_on = old.went_on }) polls.point polls.slot_0 before told in
             holds_polls session polls.point 64 new polls.held still point.1 point.0 k below
         holds_turn false session old new at same still quiet is k below = Q_free session (k + 1) new.world (λ c there.
@@ -258,7 +258,7 @@ module _ {R : Type 0} (stands : R → Standing) (given : (session : ℕ) → Lis
     HoldsIn session slot w = (c : ClientView R) → client_in session w.lives ≡ Some c → Q slot c
 
     module _ (Q_step : (session slot : ℕ) → (slot == 0) ≡ false → (a b : WorldView R) → IsIdleStep stands a b → I a → HoldsIn session slot a → HoldsIn session slot b)
-        (Q_poll : (session slot : ℕ) (a b : WorldView R) (result : Outcome) → IsStep stands (event.Poll session slot) a result b → goes_on result ≡ false → I a → HoldsIn session slot a)
+        (Q_poll : (session slot : ℕ) (a b : WorldView R) (result : Outcome) → IsWorldStep stands (event.Poll session slot) a result b → goes_on result ≡ false → I a → HoldsIn session slot a)
         (Q_free : (slot : ℕ) (c : ClientView R) → held_in slot c.session.slots ≡ None → Q slot c) where
       pub holds_turns : (lost : (number : ℕ) → Bool) (n : ℕ) (old new : Pace R) → Deeds (TurnOf stands given lost) n old new → new.went_on ≡ false → IsQuiet given old.world → I old.world
           → (session : ℕ) → session < n → (k : ℕ) → k < 64 → HoldsIn session (k + 1) new.world

@@ -12,7 +12,7 @@ use Rattle.rbd_world.specs.declared.event.Event.{Event}
 use Rattle.rbd_world.specs.declared.event.Event.TheVariants as event
 use Rattle.rbd_world.specs.declared.event.Outcome.{Outcome}
 use Rattle.rbd_world.specs.Run.{Happening, Nothing, Began, entries_of}
-use Rattle.rbd_world.specs.Step.{Does, IsStep, begins_of, is_begun, submitted}
+use Rattle.rbd_world.specs.Step.{Does, IsWorldStep, begins_of, is_begun, submitted}
 use Rattle.rbd_world.specs.World.{WorldView, client_in, free_in}
 use Rattle.rbd_schedule.specs.declared.given.Given.{Given}
 use Rattle.rbd_schedule.specs.Starts.{earliest, is_ended, to_start}
@@ -51,7 +51,7 @@ module _ {R : Type 0} (stands : R → Standing) where
       by true = refl
       by false = refl
 
-  pub submit_ends : (session number : ℕ) (command : Command) (old : WorldView R) (result : Outcome) (new : WorldView R) → IsStep stands (event.Submit session number command) old result new
+  pub submit_ends : (session number : ℕ) (command : Command) (old : WorldView R) (result : Outcome) (new : WorldView R) → IsWorldStep stands (event.Submit session number command) old result new
       → (line : ℕ) → is_ended line new.history ≡ is_ended line old.history
   submit_ends session number command old result new (is, does) line =
       ended_then stands (event.Submit session number command) _ old new does line
@@ -91,7 +91,7 @@ module _ {R : Type 0} where
 
   -- the command that was to start is begun behind its step
   pub starting_begins : (stands : R → Standing) (given : List Given) (session : ℕ) (c : Given) (command : Command) (old : WorldView R) (result : Outcome) (new : WorldView R)
-      → to_start given old session ≡ Some c → IsStep stands (event.Submit session c.line command) old result new
+      → to_start given old session ≡ Some c → IsWorldStep stands (event.Submit session c.line command) old result new
       → (is_begun c.line old.history ≡ false) × (is_begun c.line new.history ≡ true)
   starting_begins stands given session c command old result new may (is, does) =
       let found = start_is_new given old session c may in

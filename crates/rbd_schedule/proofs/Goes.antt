@@ -7,23 +7,23 @@ use Rattle.std.proofs.lemmas.Option.{IfSome_then, get_or_from_slice_get, none-so
 use Rattle.std.proofs.Math.Bool.{or-false}
 use Rattle.rbd_flat.specs.declared.entry.Entry.{Entry}
 use Rattle.rbd_machine.specs.Plan.{Standing}
-use Rattle.rbd_requests.specs.declared.request.SessionRequest.{SessionRequest}
+use Rattle.rbd_catalog.specs.declared.request.SessionRequest.{SessionRequest}
 use Rattle.rbd_script.specs.declared.script.Said.{Said}
 use Rattle.rbd_script.specs.declared.script.Said.TheVariants as said
-use Rattle.rbd_session.specs.Session.{held_in, script_line}
+use Rattle.rbd_slots.specs.Session.{held_in, script_line}
 use Rattle.rbd_client.specs.Seen.{as_is}
 use Rattle.rbd_world.specs.Seen.{seen}
 use Rattle.rbd_world.specs.declared.event.Event.{Event}
 use Rattle.rbd_world.specs.declared.event.Event.TheVariants as event
 use Rattle.rbd_world.specs.declared.event.Outcome.{Outcome}
 use Rattle.rbd_world.specs.Sound.{IsNewWorld, IsSoundWorld, held_of}
-use Rattle.rbd_world.specs.Step.{IsBuiltEvent, IsStep, happening, is_begun}
-use Rattle.rbd_world.specs.World.{LivesView, WorldView, client_in, free_in, lives_in, running_of, session_of}
+use Rattle.rbd_world.specs.Step.{IsBuiltEvent, IsWorldStep, happening, is_begun}
+use Rattle.rbd_world.specs.World.{LivesView, WorldView, client_in, free_in, lives_in, running_of, session_of_client}
 use Rattle.rbd_schedule.specs.declared.given.Given.{Given}
 use Rattle.rbd_schedule.specs.declared.queue.Queue.{Queue}
 use Rattle.rbd_schedule.specs.declared.runner.Runner.{Runner}
 use Rattle.rbd_schedule.specs.Notices.{delivers, is_heard, was_heard}
-use Rattle.rbd_schedule.specs.Playing.{GoesOn, IsEmptyQueue, IsGiven, IsNoStart, IsPassed, IsPlayed, IsQueue, IsQueueIn, KeepsUp, StartsIf, at_place, commands_in, count_of, given_to, has_line, has_number, highest_after, is_beside, is_one_of, is_over, lets_start, lost_in, passed_by, told_by}
+use Rattle.rbd_schedule.specs.Playing.{RunnerGoesOn, IsEmptyQueue, IsGivenCommand, IsNoStart, IsPassed, IsPlayedLine, IsQueue, IsQueueIn, KeepsUp, StartsIf, at_place, commands_in, count_of, given_to, has_line, has_number, highest_after, may_start_beside, is_one_of, is_over, lets_start, lost_in, notices_passed, delivered_by}
 use Rattle.rbd_schedule.specs.Given.{given_by}
 use Rattle.rbd_schedule.specs.Schedule.{Comes, Starts, StartsAll, is_held}
 use Rattle.rbd_schedule.specs.Starts.{IsQuiet, earliest, is_ended, to_start}
@@ -36,14 +36,14 @@ use Rattle.rbd_schedule.proofs.Queues.{commands_with, each_with, set_other, set_
 use Rattle.rbd_schedule.proofs.Quiet.{line_held, quiet_event}
 use Rattle.rbd_schedule.proofs.Slots.{world_counted}
 
-told_delivers : (number : ℕ) (e : Event) → is_one_of number (told_by e) ≡ delivers number e
+told_delivers : (number : ℕ) (e : Event) → is_one_of number (delivered_by e) ≡ delivers number e
 told_delivers number (event.Deliver other) = refl
 told_delivers number _ = refl
 
-pub goes_same : (old : Runner) → GoesOn old old
+pub goes_same : (old : Runner) → RunnerGoesOn old old
 goes_same old = record { keeps = λ keeps. keeps; given = refl; queues = refl; lost = refl }
 
-pub goes_then : (old between new : Runner) → GoesOn old between → GoesOn between new → GoesOn old new
+pub goes_then : (old between new : Runner) → RunnerGoesOn old between → RunnerGoesOn between new → RunnerGoesOn old new
 goes_then old between new first second = record {
   keeps = λ keeps. second.keeps (first.keeps keeps);
   given = second.given ∙ first.given;
@@ -52,13 +52,13 @@ goes_then old between new first second = record {
 }
 
 -- the world took a step, and what the runner keeps beside it is true of it again
-goes_by_step : (e : Event) (old new : Runner) (result : Outcome) → IsStep as_is e (seen old.world) result (seen new.world) → IsSoundWorld as_is (seen new.world)
+goes_by_step : (e : Event) (old new : Runner) (result : Outcome) → IsWorldStep as_is e (seen old.world) result (seen new.world) → IsSoundWorld as_is (seen new.world)
     → new.queues ≡ old.queues → new.lost ≡ old.lost → new.passed ≡ old.passed
     → (KeepsUp old → (line : ℕ) → has_line line new.over ≡ is_ended line (seen new.world).history)
     → (KeepsUp old → (number : ℕ) → has_number number new.heard ≡ was_heard number (seen new.world).calls)
     → (KeepsUp old → new.is_due ≡ false → IsQuiet (given_to old) (seen new.world)) → (KeepsUp old → new.highest ≤ 64)
     → (KeepsUp old → (s slot : ℕ) → new.highest < slot → is_held s slot (seen new.world) ≡ false)
-    → GoesOn old new
+    → RunnerGoesOn old new
 goes_by_step e old new result step sound queues lost passed over heard quiet most above = record {
   keeps = λ keeps. record {
     sound = sound;
@@ -89,16 +89,16 @@ goes_by_step e old new result step sound queues lost passed over heard quiet mos
 
 -- ---- an event that begins no command
 
-goes_by_event : (e : Event) (old new : Runner) (result : Outcome) → IsNoStart e → IsStep as_is e (seen old.world) result (seen new.world) → IsSoundWorld as_is (seen new.world)
+goes_by_event : (e : Event) (old new : Runner) (result : Outcome) → IsNoStart e → IsWorldStep as_is e (seen old.world) result (seen new.world) → IsSoundWorld as_is (seen new.world)
     → new.queues ≡ old.queues → new.lost ≡ old.lost → new.passed ≡ old.passed → new.highest ≡ old.highest
     → ((line : ℕ) → has_line line new.over ≡ (has_line line old.over || is_ended line (drop (length (seen old.world).history) (seen new.world).history)))
-    → ((number : ℕ) → has_number number new.heard ≡ (has_number number old.heard || (is_one_of number (told_by e) && is_heard result)))
-    → new.is_due ≡ (old.is_due || lets_start result) → GoesOn old new
+    → ((number : ℕ) → has_number number new.heard ≡ (has_number number old.heard || (is_one_of number (delivered_by e) && is_heard result)))
+    → new.is_due ≡ (old.is_due || lets_start result) → RunnerGoesOn old new
 goes_by_event e old new result plain step sound queues lost passed highest over heard due =
     goes_by_step e old new result step sound queues lost passed
     (λ keeps line. over line ∙ ap (λ b. b || is_ended line (drop (length (seen old.world).history) (seen new.world).history)) (keeps.over line)
     ∙ sym (ended_by_step as_is e (happening as_is e (seen old.world)) (seen old.world) (seen new.world) step.1 line))
-    (λ keeps number. heard number ∙ ap (λ b. b || (is_one_of number (told_by e) && is_heard result)) (keeps.heard number)
+    (λ keeps number. heard number ∙ ap (λ b. b || (is_one_of number (delivered_by e) && is_heard result)) (keeps.heard number)
     ∙ ap (λ b. was_heard number (seen old.world).calls || (b && is_heard result)) (told_delivers number e) ∙ sym (heard_then as_is e result (seen old.world) (seen new.world) step number))
     (λ keeps none.
     let parts = or_parts old.is_due (lets_start result) (sym due ∙ none) in
@@ -107,14 +107,14 @@ goes_by_event e old new result plain step sound queues lost passed highest over 
     (λ keeps s slot more. event_above as_is e (seen old.world) result (seen new.world) plain keeps.sound step s slot (keeps.above s slot (subst (λ n. n < slot) highest more)))
 
 -- its step, and then what was noted of it
-pub goes_by_note : (e : Event) (old between new : Runner) (from : ℕ) (told : Option ℕ) (result : Outcome) → IsNoStart e → from ≡ length (seen old.world).history → told ≡ told_by e
-    → IsStep as_is e (seen old.world) result (seen between.world) → IsSoundWorld as_is (seen between.world) → between ≡ record old { world = between.world }
+pub goes_by_note : (e : Event) (old between new : Runner) (from : ℕ) (told : Option ℕ) (result : Outcome) → IsNoStart e → from ≡ length (seen old.world).history → told ≡ delivered_by e
+    → IsWorldStep as_is e (seen old.world) result (seen between.world) → IsSoundWorld as_is (seen between.world) → between ≡ record old { world = between.world }
     → new ≡ record between { over = new.over; heard = new.heard; is_due = new.is_due }
     → ((line : ℕ) → has_line line new.over ≡ (has_line line between.over || is_ended line (drop from (seen between.world).history)))
     → ((number : ℕ) → has_number number new.heard ≡ (has_number number between.heard || (is_one_of number told && is_heard result)))
-    → new.is_due ≡ (between.is_due || lets_start result) → GoesOn old new
+    → new.is_due ≡ (between.is_due || lets_start result) → RunnerGoesOn old new
 goes_by_note e old between new from told result plain len is_told step sound first rest over heard due =
-    subst (GoesOn old) (sym all)
+    subst (RunnerGoesOn old) (sym all)
     (goes_by_event e old (record old { world = between.world; over = new.over; heard = new.heard; is_due = new.is_due }) result plain step sound refl refl refl refl
     (λ line. over line ∙ ap (λ (r : Runner). has_line line r.over || is_ended line (drop from (seen between.world).history)) first
     ∙ ap (λ n. has_line line old.over || is_ended line (drop n (seen between.world).history)) len)
@@ -126,7 +126,7 @@ goes_by_note e old between new from told result plain len is_told step sound fir
     all = rest ∙ ap (λ (r : Runner). record r { over = new.over; heard = new.heard; is_due = new.is_due }) first
 
 -- nothing may start, and so none is looked for
-pub goes_quiet : (old : Runner) → IsQuiet (given_to old) (seen old.world) → GoesOn old (record old { is_due = false })
+pub goes_quiet : (old : Runner) → IsQuiet (given_to old) (seen old.world) → RunnerGoesOn old (record old { is_due = false })
 goes_quiet old quiet = record {
   keeps = λ keeps. record {
     sound = keeps.sound;
@@ -177,13 +177,13 @@ within_given r session q result is within = IfSome_then result within (λ place 
 -- a queue looked, and goes on from there
 pub goes_by_look : (old new : Runner) → KeepsUp old → (session : ℕ) (q q' : Queue) → slice_get old.queues.items session ≡ Some q
     → new ≡ record old { queues = new.queues } → new.queues.items ≡ slice_set old.queues.items session q' → q'.commands ≡ q.commands
-    → IsQueue (λ line. is_begun line (seen old.world).history) (λ line. has_line line old.over) q' → GoesOn old new
+    → IsQueue (λ line. is_begun line (seen old.world).history) (λ line. has_line line old.over) q' → RunnerGoesOn old new
 goes_by_look old new has session q q' is rest items commands queue =
-    subst (GoesOn old) (sym rest) (record {
+    subst (RunnerGoesOn old) (sym rest) (record {
       keeps = λ keeps.
           let q_is : IsQueueIn (seen old.world).history session q' = record {
             queue = subst (λ a. IsQueue (λ line. is_begun line (seen old.world).history) a q') (sym (same_ends old has)) queue;
-            given = subst (λ cs. All (IsGiven session) cs.items) (sym commands) (keeps.queues session q is).given;
+            given = subst (λ cs. All (IsGivenCommand session) cs.items) (sym commands) (keeps.queues session q is).given;
           } in
           let all : (s : ℕ) (x : Queue) → slice_get (slice_set old.queues.items session q') s ≡ Some x → IsQueueIn (seen old.world).history s x
           = each_with (λ s x. IsQueueIn (seen old.world).history s x) old.queues.items session q' (slice_get_within old.queues.items session q is) keeps.queues q_is in
@@ -211,9 +211,9 @@ goes_by_look old new has session q q' is rest items commands queue =
 
 pub goes_by_pass : (old new : Runner) (session count before : ℕ) → KeepsUp old → slice_get old.passed.items session ≡ Some before
     → new ≡ record old { passed = new.passed } → new.passed.items ≡ slice_set old.passed.items session count
-    → ((k : ℕ) → k < count → IsPassed (lost_in old) session (k + 1) (seen old.world)) → GoesOn old new
+    → ((k : ℕ) → k < count → IsPassed (lost_in old) session (k + 1) (seen old.world)) → RunnerGoesOn old new
 goes_by_pass old new session count before has there rest items passed =
-    subst (GoesOn old) (sym rest) (record {
+    subst (RunnerGoesOn old) (sym rest) (record {
       keeps = λ keeps. record {
         sound = keeps.sound;
         quiet = keeps.quiet;
@@ -230,10 +230,10 @@ goes_by_pass old new session count before has there rest items passed =
       lost = refl;
     })
   where
-    at : (s : ℕ) → passed_by new s ≡ count_of (slice_get (slice_set old.passed.items session count) s)
+    at : (s : ℕ) → notices_passed new s ≡ count_of (slice_get (slice_set old.passed.items session count) s)
     at s = ap (λ ps. count_of (slice_get ps s)) items
 
-    by : (s k : ℕ) → (s ≡ session) ⊎ (s ≡ session → ⊥) → k < passed_by new s → IsPassed (lost_in old) s (k + 1) (seen old.world)
+    by : (s k : ℕ) → (s ≡ session) ⊎ (s ≡ session → ⊥) → k < notices_passed new s → IsPassed (lost_in old) s (k + 1) (seen old.world)
     by s k (inl same) below =
         subst (λ n. IsPassed (lost_in old) n (k + 1) (seen old.world)) (sym same)
         (passed k (subst (λ n. k < n) (at s ∙ ap (λ n. count_of (slice_get (slice_set old.passed.items session count) n)) same
@@ -242,14 +242,14 @@ goes_by_pass old new session count before has there rest items passed =
 
 -- ---- a command of a queue
 
-pub given_there : (r : Runner) → KeepsUp r → (session place : ℕ) (c : Given) → slice_get (given_to r session) place ≡ Some c → IsGiven session c
+pub given_there : (r : Runner) → KeepsUp r → (session place : ℕ) (c : Given) → slice_get (given_to r session) place ≡ Some c → IsGivenCommand session c
 given_there r keeps session place c is = by (slice_get r.queues.items session) refl is
   where
-    by : (o : Option Queue) → slice_get r.queues.items session ≡ o → slice_get (commands_in o) place ≡ Some c → IsGiven session c
+    by : (o : Option Queue) → slice_get r.queues.items session ≡ o → slice_get (commands_in o) place ≡ Some c → IsGivenCommand session c
     by None e is = absurd (none-some c is)
     by (Some q) e is =
-        subst (IsGiven session) (get_or_from_slice_get q.commands.items place c c is)
-        (All-get_or (IsGiven session) q.commands.items place c (slice_get_within q.commands.items place c is) (keeps.queues session q e).given)
+        subst (IsGivenCommand session) (get_or_from_slice_get q.commands.items place c c is)
+        (All-get_or (IsGivenCommand session) q.commands.items place c (slice_get_within q.commands.items place c is) (keeps.queues session q e).given)
 
 -- it is one that is built
 pub built_there : (r : Runner) → KeepsUp r → (session place : ℕ) (c : Given) → slice_get (given_to r session) place ≡ Some c → IsBuiltEvent c.submission
@@ -258,10 +258,10 @@ built_there r keeps session place c is = let it = given_there r keeps session pl
 -- it is submitted
 pub goes_by_start : (session place : ℕ) (c : Given) (old : Runner) (w : WorldView SessionRequest) (highest : ℕ) (result : Outcome) → KeepsUp old
     → slice_get (given_to old session) place ≡ Some c → to_start (given_to old session) (seen old.world) session ≡ slice_get (given_to old session) place
-    → IsStep as_is c.submission (seen old.world) result (seen w) → IsSoundWorld as_is (seen w) → highest ≡ highest_after old.highest result → GoesOn old (record old { world = w; highest = highest })
+    → IsWorldStep as_is c.submission (seen old.world) result (seen w) → IsSoundWorld as_is (seen w) → highest ≡ highest_after old.highest result → RunnerGoesOn old (record old { world = w; highest = highest })
 goes_by_start session place c old w highest result has is may step sound high =
     let it = given_there old has session place c is in
-    let step' : IsStep as_is (event.Submit session c.line it.command) (seen old.world) result (seen w) = subst (λ e. IsStep as_is e (seen old.world) result (seen w)) it.submission step in
+    let step' : IsWorldStep as_is (event.Submit session c.line it.command) (seen old.world) result (seen w) = subst (λ e. IsWorldStep as_is e (seen old.world) result (seen w)) it.submission step in
     goes_by_step (event.Submit session c.line it.command) old (record old { world = w; highest = highest }) result step' sound refl refl refl
     (λ keeps line. keeps.over line ∙ sym (submit_ends as_is session c.line it.command (seen old.world) result (seen w) step' line))
     (λ keeps number. keeps.heard number ∙ sym (heard_then as_is (event.Submit session c.line it.command) result (seen old.world) (seen w) step' number ∙ or-false (was_heard number (seen old.world).calls)))
@@ -304,15 +304,15 @@ earliest_is_given P b a before (x ∷ given) c all is =
     by false rest it is = rest is
 
 start_is_given : (r : Runner) → KeepsUp r → (session : ℕ) (c : Given)
-    → earliest (λ line. is_begun line (seen r.world).history) (λ line. is_ended line (seen r.world).history) true (given_to r session) ≡ Some c → (session < length r.queues.items) × IsGiven session c
+    → earliest (λ line. is_begun line (seen r.world).history) (λ line. is_ended line (seen r.world).history) true (given_to r session) ≡ Some c → (session < length r.queues.items) × IsGivenCommand session c
 start_is_given r has session c is = by (slice_get r.queues.items session) refl is
   where
     by : (o : Option Queue) → slice_get r.queues.items session ≡ o → earliest (λ line. is_begun line (seen r.world).history) (λ line. is_ended line (seen r.world).history) true (commands_in o) ≡ Some c
-        → (session < length r.queues.items) × IsGiven session c
+        → (session < length r.queues.items) × IsGivenCommand session c
     by None e is = absurd (none-some c is)
     by (Some q) e is = (
       slice_get_within r.queues.items session q e,
-      earliest_is_given (IsGiven session) (λ line. is_begun line (seen r.world).history) (λ line. is_ended line (seen r.world).history) true q.commands.items c (has.queues session q e).given is,
+      earliest_is_given (IsGivenCommand session) (λ line. is_begun line (seen r.world).history) (λ line. is_ended line (seen r.world).history) true q.commands.items c (has.queues session q e).given is,
     )
 
 -- told of the commands that were given, and of the world, as they were
@@ -329,12 +329,12 @@ starts_one r has new starts =
     let found = start_is_earliest (given_to r starts.session) (seen r.world) starts.session c starts.submits.may in
     let it = start_is_given r has starts.session c found in
     let begun = starting_begins as_is (given_to r starts.session) starts.session c it.1.command (seen r.world) starts.submits.result new starts.submits.may
-    (subst (λ e. IsStep as_is e (seen r.world) starts.submits.result new) it.1.submission starts.submits.step) in
+    (subst (λ e. IsWorldStep as_is e (seen r.world) starts.submits.result new) it.1.submission starts.submits.step) in
     let later = begun_stays as_is c.submission (happening as_is c.submission (seen r.world)) (seen r.world) new starts.submits.step.1 in
     one_fewer_in (λ line. is_begun line (seen r.world).history) (λ line. is_begun line new.history) later (given_to r) (length r.queues.items) starts.session it.0
     (one_fewer (λ line. is_begun line (seen r.world).history) (λ line. is_begun line new.history) later (λ line. is_ended line (seen r.world).history) true (given_to r starts.session) c found begun.1)
 
-pub left_again : (old new : Runner) → GoesOn old new
+pub left_again : (old new : Runner) → RunnerGoesOn old new
     → left_in (λ line. is_begun line (seen new.world).history) (given_to old) (length old.queues.items) < left_in (λ line. is_begun line (seen old.world).history) (given_to old) (length old.queues.items)
     → left_in (λ line. is_begun line (seen new.world).history) (given_to new) (length new.queues.items) < left_in (λ line. is_begun line (seen old.world).history) (given_to old) (length old.queues.items)
 left_again old new goes less =
@@ -346,7 +346,7 @@ quiet_again given given' w w' same world quiet = subst (λ v. IsQuiet given' v) 
 
 -- an event, and then all that may start
 pub comes_then : {R : Type 0} (stands : R → Standing) (e : Event) (result : Outcome) (old between new : WorldView R) (given given' : (session : ℕ) → List Given) → given' ≡ given
-    → IsStep stands e old result between → IsSoundWorld stands between → StartsAll stands given' between new → Comes stands given e result old new
+    → IsWorldStep stands e old result between → IsSoundWorld stands between → StartsAll stands given' between new → Comes stands given e result old new
 comes_then stands e result old between new given given' same step sound starts =
     record { between = between; step = step; counted = world_counted stands between sound; starts = subst (λ h. StartsAll stands h between new) same starts }
 
@@ -361,9 +361,9 @@ queue_new history s q is = record {
     front = let front = is.front in omega (arith, front);
     over = none_in (λ c. is_over (λ line. is_begun line history) (λ line. is_ended line history) c ≡ true) (take q.front q.commands.items) (take_none q.front q.commands.items is.commands);
     next = let next = is.next in omega (arith, next);
-    passed = none_in (λ c. is_beside (λ line. is_begun line history) c ≡ false) (take q.next q.commands.items) (take_none q.next q.commands.items is.commands);
+    passed = none_in (λ c. may_start_beside (λ line. is_begun line history) c ≡ false) (take q.next q.commands.items) (take_none q.next q.commands.items is.commands);
   };
-  given = none_in (IsGiven s) q.commands.items is.commands;
+  given = none_in (IsGivenCommand s) q.commands.items is.commands;
 }
   where
     take_none : (n : ℕ) (xs : List Given) → xs ≡ [] → take n xs ≡ []
@@ -375,10 +375,10 @@ queue_new history s q is = record {
     none_in : (P : Given → Type 0) (xs : List Given) → xs ≡ [] → All P xs
     none_in P xs none = All-same P xs [] none (All-nil P)
 
-pub one_given : (number : ℕ) (s : Said) (c : Given) → c ∷ [] ≡ given_by number s → IsPlayed s → IsGiven c.session c
+pub one_given : (number : ℕ) (s : Said) (c : Given) → c ∷ [] ≡ given_by number s → IsPlayedLine s → IsGivenCommand c.session c
 one_given number (said.Command session beside command) c is played =
     let same : c ≡ record { session = session; line = number; beside = beside; submission = event.Submit session number command } = ap (λ (xs : List Given). get_or xs 0 c) is in
-    subst (λ (x : Given). IsGiven x.session x) (sym same) (record { mine = refl; command = command; submission = refl; built = played })
+    subst (λ (x : Given). IsGivenCommand x.session x) (sym same) (record { mine = refl; command = command; submission = refl; built = played })
 one_given number (said.Poll session slot times) c is played = absurd (not_given c is)
 one_given number (said.Until session slot kind) c is played = absurd (not_given c is)
 one_given number (said.Settle rounds) c is played = absurd (not_given c is)
@@ -393,7 +393,7 @@ one_given number (said.Trim site image object) c is played = absurd (not_given c
 -- a session has it behind the others
 pub keeps_more : (old new : Runner) (c : Given) (q q' : Queue) → KeepsUp old → slice_get old.queues.items c.session ≡ Some q
     → new ≡ record old { queues = new.queues; is_due = true } → new.queues.items ≡ slice_set old.queues.items c.session q'
-    → q'.commands.items ≡ q.commands.items ++ c ∷ [] → q'.front ≡ q.front → q'.next ≡ q.next → IsGiven c.session c → KeepsUp new
+    → q'.commands.items ≡ q.commands.items ++ c ∷ [] → q'.front ≡ q.front → q'.next ≡ q.next → IsGivenCommand c.session c → KeepsUp new
 keeps_more old new c q q' keeps is rest items commands front next given =
     let it = queue_more (seen old.world).history c.session q q' c (keeps.queues c.session q is) commands front next given in
     let all : (s : ℕ) (x : Queue) → slice_get (slice_set old.queues.items c.session q') s ≡ Some x → IsQueueIn (seen old.world).history s x
@@ -450,7 +450,7 @@ given_none r empty s = by (slice_get r.queues.items s) refl
 
 -- a new runner
 pub keeps_new : (r : Runner) → IsSoundWorld as_is (seen r.world) → length r.queues.items ≤ 32 → All IsEmptyQueue r.queues.items → IsNewWorld as_is (seen r.world)
-    → ((line : ℕ) → has_line line r.over ≡ false) → ((number : ℕ) → has_number number r.heard ≡ false) → r.highest ≡ 0 → ((session : ℕ) → passed_by r session ≡ 0) → KeepsUp r
+    → ((line : ℕ) → has_line line r.over ≡ false) → ((number : ℕ) → has_number number r.heard ≡ false) → r.highest ≡ 0 → ((session : ℕ) → notices_passed r session ≡ 0) → KeepsUp r
 keeps_new r sound few empty new over heard highest passed = record {
   sound = sound;
   quiet = λ due session. ap (λ given. to_start given (seen r.world) session) (given_none r empty session) ∙ none_starts (seen r.world) session;
@@ -463,8 +463,8 @@ keeps_new r sound few empty new over heard highest passed = record {
   passed = λ session k below. let none = passed session in absurd (omega (arith, below, none));
 }
   where
-    nobody : (session : ℕ) (l : Option (LivesView Standing)) → lives_in session (seen r.world).lives ≡ l → (slot : ℕ) → is_some (script_line (held_of slot (session_of (running_of l)))) ≡ false
+    nobody : (session : ℕ) (l : Option (LivesView Standing)) → lives_in session (seen r.world).lives ≡ l → (slot : ℕ) → is_some (script_line (held_of slot (session_of_client (running_of l)))) ≡ false
     nobody session None is slot = refl
     nobody session (Some l) is slot =
         let first = new.lives session l is in
-        ap (λ o. is_some (script_line (held_of slot (session_of o)))) first.runs ∙ line_held (held_in slot first.client.session.slots) ∙ ap is_some (first.fresh.slots slot)
+        ap (λ o. is_some (script_line (held_of slot (session_of_client o)))) first.runs ∙ line_held (held_in slot first.client.session.slots) ∙ ap is_some (first.fresh.slots slot)

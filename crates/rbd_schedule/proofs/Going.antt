@@ -2,20 +2,20 @@
 use Rattle.std.proofs.Common.{◌≡◌, inl, inr, ℕ, false, List, [], ◌∷◌, cond, Option, Some, None, refl, sym, ap, ◌∙◌}
 use Rattle.std.proofs.lemmas.Bool.{true≢false, eq-eqb}
 use Rattle.std.proofs.lemmas.Option.{none-some, same_Some}
-use Rattle.rbd_line.specs.Line.{Member, member_of}
+use Rattle.rbd_queue.specs.Line.{Member, member_of}
 use Rattle.rbd_machine.specs.Plan.{Standing}
 use Rattle.rbd_kinds.specs.declared.image_at.ImageAt.{ImageAt}
-use Rattle.rbd_session.specs.declared.running.Occupant.{Occupant}
-use Rattle.rbd_session.specs.declared.running.Occupant.TheVariants as occupant
-use Rattle.rbd_session.specs.declared.running.Running.{Running}
-use Rattle.rbd_session.specs.Advance.{track_of}
-use Rattle.rbd_session.specs.Lines.{lines_of}
-use Rattle.rbd_session.specs.OnTrack.{HasNext, IsSomewhere}
-use Rattle.rbd_session.specs.Session.{SessionView, IsSoundSession, held_in, running_in, running_at}
-use Rattle.rbd_session.specs.Track.{Lines}
-use Rattle.rbd_session.specs.Waits.{waits}
-use Rattle.rbd_session.proofs.Consequences.{first_goes, members_run_there}
-use Rattle.rbd_session.proofs.Sound.{held_range}
+use Rattle.rbd_slots.specs.declared.running.Occupant.{Occupant}
+use Rattle.rbd_slots.specs.declared.running.Occupant.TheVariants as occupant
+use Rattle.rbd_slots.specs.declared.running.Running.{Running}
+use Rattle.rbd_slots.specs.Advance.{track_of}
+use Rattle.rbd_slots.specs.Lines.{lines_of}
+use Rattle.rbd_slots.specs.OnTrack.{HasNext, IsSomewhere}
+use Rattle.rbd_slots.specs.Session.{SessionView, IsSoundSession, held_in, running_in, running_at}
+use Rattle.rbd_slots.specs.Track.{Lines}
+use Rattle.rbd_slots.specs.Waits.{waits}
+use Rattle.rbd_slots.proofs.Consequences.{first_goes, members_run_there}
+use Rattle.rbd_slots.proofs.Sound.{held_range}
 use Rattle.rbd_schedule.specs.Going.{MayGo}
 
 -- who is in no line doesn't wait

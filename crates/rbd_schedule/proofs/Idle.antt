@@ -7,8 +7,8 @@ use Rattle.rbd_client.specs.declared.actor.Actor.TheVariants as actor
 use Rattle.rbd_client.specs.declared.slot_state.SlotState.{SlotState}
 use Rattle.rbd_client.specs.declared.slot_state.Way.{Way}
 use Rattle.rbd_client.specs.declared.slot_state.Way.TheVariants as way
-use Rattle.rbd_client.specs.Actor.{actor_at, actor_by, actor_on, due_release, releasing}
-use Rattle.rbd_client.specs.Client.{ClientView, state_in}
+use Rattle.rbd_client.specs.Actor.{actor_at, actor_by, actor_on, due_release, release_actor}
+use Rattle.rbd_client.specs.Client.{ClientView, slot_state}
 use Rattle.rbd_client.specs.Feeding.{AreStatesAlike, IsFedBy, WayComesTo}
 use Rattle.rbd_kinds.specs.OperationKind.{kind_of}
 use Rattle.rbd_kinds.specs.declared.answer.Answer.{Answer}
@@ -22,33 +22,33 @@ use Rattle.rbd_kinds.specs.declared.notice.NoticeKind.{NoticeKind}
 use Rattle.rbd_kinds.specs.declared.notice.NoticeKind.TheVariants as notice
 use Rattle.rbd_kinds.specs.Images.{is_at}
 use Rattle.rbd_kinds.specs.Instances.{same_instance}
-use Rattle.rbd_locks.specs.declared.lock_state.LockState.{LockState}
-use Rattle.rbd_locks.specs.Comings.{ByAnswer, after_one}
-use Rattle.rbd_locks.specs.Locks.{LocksView, heard, state_at}
-use Rattle.rbd_locks.specs.States.{told}
+use Rattle.rbd_lock.specs.declared.lock_state.LockState.{LockState}
+use Rattle.rbd_lock.specs.Comings.{ByAnswer, after_one}
+use Rattle.rbd_lock.specs.Locks.{LocksView, heard, lock_state_at}
+use Rattle.rbd_lock.specs.States.{told_state}
 use Rattle.rbd_machine.specs.Label.{Label}
 use Rattle.rbd_machine.specs.Plan.{Plan, Ask, Await, Note, Return, Goto, IsAsking, Standing}
-use Rattle.rbd_owner.specs.Acquire.{asking, begun, fencing, op_at, op_of}
-use Rattle.rbd_owner.specs.Steps.{is_among}
-use Rattle.rbd_owner.specs.Waiting.{asks_again}
-use Rattle.rbd_owner.specs.declared.acquire.Acquire.{Acquire}
-use Rattle.rbd_owner.specs.declared.acquire.Stage.{Stage}
-use Rattle.rbd_owner.specs.declared.acquire.Stage.TheVariants as stage
-use Rattle.rbd_session.specs.Advance.{track_of}
-use Rattle.rbd_session.specs.Lines.{LinesView}
-use Rattle.rbd_session.specs.Session.{IsSoundSession, SessionView, free_slot, held_in, own_look_at, running_in}
-use Rattle.rbd_session.specs.Waits.{waits}
-use Rattle.rbd_session.specs.declared.running.Occupant.{Occupant}
-use Rattle.rbd_session.specs.declared.running.Occupant.TheVariants as occupant
-use Rattle.rbd_session.specs.declared.running.Running.{Running}
+use Rattle.rbd_lock.specs.Acquire.{asking, begun_way, fencing, op_at_stage, op_of}
+use Rattle.rbd_lock.specs.Steps.{is_instance_among}
+use Rattle.rbd_lock.specs.Waiting.{asks_again}
+use Rattle.rbd_lock.specs.declared.acquire.Acquire.{Acquire}
+use Rattle.rbd_lock.specs.declared.acquire.Stage.{Stage}
+use Rattle.rbd_lock.specs.declared.acquire.Stage.TheVariants as stage
+use Rattle.rbd_slots.specs.Advance.{track_of}
+use Rattle.rbd_slots.specs.Lines.{LinesView}
+use Rattle.rbd_slots.specs.Session.{IsSoundSession, SessionView, free_slot, held_in, look_under_lock_at, running_in}
+use Rattle.rbd_slots.specs.Waits.{waits}
+use Rattle.rbd_slots.specs.declared.running.Occupant.{Occupant}
+use Rattle.rbd_slots.specs.declared.running.Occupant.TheVariants as occupant
+use Rattle.rbd_slots.specs.declared.running.Running.{Running}
 use Rattle.rbd_site.specs.Step.{answer_to}
-use Rattle.rbd_watch.specs.Posting.{numbered}
+use Rattle.rbd_watch.specs.Posting.{notice_numbered}
 use Rattle.rbd_world.specs.declared.event.Event.TheVariants as event
 use Rattle.rbd_world.specs.declared.event.Outcome.{Outcome}
 use Rattle.rbd_world.specs.declared.sites.Sites.{Sites}
 use Rattle.rbd_world.specs.Run.{OnWay, Happening, Nothing, Waited, Did, Heard, outcome_of}
-use Rattle.rbd_world.specs.Step.{Becomes, BecomesOf, Goes, Hears, IsStep, RunsOn, delivered, done_by, gone_by, goes_on_by, heard_by, operation_at, polled, polled_in, releases, reply_at, reply_on_way}
-use Rattle.rbd_world.specs.World.{LivesView, WorldView, client_in, free_in, records_in, running_of, session_in, session_of, site_in}
+use Rattle.rbd_world.specs.Step.{Becomes, BecomesOf, Goes, Hears, IsWorldStep, RunsOn, delivered, done_by, gone_by, goes_on_by, heard_by, operation_at, polled, polled_in, releases, reply_at, reply_on_way}
+use Rattle.rbd_world.specs.World.{LivesView, WorldView, client_in, free_in, records_in, running_of, session_in, session_of_client, site_in}
 use Rattle.rbd_schedule.specs.declared.given.Given.{Given}
 use Rattle.rbd_schedule.specs.Playing.{lets_start}
 use Rattle.rbd_schedule.specs.Schedule.{goes_on}
@@ -75,11 +75,11 @@ IsStill stands slot c = StaysIn slot c.session.lines (actor_at stands slot c) (h
 -- ---- a step that asks again
 
 -- it gives no reply
-again_open : (at : Stage) (site : SiteId) (image : ℕ) (told : Answer) → asks_again (kind_of (op_at at image)) told ≡ true → reply_on_way (record { site = site; image = image; stage = at }) told ≡ None
+again_open : (at : Stage) (site : SiteId) (image : ℕ) (told : Answer) → asks_again (kind_of (op_at_stage at image)) told ≡ true → reply_on_way (record { site = site; image = image; stage = at }) told ≡ None
 again_open stage.Watching site image told is = absurd (false≢true is)
 again_open stage.Taking site image (answer.Held owner) is = refl
 again_open stage.Taking site image _ is = absurd (false≢true is)
-again_open (stage.Looking owner) site image (answer.Instances watchers) is = by (is_among watchers owner)
+again_open (stage.Looking owner) site image (answer.Instances watchers) is = by (is_instance_among watchers owner)
   where
     by : (b : Bool) → reply_at (cond b (asking site image) (fencing site image owner)) ≡ None
     by true = refl
@@ -95,8 +95,8 @@ same_there : (b : Bool) (s : LockState) → cond b s s ≡ s
 same_there true s = refl
 same_there false s = refl
 
-again_counts : (at : Stage) (site : SiteId) (image : ℕ) (told : Answer) → asks_again (kind_of (op_at at image)) told ≡ true
-    → (there : SiteId) (on : ℕ) (s : LockState) → after_one (ByAnswer site (op_at at image) told) there on s ≡ s
+again_counts : (at : Stage) (site : SiteId) (image : ℕ) (told : Answer) → asks_again (kind_of (op_at_stage at image)) told ≡ true
+    → (there : SiteId) (on : ℕ) (s : LockState) → after_one (ByAnswer site (op_at_stage at image) told) there on s ≡ s
 again_counts stage.Watching site image told is there on s = absurd (false≢true is)
 again_counts stage.Taking site image (answer.Held owner) is there on s = same_there (is_at site image there on) s
 again_counts stage.Taking site image _ is there on s = absurd (false≢true is)
@@ -106,9 +106,9 @@ again_counts (stage.Fencing owner) site image told is there on s = absurd (false
 again_counts (stage.Breaking owner) site image told is there on s = absurd (false≢true is)
 
 -- nor was the lock taken by it
-not_taken : (at : Stage) (image : ℕ) (told : Answer) → asks_again (kind_of (op_at at image)) told ≡ true → at ≡ stage.Taking → told ≡ answer.Done → ⊥
+not_taken : (at : Stage) (image : ℕ) (told : Answer) → asks_again (kind_of (op_at_stage at image)) told ≡ true → at ≡ stage.Taking → told ≡ answer.Done → ⊥
 not_taken at image told is taking done =
-    false≢true (sym (ap (λ a. asks_again (kind_of (op_at stage.Taking image)) a) done) ∙ sym (ap (λ x. asks_again (kind_of (op_at x image)) told) taking) ∙ is)
+    false≢true (sym (ap (λ a. asks_again (kind_of (op_at_stage stage.Taking image)) a) done) ∙ sym (ap (λ x. asks_again (kind_of (op_at_stage x image)) told) taking) ∙ is)
 
 -- ---- a poll by which nothing goes on
 
@@ -204,32 +204,32 @@ module _ {R : Type 0} (stands : R → Standing) where
   pub record IsIdlePoll (slot : ℕ) (old new : ClientView R) : Type 0 where
     pub session : new.session ≡ old.session
     pub locks : AreStatesAlike old.locks new.locks
-    pub states : (other : ℕ) → other ≢ slot → state_in other new.slots ≡ state_in other old.slots
+    pub states : (other : ℕ) → other ≢ slot → slot_state other new.slots ≡ slot_state other old.slots
     pub acts : (slot == 0) ≡ false → (actor_at stands slot new ≡ actor_at stands slot old) ⊎ ((a : Acquire) × (actor_at stands slot new ≡ actor.Way a))
 
   same_poll : (slot : ℕ) (a b : ClientView R) → b ≡ a → IsIdlePoll slot a b
   same_poll slot a b same = record {
     session = ap (λ (c : ClientView R). c.session) same;
-    locks = λ site image. ap (λ (c : ClientView R). state_at site image c.locks) same;
-    states = λ other is. ap (λ (c : ClientView R). state_in other c.slots) same;
+    locks = λ site image. ap (λ (c : ClientView R). lock_state_at site image c.locks) same;
+    states = λ other is. ap (λ (c : ClientView R). slot_state other c.slots) same;
     acts = λ some. inl (ap (actor_at stands slot) same);
   }
 
-  pub acts_on : (slot : ℕ) (c : ClientView R) (a : Acquire) → (slot == 0) ≡ false → (state_in slot c.slots).way ≡ way.On a → actor_at stands slot c ≡ actor.Way a
+  pub acts_on : (slot : ℕ) (c : ClientView R) (a : Acquire) → (slot == 0) ≡ false → (slot_state slot c.slots).way ≡ way.On a → actor_at stands slot c ≡ actor.Way a
   acts_on slot c a some on =
-      ap (λ b. cond b (releasing c.release (due_release c)) (actor_on (state_in slot c.slots).way (own_look_at stands slot c.session) c.locks)) some
-      ∙ ap (λ w. actor_on w (own_look_at stands slot c.session) c.locks) on
+      ap (λ b. cond b (release_actor c.release (due_release c)) (actor_on (slot_state slot c.slots).way (look_under_lock_at stands slot c.session) c.locks)) some
+      ∙ ap (λ w. actor_on w (look_under_lock_at stands slot c.session) c.locks) on
 
   way_poll : (slot : ℕ) (x : Acquire) (told : Answer) (a b : ClientView R) → asks_again (kind_of (op_of x)) told ≡ true → IsFedBy stands slot x.site (op_of x) (fed.Answer told) None a b (actor.Way x)
-      → ((other : ℕ) → other ≢ slot → state_in other b.slots ≡ state_in other a.slots) → IsIdlePoll slot a b
+      → ((other : ℕ) → other ≢ slot → slot_state other b.slots ≡ slot_state other a.slots) → IsIdlePoll slot a b
   way_poll slot x reply a b again goes states = record {
     session = goes.session;
-    locks = λ site image. goes.counts site image ∙ again_counts x.stage x.site x.image reply again site image (state_at site image a.locks);
+    locks = λ site image. goes.counts site image ∙ again_counts x.stage x.site x.image reply again site image (lock_state_at site image a.locks);
     states = states;
-    acts = λ some. inr (by (state_in slot b.slots).way refl goes.comes some);
+    acts = λ some. inr (by (slot_state slot b.slots).way refl goes.comes some);
   }
     where
-      by : (w : Way) → (state_in slot b.slots).way ≡ w → WayComesTo x (fed.Answer reply) None w → (slot == 0) ≡ false → (y : Acquire) × (actor_at stands slot b ≡ actor.Way y)
+      by : (w : Way) → (slot_state slot b.slots).way ≡ w → WayComesTo x (fed.Answer reply) None w → (slot == 0) ≡ false → (y : Acquire) × (actor_at stands slot b ≡ actor.Way y)
       by (way.On y) on comes some = (y, acts_on slot b y some on)
       by (way.Taken p) on comes some = absurd (not_taken x.stage x.image reply again comes.asked (answer_is comes.done))
         where
@@ -281,7 +281,7 @@ module _ {R : Type 0} (stands : R → Standing) where
   same_of slot (Some a) (Some b) same = same_poll slot a b (same_Some b a same)
 
   -- of each session, at the slot that was polled, which for the others is any
-  pub poll_leaves : (session slot : ℕ) (old new : WorldView R) (result : Outcome) → IsStep stands (event.Poll session slot) old result new → goes_on result ≡ false → (s : ℕ)
+  pub poll_leaves : (session slot : ℕ) (old new : WorldView R) (result : Outcome) → IsWorldStep stands (event.Poll session slot) old result new → goes_on result ≡ false → (s : ℕ)
       → IsIdlePollOf slot (client_in s old.lives) (client_in s new.lives)
   poll_leaves session slot old new result (is, does) still s = by (session == s) refl (client_then stands (event.Poll session slot) (polled stands old.sites slot (client_in session old.lives)) old new does s)
     where
@@ -331,14 +331,14 @@ module _ {R : Type 0} (stands : R → Standing) where
           go true runs = heard_hears number n home old new runs
           go false runs = nothing_hears number home old new runs
 
-  pub delivery_leaves : (number : ℕ) (old new : WorldView R) (result : Outcome) → IsStep stands (event.Deliver number) old result new → (s : ℕ) → HearsOf (client_in s old.lives) (client_in s new.lives)
-  delivery_leaves number old new result (is, does) s = by (client_then stands (event.Deliver number) (delivered (numbered number old.sites.mail) old.lives) old new does s)
+  pub delivery_leaves : (number : ℕ) (old new : WorldView R) (result : Outcome) → IsWorldStep stands (event.Deliver number) old result new → (s : ℕ) → HearsOf (client_in s old.lives) (client_in s new.lives)
+  delivery_leaves number old new result (is, does) s = by (client_then stands (event.Deliver number) (delivered (notice_numbered number old.sites.mail) old.lives) old new does s)
     where
       by : (client_in s new.lives ≡ client_in s old.lives)
-          ⊎ ((home : SiteId) × RunsOn stands (event.Deliver number) (delivered (numbered number old.sites.mail) old.lives) home (client_in s old.lives) (client_in s new.lives))
+          ⊎ ((home : SiteId) × RunsOn stands (event.Deliver number) (delivered (notice_numbered number old.sites.mail) old.lives) home (client_in s old.lives) (client_in s new.lives))
           → HearsOf (client_in s old.lives) (client_in s new.lives)
       by (inl same) = same_hears (client_in s old.lives) (client_in s new.lives) same
-      by (inr (home, runs)) = delivered_hears number old.lives (numbered number old.sites.mail) home (client_in s old.lives) (client_in s new.lives) runs
+      by (inr (home, runs)) = delivered_hears number old.lives (notice_numbered number old.sites.mail) home (client_in s old.lives) (client_in s new.lives) runs
 
   -- ---- who is still stays so
 
@@ -348,13 +348,13 @@ module _ {R : Type 0} (stands : R → Standing) where
   on_locks way.Unbegun None old new same = refl
   on_locks way.Unbegun (Some p) old new same = ap (λ s. actor_by s p.site p.image) (same p.site p.image)
 
-  pub acts_same : (slot : ℕ) (a b : ClientView R) → (slot == 0) ≡ false → b.session ≡ a.session → AreStatesAlike a.locks b.locks → state_in slot b.slots ≡ state_in slot a.slots → actor_at stands slot b ≡ actor_at stands slot a
+  pub acts_same : (slot : ℕ) (a b : ClientView R) → (slot == 0) ≡ false → b.session ≡ a.session → AreStatesAlike a.locks b.locks → slot_state slot b.slots ≡ slot_state slot a.slots → actor_at stands slot b ≡ actor_at stands slot a
   acts_same slot a b some session locks state =
-      ap (λ x. cond x (releasing b.release (due_release b)) (actor_on (state_in slot b.slots).way (own_look_at stands slot b.session) b.locks)) some
-      ∙ ap (λ (s : SlotState). actor_on s.way (own_look_at stands slot b.session) b.locks) state
-      ∙ ap (λ (s : SessionView R). actor_on (state_in slot a.slots).way (own_look_at stands slot s) b.locks) session
-      ∙ on_locks (state_in slot a.slots).way (own_look_at stands slot a.session) a.locks b.locks locks
-      ∙ sym (ap (λ x. cond x (releasing a.release (due_release a)) (actor_on (state_in slot a.slots).way (own_look_at stands slot a.session) a.locks)) some)
+      ap (λ x. cond x (release_actor b.release (due_release b)) (actor_on (slot_state slot b.slots).way (look_under_lock_at stands slot b.session) b.locks)) some
+      ∙ ap (λ (s : SlotState). actor_on s.way (look_under_lock_at stands slot b.session) b.locks) state
+      ∙ ap (λ (s : SessionView R). actor_on (slot_state slot a.slots).way (look_under_lock_at stands slot s) b.locks) session
+      ∙ on_locks (slot_state slot a.slots).way (look_under_lock_at stands slot a.session) a.locks b.locks locks
+      ∙ sym (ap (λ x. cond x (release_actor a.release (due_release a)) (actor_on (slot_state slot a.slots).way (look_under_lock_at stands slot a.session) a.locks)) some)
 
   still_so : (slot : ℕ) (a b : ClientView R) → b.session ≡ a.session → (who : Actor) → actor_at stands slot b ≡ who → StaysIn slot a.session.lines who (held_in slot a.session.slots) → IsStill stands slot b
   still_so slot a b session who acts still =
@@ -387,44 +387,44 @@ module _ {R : Type 0} (stands : R → Standing) where
   asked_still slot lines r w false false asked still = still
 
   told_still : (slot : ℕ) (lines : LinesView) (r : Running R) (p : ImageAt) (kind : NoticeKind) (here : Bool) (s : LockState) → Stays slot lines r (actor_by s p.site p.image)
-      → Stays slot lines r (actor_by (cond here (told kind s) s) p.site p.image)
+      → Stays slot lines r (actor_by (cond here (told_state kind s) s) p.site p.image)
   told_still slot lines r p kind false s still = still
-  told_still slot lines r p notice.RequestLock true s still = asked_still slot lines r (begun p.site p.image s.watched) s.quiesced s.owned s.asked still
+  told_still slot lines r p notice.RequestLock true s still = asked_still slot lines r (begun_way p.site p.image s.watched) s.quiesced s.owned s.asked still
   told_still slot lines r p _ true s still = still
 
   hears_on : (slot : ℕ) (lines : LinesView) (r : Running R) (n : Notice) (w : Way) (look : Option ImageAt) (old new : LocksView)
-      → ((s : SiteId) (image : ℕ) → state_at s image new ≡ heard n s image (state_at s image old)) → Stays slot lines r (actor_on w look old) → Stays slot lines r (actor_on w look new)
+      → ((s : SiteId) (image : ℕ) → lock_state_at s image new ≡ heard n s image (lock_state_at s image old)) → Stays slot lines r (actor_on w look old) → Stays slot lines r (actor_on w look new)
   hears_on slot lines r n (way.On a) look old new locks still = tt
   hears_on slot lines r n (way.Taken p) look old new locks still = still
   hears_on slot lines r n way.Unbegun None old new locks still = still
   hears_on slot lines r n way.Unbegun (Some p) old new locks still =
       subst (λ s. Stays slot lines r (actor_by s p.site p.image)) (sym (locks p.site p.image))
-      (told_still slot lines r p n.kind (is_at n.site n.image p.site p.image) (state_at p.site p.image old) still)
+      (told_still slot lines r p n.kind (is_at n.site n.image p.site p.image) (lock_state_at p.site p.image old) still)
 
   hears_still : (slot : ℕ) (n : Notice) (a b : ClientView R) → (slot == 0) ≡ false → Hears stands n a b → IsStill stands slot a → IsStill stands slot b
   hears_still slot n a b some hears still = by (held_in slot a.session.slots) refl still
     where
-      acts : (c : ClientView R) → actor_at stands slot c ≡ actor_on (state_in slot c.slots).way (own_look_at stands slot c.session) c.locks
-      acts c = ap (λ x. cond x (releasing c.release (due_release c)) (actor_on (state_in slot c.slots).way (own_look_at stands slot c.session) c.locks)) some
+      acts : (c : ClientView R) → actor_at stands slot c ≡ actor_on (slot_state slot c.slots).way (look_under_lock_at stands slot c.session) c.locks
+      acts c = ap (λ x. cond x (release_actor c.release (due_release c)) (actor_on (slot_state slot c.slots).way (look_under_lock_at stands slot c.session) c.locks)) some
 
-      now : actor_at stands slot b ≡ actor_on (state_in slot a.slots).way (own_look_at stands slot a.session) b.locks
-      now = acts b ∙ ap (λ slots. actor_on (state_in slot slots).way (own_look_at stands slot b.session) b.locks) hears.slots
-          ∙ ap (λ (s : SessionView R). actor_on (state_in slot a.slots).way (own_look_at stands slot s) b.locks) hears.session
+      now : actor_at stands slot b ≡ actor_on (slot_state slot a.slots).way (look_under_lock_at stands slot a.session) b.locks
+      now = acts b ∙ ap (λ slots. actor_on (slot_state slot slots).way (look_under_lock_at stands slot b.session) b.locks) hears.slots
+          ∙ ap (λ (s : SessionView R). actor_on (slot_state slot a.slots).way (look_under_lock_at stands slot s) b.locks) hears.session
 
       by : (o : Option (Occupant R)) → held_in slot a.session.slots ≡ o → StaysIn slot a.session.lines (actor_at stands slot a) o → IsStill stands slot b
       by None held still = still_so slot a b hears.session (actor_at stands slot b) refl (subst (StaysIn slot a.session.lines (actor_at stands slot b)) (sym held) tt)
       by (Some (occupant.Refused line refusal)) held still = absurd still
       by (Some (occupant.Running r)) held still =
-          still_so slot a b hears.session (actor_on (state_in slot a.slots).way (own_look_at stands slot a.session) b.locks) now
-          (subst (StaysIn slot a.session.lines (actor_on (state_in slot a.slots).way (own_look_at stands slot a.session) b.locks)) (sym held)
-          (hears_on slot a.session.lines r n (state_in slot a.slots).way (own_look_at stands slot a.session) a.locks b.locks hears.locks
+          still_so slot a b hears.session (actor_on (slot_state slot a.slots).way (look_under_lock_at stands slot a.session) b.locks) now
+          (subst (StaysIn slot a.session.lines (actor_on (slot_state slot a.slots).way (look_under_lock_at stands slot a.session) b.locks)) (sym held)
+          (hears_on slot a.session.lines r n (slot_state slot a.slots).way (look_under_lock_at stands slot a.session) a.locks b.locks hears.locks
           (subst (Stays slot a.session.lines r) (acts a) still)))
 
   -- ---- an event of an idle round
 
   pub data IsIdleStep (old new : WorldView R) : Type 0 where
-    Told : (number : ℕ) (result : Outcome) → IsStep stands (event.Deliver number) old result new → IsIdleStep old new
-    Asked : (session slot : ℕ) (result : Outcome) → goes_on result ≡ false → IsStep stands (event.Poll session slot) old result new → IsIdleStep old new
+    Told : (number : ℕ) (result : Outcome) → IsWorldStep stands (event.Deliver number) old result new → IsIdleStep old new
+    Asked : (session slot : ℕ) (result : Outcome) → goes_on result ≡ false → IsWorldStep stands (event.Poll session slot) old result new → IsIdleStep old new
 
   -- where a slot of a session is still
   abbrev pub IsStillIn : (session slot : ℕ) → WorldView R → Type 0
@@ -449,13 +449,13 @@ module _ {R : Type 0} (stands : R → Standing) where
 
   -- ---- requests stay, and no line begins or ends
 
-  session_polled : (slot : ℕ) (old new : Option (ClientView R)) → IsIdlePollOf slot old new → session_of new ≡ session_of old
-  session_polled slot None new poll = ap session_of poll
+  session_polled : (slot : ℕ) (old new : Option (ClientView R)) → IsIdlePollOf slot old new → session_of_client new ≡ session_of_client old
+  session_polled slot None new poll = ap session_of_client poll
   session_polled slot (Some a) None poll = absurd poll
   session_polled slot (Some a) (Some b) poll = ap Some poll.session
 
-  session_hears : (old new : Option (ClientView R)) → HearsOf old new → session_of new ≡ session_of old
-  session_hears None new hears = ap session_of hears
+  session_hears : (old new : Option (ClientView R)) → HearsOf old new → session_of_client new ≡ session_of_client old
+  session_hears None new hears = ap session_of_client hears
   session_hears (Some a) None hears = absurd hears
   session_hears (Some a) (Some b) (inl same) = ap (λ (c : ClientView R). Some c.session) same
   session_hears (Some a) (Some b) (inr (n, hears)) = ap Some hears.session
@@ -485,7 +485,7 @@ module _ {R : Type 0} (stands : R → Standing) where
   told_starts None lives = refl
   told_starts (Some n) lives = heard_starts n (client_in n.to.session lives)
 
-  same_room : (old new : Option (ClientView R)) → session_of new ≡ session_of old → is_some (free_in new) ≡ is_some (free_in old)
+  same_room : (old new : Option (ClientView R)) → session_of_client new ≡ session_of_client old → is_some (free_in new) ≡ is_some (free_in old)
   same_room None None same = refl
   same_room None (Some b) same = absurd (none-some b.session (sym same))
   same_room (Some a) None same = absurd (none-some a.session same)
@@ -495,7 +495,7 @@ module _ {R : Type 0} (stands : R → Standing) where
   pub stays_quiet : (given : (session : ℕ) → List Given) (old new : WorldView R) → IsIdleStep old new → IsQuiet given old → IsQuiet given new
   stays_quiet given old new (Told number result step) quiet =
       quiet_along given old new (begun_then stands (event.Deliver number) _ old new step.1 (λ line. event_begins stands line (event.Deliver number) old tt))
-      (open_then stands (event.Deliver number) _ old new step.1 (λ line. still_open line _ (told_starts (numbered number old.sites.mail) old.lives)))
+      (open_then stands (event.Deliver number) _ old new step.1 (λ line. still_open line _ (told_starts (notice_numbered number old.sites.mail) old.lives)))
       (λ s. same_room (client_in s old.lives) (client_in s new.lives) (same_sessions old new (Told number result step) s)) quiet
   stays_quiet given old new (Asked session slot result still step) quiet =
       quiet_along given old new (begun_then stands (event.Poll session slot) _ old new step.1 (λ line. event_begins stands line (event.Poll session slot) old tt))

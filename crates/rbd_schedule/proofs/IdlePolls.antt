@@ -5,13 +5,13 @@ use Rattle.std.proofs.lemmas.Option.{none-some}
 use Rattle.rbd_client.specs.Client.{ClientView}
 use Rattle.rbd_kinds.specs.declared.id.SiteId.{SiteId}
 use Rattle.rbd_machine.specs.Plan.{Standing}
-use Rattle.rbd_session.specs.Session.{held_in}
+use Rattle.rbd_slots.specs.Session.{held_in}
 use Rattle.rbd_world.specs.declared.event.Event.{Event}
 use Rattle.rbd_world.specs.declared.event.Event.TheVariants as event
 use Rattle.rbd_world.specs.declared.event.Outcome.{Outcome}
 use Rattle.rbd_world.specs.Run.{Happening, outcome_of}
-use Rattle.rbd_world.specs.Step.{Becomes, BecomesOf, IsStep, LivesOnIf, RunsOn, polled}
-use Rattle.rbd_world.specs.World.{LivesView, WorldView, client_in, lives_in, running_of, session_of}
+use Rattle.rbd_world.specs.Step.{Becomes, BecomesOf, IsWorldStep, LivesOnIf, RunsOn, polled}
+use Rattle.rbd_world.specs.World.{LivesView, WorldView, client_in, lives_in, running_of, session_of_client}
 use Rattle.rbd_schedule.specs.Schedule.{goes_on}
 use Rattle.rbd_schedule.proofs.Idle.{IsIdleStep, idle_held, runs_idle, same_sessions}
 
@@ -22,7 +22,7 @@ module _ {R : Type 0} (stands : R → Standing) where
   named_lives e h (Some l) (Some m) on a is = (l.home, subst (λ o. RunsOn stands e h l.home o m.running) is on.running)
 
   -- what becomes of the client that an idle poll is of
-  pub polled_becomes : (session slot : ℕ) (old new : WorldView R) (result : Outcome) → IsStep stands (event.Poll session slot) old result new → goes_on result ≡ false → (a b : ClientView R)
+  pub polled_becomes : (session slot : ℕ) (old new : WorldView R) (result : Outcome) → IsWorldStep stands (event.Poll session slot) old result new → goes_on result ≡ false → (a b : ClientView R)
       → client_in session old.lives ≡ Some a → client_in session new.lives ≡ Some b
       → (goes_on (outcome_of (polled stands old.sites slot (Some a))) ≡ false) × Becomes stands (event.Poll session slot) (polled stands old.sites slot (Some a)) a b
   polled_becomes session slot old new result step none a b at there =
@@ -38,5 +38,5 @@ module _ {R : Type 0} (stands : R → Standing) where
   client_before s old new step c there = by (client_in s old.lives) refl
     where
       by : (o : Option (ClientView R)) → client_in s old.lives ≡ o → (a : ClientView R) × (client_in s old.lives ≡ Some a)
-      by None at = absurd (none-some c.session (sym (ap session_of at) ∙ sym (same_sessions stands old new step s) ∙ ap session_of there))
+      by None at = absurd (none-some c.session (sym (ap session_of_client at) ∙ sym (same_sessions stands old new step s) ∙ ap session_of_client there))
       by (Some a) at = (a, at)

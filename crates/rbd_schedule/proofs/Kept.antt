@@ -8,15 +8,15 @@ use Rattle.rbd_script.specs.declared.script.Script.{Script}
 use Rattle.rbd_world.specs.declared.event.Event.{Event}
 use Rattle.rbd_world.specs.declared.event.Event.TheVariants as event
 use Rattle.rbd_world.specs.declared.event.Outcome.{Outcome}
-use Rattle.rbd_world.specs.Step.{IsStep}
+use Rattle.rbd_world.specs.Step.{IsWorldStep}
 use Rattle.rbd_world.specs.World.{WorldView}
 use Rattle.rbd_schedule.specs.declared.given.Given.{Given}
 use Rattle.rbd_schedule.specs.Deeds.{Deeds}
 use Rattle.rbd_schedule.specs.Given.{commands_of, given_in, is_lost_by}
-use Rattle.rbd_schedule.specs.Notices.{is_due, runs}
+use Rattle.rbd_schedule.specs.Notices.{is_notice_due, runs}
 use Rattle.rbd_schedule.specs.Playing.{IsNoStart}
 use Rattle.rbd_schedule.specs.Schedule.{Calm, Comes, DeliversWhere, Happens, Pace, Plays, PlaysLine, PlaysScript, Polls, PollsAll, PollsBefore, PollsIn, PollsWhere, Round, RoundsOn, Settles, Starts, StartsAll, Submits, Turn, TurnOf, TurnWhere, closing_rounds, is_held}
-use Rattle.rbd_schedule.specs.Slots.{AreCounted}
+use Rattle.rbd_schedule.specs.Slots.{AreClientsCounted}
 
 -- what each of the deeds keeps, all keep
 pub kept_by_deeds : {S : Type 0} (P : S → Type 0) (deed : ℕ → S → S → Type 0) → ((k : ℕ) (old new : S) → deed k old new → P old → P new) → (n : ℕ) (old new : S) → Deeds deed n old new → P old → P new
@@ -37,7 +37,7 @@ MayComeBy May s = Unit {0}
 -- script, and beside them the lines' own events.
 module _ {R : Type 0} (stands : R → Standing) (P : WorldView R → Type 0) (May : Event → Type 0) (polls_may : (session slot : ℕ) → May (event.Poll session slot))
     (deliveries_may : (number : ℕ) → May (event.Deliver number))
-    (event_keeps : (e : Event) (result : Outcome) (old new : WorldView R) → May e → IsStep stands e old result new → AreCounted new → P old → P new) where
+    (event_keeps : (e : Event) (result : Outcome) (old new : WorldView R) → May e → IsWorldStep stands e old result new → AreClientsCounted new → P old → P new) where
   module _ (given : (session : ℕ) → List Given) (start : (session : ℕ) (old new : WorldView R) → Submits stands given session old new → P old → P new) where
     kept_by_start : (k : ℕ) (old new : WorldView R) → Starts stands given old new → P old → P new
     kept_by_start k old new starts is = start starts.session old new starts.submits is
@@ -72,7 +72,7 @@ module _ {R : Type 0} (stands : R → Standing) (P : WorldView R → Type 0) (Ma
       kept_by_turn : (session : ℕ) (old new : Pace R) → Turn stands given lost session old new → P old.world → P new.world
       kept_by_turn session old new turn is =
           kept_by_polls session (record { world = turn.told; went_on = old.went_on }) new turn.polls
-          (kept_by_deeds P (λ k. DeliversWhere stands given (is_due lost session (k + 1) old.world) (k + 1)) (λ k. kept_where_due (is_due lost session (k + 1) old.world) (k + 1))
+          (kept_by_deeds P (λ k. DeliversWhere stands given (is_notice_due lost session (k + 1) old.world) (k + 1)) (λ k. kept_where_due (is_notice_due lost session (k + 1) old.world) (k + 1))
           (length old.world.sites.mail) old.world turn.told turn.notices is)
 
       pub kept_where_runs : (running : Bool) (session : ℕ) (old new : Pace R) → TurnWhere stands given lost running session old new → P old.world → P new.world
@@ -138,7 +138,7 @@ plain (said.Restart session) = tt
 plain (said.Late session slot) = tt
 plain (said.Trim site image object) = tt
 
-pub kept_by_parts : {R : Type 0} (stands : R → Standing) (P : WorldView R → Type 0) → ((e : Event) (result : Outcome) (old new : WorldView R) → IsNoStart e → IsStep stands e old result new → P old → P new)
+pub kept_by_parts : {R : Type 0} (stands : R → Standing) (P : WorldView R → Type 0) → ((e : Event) (result : Outcome) (old new : WorldView R) → IsNoStart e → IsWorldStep stands e old result new → P old → P new)
     → (script : Script)
     → ((lines more : List Line) → script.lines ≡ lines ++ more → (session : ℕ) (old new : WorldView R) → Submits stands (given_in lines) session old new → P old → P new)
     → (old new : WorldView R) → PlaysScript stands script old new → P old → P new
@@ -146,14 +146,14 @@ kept_by_parts stands P event_keeps script start old new plays is =
     kept_by_lines stands P IsNoStart (λ session slot. tt) (λ number. tt) (λ e result a b may step counted. event_keeps e result a b may step) script (λ k line at. plain line.said) start old new plays is
 
 -- and what each step keeps, whatever the event
-pub kept_by_play : {R : Type 0} (stands : R → Standing) (P : WorldView R → Type 0) → ((e : Event) (result : Outcome) (old new : WorldView R) → IsStep stands e old result new → P old → P new)
+pub kept_by_play : {R : Type 0} (stands : R → Standing) (P : WorldView R → Type 0) → ((e : Event) (result : Outcome) (old new : WorldView R) → IsWorldStep stands e old result new → P old → P new)
     → (script : Script) (old new : WorldView R) → PlaysScript stands script old new → P old → P new
 kept_by_play stands P step script old new plays is =
     kept_by_parts stands P (λ e result a b plain. step e result a b) script
     (λ lines more whole session a b submits. step submits.command.submission submits.result a b submits.step) old new plays is
 
 -- the clients of a play's last world are counted, as those that each step leaves
-pub ends_counted : {R : Type 0} (stands : R → Standing) (script : Script) (old new : WorldView R) → PlaysScript stands script old new → AreCounted old → AreCounted new
+pub ends_counted : {R : Type 0} (stands : R → Standing) (script : Script) (old new : WorldView R) → PlaysScript stands script old new → AreClientsCounted old → AreClientsCounted new
 ends_counted stands script old new plays is =
-    kept_by_lines stands AreCounted IsNoStart (λ session slot. tt) (λ number. tt) (λ e result a b may step counted was. counted) script (λ k line at. plain line.said)
+    kept_by_lines stands AreClientsCounted IsNoStart (λ session slot. tt) (λ number. tt) (λ e result a b may step counted was. counted) script (λ k line at. plain line.said)
     (λ lines more whole session a b submits was. submits.counted) old new plays is

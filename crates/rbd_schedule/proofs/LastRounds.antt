@@ -1,5 +1,5 @@
--- The last rounds of those that close a script, which were idle; and what they show of each way to a
--- lock.
+-- The last rounds of those that close a script, which were idle; and what they show of each way to
+-- a lock.
 use Rattle.std.proofs.Common.{◌≡◌, ℕ, zero, suc, ◌+◌, ◌<◌, ◌≤◌, ◌==◌, ◌⊎◌, inl, inr, cond, Bool, true, false, List, Option, Some, None, refl, sym, ap, ◌∙◌, subst, arith}
 use Rattle.std.proofs.lemmas.Option.{none-some}
 use Rattle.rbd_client.specs.declared.actor.Actor.TheVariants as actor
@@ -8,12 +8,12 @@ use Rattle.rbd_client.specs.Client.{ClientView}
 use Rattle.rbd_kinds.specs.declared.id.SiteId.{SiteId}
 use Rattle.rbd_kinds.specs.declared.notice.Notice.{Notice}
 use Rattle.rbd_machine.specs.Plan.{Standing}
-use Rattle.rbd_owner.specs.Steps.{is_among}
-use Rattle.rbd_owner.specs.declared.acquire.Acquire.{Acquire}
-use Rattle.rbd_session.specs.Session.{running_at}
-use Rattle.rbd_session.specs.declared.running.Running.{Running}
+use Rattle.rbd_lock.specs.Steps.{is_instance_among}
+use Rattle.rbd_lock.specs.declared.acquire.Acquire.{Acquire}
+use Rattle.rbd_slots.specs.Session.{running_at}
+use Rattle.rbd_slots.specs.declared.running.Running.{Running}
 use Rattle.rbd_site.specs.Records.{Records}
-use Rattle.rbd_world.specs.World.{WorldView, client_in, records_in, session_in, session_of}
+use Rattle.rbd_world.specs.World.{WorldView, client_in, records_in, session_in, session_of_client}
 use Rattle.rbd_schedule.specs.declared.given.Given.{Given}
 use Rattle.rbd_schedule.specs.Deeds.{Deeds}
 use Rattle.rbd_schedule.specs.Ends.{IsAnothers}
@@ -63,7 +63,7 @@ module _ {R : Type 0} (stands : R → Standing) (given : (session : ℕ) → Lis
       let so = requests_kept count old between first quiet in
       keeps_turns stands given (HasRequestsOf stands given old) (requests_step stands given old) lost n (record { world = between; went_on = false }) (record { world = new; went_on = false }) last refl so
 
-  none_of : (o : Option (ClientView R)) → session_of o ≡ None → o ≡ None
+  none_of : (o : Option (ClientView R)) → session_of_client o ≡ None → o ≡ None
   none_of None is = refl
   none_of (Some c) is = absurd (none-some c.session (sym is))
 
@@ -84,7 +84,7 @@ module _ {R : Type 0} (stands : R → Standing) (given : (session : ℕ) → Lis
     sound_first = sound_again stands given w old (λ s. sym (same s)) sound
 
     none_first : (s : ℕ) → n ≤ s → client_in s old.lives ≡ None
-    none_first s past = none_of (client_in s old.lives) (sym (same s) ∙ ap session_of (none s past))
+    none_first s past = none_of (client_in s old.lives) (sym (same s) ∙ ap session_of_client (none s past))
 
     shown : AllShow stands base 0 n w
     shown = (rounds_show stands base given lost n 7 0 old w all_of quiet (record {
@@ -108,7 +108,7 @@ module _ {R : Type 0} (stands : R → Standing) (given : (session : ℕ) → Lis
         owner = was.owner;
         has = was.has;
         other = was.other;
-        watches = subst (λ ws. is_among ws was.owner ≡ true) (sym ((shown.alike a.site).1 a.image)) was.watches;
+        watches = subst (λ ws. is_instance_among ws was.owner ≡ true) (sym ((shown.alike a.site).1 a.image)) was.watches;
       }
 
       had : HadWay stands given lost before session slot c.session.instance a.site a.image

@@ -8,26 +8,26 @@ use Rattle.rbd_client.specs.declared.actor.Actor.TheVariants as actor
 use Rattle.rbd_client.specs.declared.slot_state.SlotState.{SlotState}
 use Rattle.rbd_client.specs.declared.slot_state.Way.{Way}
 use Rattle.rbd_client.specs.declared.slot_state.Way.TheVariants as way
-use Rattle.rbd_client.specs.Actor.{actor_at, actor_on, any_taken, due_release, has_taken, is_acquiring, may_release, releasing}
-use Rattle.rbd_client.specs.Client.{ClientView, state_in}
+use Rattle.rbd_client.specs.Actor.{actor_at, actor_on, any_taken, due_release, way_has_taken, is_acquiring, may_release, release_actor}
+use Rattle.rbd_client.specs.Client.{ClientView, slot_state}
 use Rattle.rbd_kinds.specs.Images.{is_at}
 use Rattle.rbd_kinds.proofs.Images.{at_itself}
 use Rattle.rbd_kinds.specs.declared.id.SiteId.{SiteId}
 use Rattle.rbd_kinds.specs.declared.image_at.ImageAt.{ImageAt}
-use Rattle.rbd_line.specs.Line.{any_past}
-use Rattle.rbd_locks.specs.declared.lock_state.LockState.{LockState}
-use Rattle.rbd_locks.specs.Locks.{state_at}
-use Rattle.rbd_locks.specs.Places.{is_among}
-use Rattle.rbd_locks.proofs.Keys.{where_same}
+use Rattle.rbd_queue.specs.Line.{any_past}
+use Rattle.rbd_lock.specs.declared.lock_state.LockState.{LockState}
+use Rattle.rbd_lock.specs.Locks.{lock_state_at}
+use Rattle.rbd_lock.specs.Places.{is_among}
+use Rattle.rbd_lock.proofs.Keys.{where_same}
 use Rattle.rbd_machine.specs.Plan.{Standing}
-use Rattle.rbd_owner.specs.declared.release.Release.{Release}
-use Rattle.rbd_session.specs.Lines.{lines_of}
-use Rattle.rbd_session.specs.Session.{IsSoundSession, SessionView, held_in, own_look_at}
+use Rattle.rbd_lock.specs.declared.release.Release.{Release}
+use Rattle.rbd_slots.specs.Lines.{lines_of}
+use Rattle.rbd_slots.specs.Session.{IsSoundSession, SessionView, held_in, look_under_lock_at}
 use Rattle.rbd_world.specs.declared.event.Event.TheVariants as event
 use Rattle.rbd_world.specs.declared.event.Outcome.{Outcome}
 use Rattle.rbd_world.specs.declared.sites.Sites.{Sites}
 use Rattle.rbd_world.specs.Run.{Happening, outcome_of}
-use Rattle.rbd_world.specs.Step.{Becomes, IsStep, polled, polled_in, releases}
+use Rattle.rbd_world.specs.Step.{Becomes, IsWorldStep, polled, polled_in, releases}
 use Rattle.rbd_world.specs.World.{WorldView, client_in}
 use Rattle.rbd_schedule.specs.Schedule.{goes_on}
 use Rattle.rbd_schedule.proofs.Ended.{AreSoundSessions}
@@ -41,26 +41,26 @@ module _ {R : Type 0} where
   pub record HasTaken (c : ClientView R) : Type 0 where
     pub slot : ℕ
     pub image : ImageAt
-    pub taken : (state_in slot c.slots).way ≡ way.Taken image
+    pub taken : (slot_state slot c.slots).way ≡ way.Taken image
 
   -- a lock that was asked for is kept
   abbrev pub KeepsAsked : ClientView R → Type 0
   KeepsAsked c =
-      (site : SiteId) (image : ℕ) → (state_at site image c.locks).asked ≡ true
-      → ((state_at site image c.locks).quiesced ≡ true) ⊎ ((any_past (lines_of c.session.lines site image) ≡ true) ⊎ HasTaken c)
+      (site : SiteId) (image : ℕ) → (lock_state_at site image c.locks).asked ≡ true
+      → ((lock_state_at site image c.locks).quiesced ≡ true) ⊎ ((any_past (lines_of c.session.lines site image) ≡ true) ⊎ HasTaken c)
 
 -- ---- where nothing is to be let go
 
 -- the first that took it
-taken_at : (site : SiteId) (image : ℕ) (slots : List SlotState) → any_taken site image slots ≡ true → (slot : ℕ) × (p : ImageAt) × ((state_in slot slots).way ≡ way.Taken p)
+taken_at : (site : SiteId) (image : ℕ) (slots : List SlotState) → any_taken site image slots ≡ true → (slot : ℕ) × (p : ImageAt) × ((slot_state slot slots).way ≡ way.Taken p)
 taken_at site image [] is = absurd (false≢true is)
 taken_at site image (s ∷ slots) is = by s.way refl is (taken_at site image slots)
   where
-    later : ((slot : ℕ) × (p : ImageAt) × ((state_in slot slots).way ≡ way.Taken p)) → (slot : ℕ) × (p : ImageAt) × ((state_in slot (s ∷ slots)).way ≡ way.Taken p)
+    later : ((slot : ℕ) × (p : ImageAt) × ((slot_state slot slots).way ≡ way.Taken p)) → (slot : ℕ) × (p : ImageAt) × ((slot_state slot (s ∷ slots)).way ≡ way.Taken p)
     later (slot, p, at) = (suc slot, p, at)
 
-    by : (y : Way) → s.way ≡ y → (has_taken site image y || any_taken site image slots) ≡ true → (any_taken site image slots ≡ true → (slot : ℕ) × (p : ImageAt) × ((state_in slot slots).way ≡ way.Taken p))
-        → (slot : ℕ) × (p : ImageAt) × ((state_in slot (s ∷ slots)).way ≡ way.Taken p)
+    by : (y : Way) → s.way ≡ y → (way_has_taken site image y || any_taken site image slots) ≡ true → (any_taken site image slots ≡ true → (slot : ℕ) × (p : ImageAt) × ((slot_state slot slots).way ≡ way.Taken p))
+        → (slot : ℕ) × (p : ImageAt) × ((slot_state slot (s ∷ slots)).way ≡ way.Taken p)
     by (way.Taken p) at is rest = (0, p, at)
     by (way.On a) at is rest = later (rest is)
     by way.Unbegun at is rest = later (rest is)
@@ -82,11 +82,11 @@ module _ {R : Type 0} (stands : R → Standing) where
 
   kept_asked : (c : ClientView R) → due_release c ≡ None → KeepsAsked c
   kept_asked c none site image asked =
-      by (state_at site image c.locks).quiesced refl (any_past (lines_of c.session.lines site image)) refl (any_taken site image c.slots) refl (none_found c c.locks.asked none site image asked)
+      by (lock_state_at site image c.locks).quiesced refl (any_past (lines_of c.session.lines site image)) refl (any_taken site image c.slots) refl (none_found c c.locks.asked none site image asked)
     where
-      by : (q : Bool) → (state_at site image c.locks).quiesced ≡ q → (past : Bool) → any_past (lines_of c.session.lines site image) ≡ past → (taken : Bool) → any_taken site image c.slots ≡ taken
+      by : (q : Bool) → (lock_state_at site image c.locks).quiesced ≡ q → (past : Bool) → any_past (lines_of c.session.lines site image) ≡ past → (taken : Bool) → any_taken site image c.slots ≡ taken
           → (not q && (not past && not taken)) ≡ false
-          → ((state_at site image c.locks).quiesced ≡ true) ⊎ ((any_past (lines_of c.session.lines site image) ≡ true) ⊎ HasTaken c)
+          → ((lock_state_at site image c.locks).quiesced ≡ true) ⊎ ((any_past (lines_of c.session.lines site image) ≡ true) ⊎ HasTaken c)
       by true quiesced past at taken is may = inl quiesced
       by false quiesced true at taken is may = inr (inl at)
       by false quiesced false at true is may = let it = taken_at site image c.slots is in inr (inr (record { slot = it.0; image = it.1; taken = it.2 }))
@@ -96,7 +96,7 @@ module _ {R : Type 0} (stands : R → Standing) where
   abbrev HasNoRelease : ClientView R → Type 0
   HasNoRelease c = due_release c ≡ None
 
-  none_due : (release : Option Release) (due : Option ImageAt) (sites : Sites) (c : ClientView R) → goes_on (outcome_of (releases sites c.session.instance (releasing release due))) ≡ false → due ≡ None
+  none_due : (release : Option Release) (due : Option ImageAt) (sites : Sites) (c : ClientView R) → goes_on (outcome_of (releases sites c.session.instance (release_actor release due))) ≡ false → due ≡ None
   none_due (Some r) due sites c still = absurd (true≢false still)
   none_due None (Some p) sites c still = absurd (true≢false still)
   none_due None None sites c still = refl
@@ -117,8 +117,8 @@ module _ {R : Type 0} (stands : R → Standing) where
 
       acts : it.slot ≡ slot → actor_at stands slot a ≡ actor.Request
       acts is =
-          ap (λ b. cond b (releasing a.release (due_release a)) (actor_on (state_in slot a.slots).way (own_look_at stands slot a.session) a.locks)) some
-          ∙ ap (λ y. actor_on y (own_look_at stands slot a.session) a.locks) (subst (λ n. (state_in n a.slots).way ≡ way.Taken it.image) is it.taken)
+          ap (λ b. cond b (release_actor a.release (due_release a)) (actor_on (slot_state slot a.slots).way (look_under_lock_at stands slot a.session) a.locks)) some
+          ∙ ap (λ y. actor_on y (look_under_lock_at stands slot a.session) a.locks) (subst (λ n. (slot_state n a.slots).way ≡ way.Taken it.image) is it.taken)
 
       by : (it.slot ≡ slot) ⊎ (it.slot ≡ slot → ⊥) → IsIdleBy stands sites a slot h → HasTaken b
       by (inr away) idle = record { slot = it.slot; image = it.image; taken = ap (λ (s : SlotState). s.way) (poll.states it.slot away) ∙ it.taken }
@@ -129,8 +129,8 @@ module _ {R : Type 0} (stands : R → Standing) where
   keeps_polled : (a b : ClientView R) (slot : ℕ) → IsIdlePoll stands slot a b → (HasTaken a → HasTaken b) → KeepsAsked a → KeepsAsked b
   keeps_polled a b slot poll taken keeps site image asked = by (keeps site image (sym (ap (λ (s : LockState). s.asked) (poll.locks site image)) ∙ asked))
     where
-      by : ((state_at site image a.locks).quiesced ≡ true) ⊎ ((any_past (lines_of a.session.lines site image) ≡ true) ⊎ HasTaken a)
-          → ((state_at site image b.locks).quiesced ≡ true) ⊎ ((any_past (lines_of b.session.lines site image) ≡ true) ⊎ HasTaken b)
+      by : ((lock_state_at site image a.locks).quiesced ≡ true) ⊎ ((any_past (lines_of a.session.lines site image) ≡ true) ⊎ HasTaken a)
+          → ((lock_state_at site image b.locks).quiesced ≡ true) ⊎ ((any_past (lines_of b.session.lines site image) ≡ true) ⊎ HasTaken b)
       by (inl quiesced) = inl (ap (λ (s : LockState). s.quiesced) (poll.locks site image) ∙ quiesced)
       by (inr (inl past)) = inr (inl (subst (λ (s : SessionView R). any_past (lines_of s.lines site image) ≡ true) (sym poll.session) past))
       by (inr (inr it)) = inr (inr (taken it))
@@ -140,7 +140,7 @@ module _ {R : Type 0} (stands : R → Standing) where
   abbrev pub KeepsIn : (session : ℕ) → WorldView R → Type 0
   KeepsIn session w = (c : ClientView R) → client_in session w.lives ≡ Some c → KeepsAsked c
 
-  pub keeps_by_poll : (session slot : ℕ) → (slot == 0) ≡ false → (old new : WorldView R) (result : Outcome) → IsStep stands (event.Poll session slot) old result new → goes_on result ≡ false → KeepsIn session old → KeepsIn session new
+  pub keeps_by_poll : (session slot : ℕ) → (slot == 0) ≡ false → (old new : WorldView R) (result : Outcome) → IsWorldStep stands (event.Poll session slot) old result new → goes_on result ≡ false → KeepsIn session old → KeepsIn session new
   keeps_by_poll session slot some old new result step none keeps c there =
       let was = client_before stands session old new (Asked session slot result none step) c there in
       let becomes = polled_becomes stands session slot old new result step none was.0 c was.1 there in
@@ -149,7 +149,7 @@ module _ {R : Type 0} (stands : R → Standing) where
       keeps_polled was.0 c slot poll (taken_polled session slot old.sites was.0 c (polled stands old.sites slot (Some was.0)) idle becomes.1 some poll) (keeps was.0 was.1)
 
   -- behind the poll of slot 0
-  pub keeps_by_house : (session : ℕ) (old new : WorldView R) (result : Outcome) → IsStep stands (event.Poll session 0) old result new → goes_on result ≡ false → AreSoundSessions stands (λ s. []) old → KeepsIn session new
+  pub keeps_by_house : (session : ℕ) (old new : WorldView R) (result : Outcome) → IsWorldStep stands (event.Poll session 0) old result new → goes_on result ≡ false → AreSoundSessions stands (λ s. []) old → KeepsIn session new
   keeps_by_house session old new result step none sound c there =
       let was = client_before stands session old new (Asked session 0 result none step) c there in
       let becomes = polled_becomes stands session 0 old new result step none was.0 c was.1 there in
@@ -157,15 +157,15 @@ module _ {R : Type 0} (stands : R → Standing) where
       same was.0 c (polled stands old.sites 0 (Some was.0)) idle becomes.1 (kept_asked was.0 (polled_none old.sites was.0 (sound session was.0 was.1) becomes.0))
       (ap is_acquiring (actor_is was.0))
     where
-      actor_is : (a : ClientView R) → actor_at stands 0 a ≡ releasing a.release (due_release a)
+      actor_is : (a : ClientView R) → actor_at stands 0 a ≡ release_actor a.release (due_release a)
       actor_is a = refl
 
-      never : (release : Option Release) (due : Option ImageAt) → is_acquiring (releasing release due) ≡ false
+      never : (release : Option Release) (due : Option ImageAt) → is_acquiring (release_actor release due) ≡ false
       never (Some r) due = refl
       never None (Some p) = refl
       never None None = refl
 
-      same : (a b : ClientView R) (h : Happening) → IsIdleBy stands old.sites a 0 h → Becomes stands (event.Poll session 0) h a b → KeepsAsked a → is_acquiring (actor_at stands 0 a) ≡ is_acquiring (releasing a.release (due_release a)) → KeepsAsked b
+      same : (a b : ClientView R) (h : Happening) → IsIdleBy stands old.sites a 0 h → Becomes stands (event.Poll session 0) h a b → KeepsAsked a → is_acquiring (actor_at stands 0 a) ≡ is_acquiring (release_actor a.release (due_release a)) → KeepsAsked b
       same a b h (inl is) becomes keeps acts = subst KeepsAsked (sym (subst (λ x. Becomes stands (event.Poll session 0) x a b) is becomes)) keeps
       same a b h (inr (inl is)) becomes keeps acts = subst KeepsAsked (sym (subst (λ x. Becomes stands (event.Poll session 0) x a b) is becomes)) keeps
       same a b h (inr (inr asks)) becomes keeps acts = absurd (false≢true (sym (acts ∙ never a.release (due_release a)) ∙ ap is_acquiring asks.acts))

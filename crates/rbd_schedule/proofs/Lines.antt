@@ -11,9 +11,9 @@ use Rattle.rbd_script.specs.declared.script.Said.{Said}
 use Rattle.rbd_script.specs.declared.script.Said.TheVariants as said
 use Rattle.rbd_schedule.specs.declared.given.Given.{Given}
 use Rattle.rbd_schedule.specs.declared.runner.Runner.{Runner}
-use Rattle.rbd_schedule.specs.Given.{commands_of, given_by, given_in, is_lost_by, loses, of_session}
+use Rattle.rbd_schedule.specs.Given.{commands_of, given_by, given_in, is_lost_by, loses_notice, of_session}
 use Rattle.rbd_schedule.specs.InOrder.{AreDeclared, NamesDeclared}
-use Rattle.rbd_schedule.specs.Playing.{IsPlayed, commands_in, given_to}
+use Rattle.rbd_schedule.specs.Playing.{IsPlayedLine, commands_in, given_to}
 
 pub commands_more : (lines : List Line) (k : ℕ) (line : Line) → k < length lines → line ≡ get_or lines k line
     → commands_of (take (k + 1) lines) ≡ commands_of (take k lines) ++ given_by line.number line.said
@@ -27,15 +27,15 @@ given_more lines k line session within is =
     ap (of_session session) (commands_more lines k line within is)
     ∙ filter-append (λ (c : Given). c.session == session) (commands_of (take k lines)) (given_by line.number line.said)
 
-pub played_at : (lines : List Line) (k : ℕ) (line : Line) → All (λ (l : Line). IsPlayed l.said) lines → k < length lines → line ≡ get_or lines k line → IsPlayed line.said
-played_at lines k line all within is = subst (λ (l : Line). IsPlayed l.said) (sym is) (All-get_or (λ (l : Line). IsPlayed l.said) lines k line within all)
+pub played_at : (lines : List Line) (k : ℕ) (line : Line) → All (λ (l : Line). IsPlayedLine l.said) lines → k < length lines → line ≡ get_or lines k line → IsPlayedLine line.said
+played_at lines k line all within is = subst (λ (l : Line). IsPlayedLine l.said) (sym is) (All-get_or (λ (l : Line). IsPlayedLine l.said) lines k line within all)
 
 -- ---- the notices that are lost
 
 pub lost_more : (lines : List Line) (k : ℕ) (line : Line) (number : ℕ) → k < length lines → line ≡ get_or lines k line
-    → is_lost_by (take (k + 1) lines) number ≡ (is_lost_by (take k lines) number || loses number line.said)
+    → is_lost_by (take (k + 1) lines) number ≡ (is_lost_by (take k lines) number || loses_notice number line.said)
 lost_more lines k line number within is =
-    list_any_more (λ (l : Line). loses number l.said) lines k line within ∙ ap (λ (l : Line). is_lost_by (take k lines) number || loses number l.said) (sym is)
+    list_any_more (λ (l : Line). loses_notice number l.said) lines k line within ∙ ap (λ (l : Line). is_lost_by (take k lines) number || loses_notice number l.said) (sym is)
 
 -- ---- lines of sessions that are declared
 

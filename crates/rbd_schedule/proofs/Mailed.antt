@@ -15,7 +15,7 @@ use Rattle.rbd_site.specs.Log.{SiteLog}
 use Rattle.rbd_site.specs.Records.{Records}
 use Rattle.rbd_site.specs.Step.{is_fenced, mail_after, mail_served}
 use Rattle.rbd_site.specs.WatchStep.{notified}
-use Rattle.rbd_watch.specs.Posting.{AreNumberedFrom, notices, numbered}
+use Rattle.rbd_watch.specs.Posting.{AreNumberedFrom, notices, notice_numbered}
 use Rattle.rbd_watch.proofs.Numbers.{at_place, below, notices_numbered, numbered_append}
 use Rattle.rbd_world.specs.declared.event.Event.{Event}
 use Rattle.rbd_world.specs.declared.event.Event.TheVariants as event
@@ -23,7 +23,7 @@ use Rattle.rbd_world.specs.declared.event.Outcome.{Outcome}
 use Rattle.rbd_world.specs.declared.sites.Sites.{Sites}
 use Rattle.rbd_world.specs.Run.{Did, Happening, outcome_of}
 use Rattle.rbd_world.specs.Sound.{IsNewWorld}
-use Rattle.rbd_world.specs.Step.{IsStep, delivered, happening, mail_then}
+use Rattle.rbd_world.specs.Step.{IsWorldStep, delivered, happening, mail_then}
 use Rattle.rbd_world.specs.World.{WorldView, records_in, site_in}
 use Rattle.rbd_schedule.specs.Notices.{hears, is_heard, was_heard}
 use Rattle.rbd_schedule.proofs.Passing.{StaysIn, heard_then, then_stays}
@@ -63,11 +63,11 @@ got_below (x ∷ mail) zero n is = omega arith
 got_below (x ∷ mail) (suc i) n is = let less = got_below mail i n is in omega (arith, less)
 
 -- a notice that is there has one of these numbers
-pub there_below : (number : ℕ) (mail : List Notice) (n : Notice) → AreNumberedFrom 1 mail → numbered number mail ≡ Some n → (1 ≤ number) × (number ≤ length mail)
+pub there_below : (number : ℕ) (mail : List Notice) (n : Notice) → AreNumberedFrom 1 mail → notice_numbered number mail ≡ Some n → (1 ≤ number) × (number ≤ length mail)
 there_below zero mail n are is = absurd (none-some n (sym (below 1 0 mail are (omega arith)) ∙ is))
 there_below (suc i) mail n are is =
     let next : suc i ≡ 1 + i = omega arith in
-    let less = got_below mail i n (sym (at_place 1 i mail are) ∙ subst (λ k. numbered k mail ≡ Some n) next is) in
+    let less = got_below mail i n (sym (at_place 1 i mail are) ∙ subst (λ k. notice_numbered k mail ≡ Some n) next is) in
     (omega arith, omega (arith, less))
 
 -- ---- what was heard
@@ -80,9 +80,9 @@ module _ {R : Type 0} (stands : R → Standing) where
   hears_there : (e : Event) (result : Outcome) (old : WorldView R) → result ≡ outcome_of (happening stands e old) → AreNumberedFrom 1 old.sites.mail → (number : ℕ) → hears number e result ≡ true → number ≤ length old.sites.mail
   hears_there (event.Deliver k) result old is are number hears =
       let parts = and_parts (k == number) (is_heard result) hears in
-      subst (λ n. n ≤ length old.sites.mail) (eqb-true k number parts.0) (by (numbered k old.sites.mail) refl (sym (ap is_heard is) ∙ parts.1))
+      subst (λ n. n ≤ length old.sites.mail) (eqb-true k number parts.0) (by (notice_numbered k old.sites.mail) refl (sym (ap is_heard is) ∙ parts.1))
     where
-      by : (o : Option Notice) → numbered k old.sites.mail ≡ o → is_heard (outcome_of (delivered (numbered k old.sites.mail) old.lives)) ≡ true → k ≤ length old.sites.mail
+      by : (o : Option Notice) → notice_numbered k old.sites.mail ≡ o → is_heard (outcome_of (delivered (notice_numbered k old.sites.mail) old.lives)) ≡ true → k ≤ length old.sites.mail
       by None at heard = absurd (false≢true (sym (ap (λ o. is_heard (outcome_of (delivered o old.lives))) at) ∙ heard))
       by (Some n) at heard = (there_below k old.sites.mail n are at).1
   hears_there (event.Submit session line c) result old is are number hears = absurd (false≢true hears)
@@ -93,7 +93,7 @@ module _ {R : Type 0} (stands : R → Standing) where
   hears_there (event.Restart session) result old is are number hears = absurd (false≢true hears)
   hears_there (event.Trim s image object) result old is are number hears = absurd (false≢true hears)
 
-  pub mailed_step : (e : Event) (result : Outcome) (old new : WorldView R) → IsStep stands e old result new → IsMailed old → IsMailed new
+  pub mailed_step : (e : Event) (result : Outcome) (old new : WorldView R) → IsWorldStep stands e old result new → IsMailed old → IsMailed new
   mailed_step e result old new step was = record {
     ids = λ s. ap (λ (x : SiteLog). x.id) (step.1.sites s) ∙ was.ids s;
     numbers = subst (AreNumberedFrom 1) (sym step.1.mail) (then_numbers (happening stands e old) old.sites was.numbers);

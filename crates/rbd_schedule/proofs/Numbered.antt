@@ -12,7 +12,7 @@ use Rattle.rbd_script.specs.declared.script.Said.TheVariants as said
 use Rattle.rbd_world.specs.declared.event.Event.TheVariants as event
 use Rattle.rbd_schedule.specs.declared.given.Given.{Given}
 use Rattle.rbd_schedule.specs.Given.{commands_of, given_by, given_in, of_session}
-use Rattle.rbd_schedule.specs.InOrder.{AreBehind}
+use Rattle.rbd_schedule.specs.InOrder.{AreAscendingFrom}
 
 -- ---- the command of a line
 
@@ -48,7 +48,7 @@ all_submitted (line ∷ lines) =
 abbrev pub AreNumbered : List Given → Type 0
 AreNumbered given = AllPairs (λ (a b : Given). a.line < b.line) given
 
-numbers_behind : (number : ℕ) (lines : List Line) → AreBehind number lines → All (λ (c : Given). number < c.line) (commands_of lines)
+numbers_behind : (number : ℕ) (lines : List Line) → AreAscendingFrom number lines → All (λ (c : Given). number < c.line) (commands_of lines)
 numbers_behind number [] behind = All-nil (λ (c : Given). number < c.line)
 numbers_behind number (line ∷ lines) behind =
     let first = behind.0 in
@@ -56,7 +56,7 @@ numbers_behind number (line ∷ lines) behind =
     one_given (λ given. All (λ (c : Given). number < c.line) (given ++ commands_of lines)) line.number line.said later
     (λ c same is. All-cons (λ (c : Given). number < c.line) c (commands_of lines) (subst (λ n. number < n) (sym same) first) later)
 
-are_numbered : (number : ℕ) (lines : List Line) → AreBehind number lines → AreNumbered (commands_of lines)
+are_numbered : (number : ℕ) (lines : List Line) → AreAscendingFrom number lines → AreNumbered (commands_of lines)
 are_numbered number [] behind = λ i j d less within. absurd (omega (arith, within))
 are_numbered number (line ∷ lines) behind =
     let rest = are_numbered line.number lines behind.1 in
@@ -64,7 +64,7 @@ are_numbered number (line ∷ lines) behind =
     (λ c same is. AllPairs-cons (λ (a b : Given). a.line < b.line) c (commands_of lines)
     (subst (λ n. All (λ (x : Given). n < x.line) (commands_of lines)) (sym same) (numbers_behind line.number lines behind.1)) rest)
 
-pub session_numbered : (lines : List Line) (session : ℕ) → AreBehind 0 lines → AreNumbered (given_in lines session)
+pub session_numbered : (lines : List Line) (session : ℕ) → AreAscendingFrom 0 lines → AreNumbered (given_in lines session)
 session_numbered lines session behind = AllPairs-filter (λ (a b : Given). a.line < b.line) (λ (c : Given). c.session == session) (commands_of lines) (are_numbered 0 lines behind)
 
 -- two places with one number are one place
@@ -96,7 +96,7 @@ own_session lines session =
 pub submitted_in : (lines : List Line) (session : ℕ) → All IsSubmission (given_in lines session)
 submitted_in lines session = All-filter (λ (c : Given). c.session == session) IsSubmission (commands_of lines) (all_submitted lines)
 
-pub one_in_script : (lines : List Line) → AreBehind 0 lines → (x y : Given) → Contains (commands_of lines) x → Contains (commands_of lines) y → x.line ≡ y.line → x ≡ y
+pub one_in_script : (lines : List Line) → AreAscendingFrom 0 lines → (x y : Given) → Contains (commands_of lines) x → Contains (commands_of lines) y → x.line ≡ y.line → x ≡ y
 one_in_script lines behind x y first second same = one_command (commands_of lines) (are_numbered 0 lines behind) x y first second same
 
 -- first those of the first lines

@@ -18,7 +18,7 @@ use Rattle.rbd_machine.specs.Plan.{Standing}
 use Rattle.rbd_site.specs.Records.{Records}
 use Rattle.rbd_site.specs.Step.{is_fenced, mail_after, mail_served}
 use Rattle.rbd_site.specs.WatchStep.{notified}
-use Rattle.rbd_watch.specs.Posting.{numbered}
+use Rattle.rbd_watch.specs.Posting.{notice_numbered}
 use Rattle.rbd_world.specs.declared.event.Call.{Call}
 use Rattle.rbd_world.specs.declared.event.Event.{Event}
 use Rattle.rbd_world.specs.declared.event.Event.TheVariants as event
@@ -26,11 +26,11 @@ use Rattle.rbd_world.specs.declared.event.Outcome.{Outcome}
 use Rattle.rbd_world.specs.declared.sites.Sites.{Sites}
 use Rattle.rbd_world.specs.Run.{Happening, Nothing, Waited, Began, Did, Refused, Trimmed, Expired, Heard, Stopped, Restarted, IsOfEvent, outcome_of}
 use Rattle.rbd_world.specs.Sound.{IsSoundWorld}
-use Rattle.rbd_world.specs.Step.{IsStep, LivesOnIf, happening, latest_behind, mail_then, names_session, next_life, restarted, restarted_of}
+use Rattle.rbd_world.specs.Step.{IsWorldStep, LivesOnIf, happening, latest_behind, mail_then, names_session, next_life, restarted, restarted_of}
 use Rattle.rbd_world.specs.World.{LivesView, WorldView, client_in, lives_in, records_in, running_of}
 use Rattle.rbd_world.proofs.Carried.{of_event}
-use Rattle.rbd_schedule.specs.Notices.{hears, is_due, is_to, was_heard}
-use Rattle.rbd_schedule.specs.Playing.{IsPassed, is_past, is_settled}
+use Rattle.rbd_schedule.specs.Notices.{hears, is_notice_due, is_to, was_heard}
+use Rattle.rbd_schedule.specs.Playing.{IsPassed, is_past_life, is_dealt_with}
 
 -- ---- what is posted stays
 
@@ -60,13 +60,13 @@ pub then_stays : (h : Happening) (sites : Sites) → StaysIn sites.mail (mail_th
 then_stays (Did o reply) sites = mail_stays _ (records_in o.site sites) o.instance o.op sites.mail
 then_stays _ sites = stays_itself sites.mail
 
-pub numbered_stays : (number : ℕ) (mail now : List Notice) (n : Notice) → StaysIn mail now → numbered number mail ≡ Some n → numbered number now ≡ Some n
+pub numbered_stays : (number : ℕ) (mail now : List Notice) (n : Notice) → StaysIn mail now → notice_numbered number mail ≡ Some n → notice_numbered number now ≡ Some n
 numbered_stays number mail now n (more, are) is =
-    ap (numbered number) are ∙ find-append (λ (x : Notice). x.number == number) mail more ∙ ap (λ o. option_or o (numbered number more)) is
+    ap (notice_numbered number) are ∙ find-append (λ (x : Notice). x.number == number) mail more ∙ ap (λ o. option_or o (notice_numbered number more)) is
 
 -- ---- what was heard
 
-pub heard_then : {R : Type 0} (stands : R → Standing) (e : Event) (result : Outcome) (old new : WorldView R) → IsStep stands e old result new
+pub heard_then : {R : Type 0} (stands : R → Standing) (e : Event) (result : Outcome) (old new : WorldView R) → IsWorldStep stands e old result new
     → (number : ℕ) → was_heard number new.calls ≡ (was_heard number old.calls || hears number e result)
 heard_then stands e result old new (is, does) number =
     ap (was_heard number) does.calls ∙ list_any-append (λ (c : Call). hears number c.event c.outcome) old.calls _
@@ -146,7 +146,7 @@ module _ {R : Type 0} (stands : R → Standing) where
     was : lives_in s old.lives ≡ Some before
     from : IsFrom before.latest l.latest
 
-  came_from : (e : Event) (old new : WorldView R) (result : Outcome) → IsStep stands e old result new → IsSoundWorld stands old → (s : ℕ) (l : LivesView R) → lives_in s new.lives ≡ Some l → CameFrom s old l
+  came_from : (e : Event) (old new : WorldView R) (result : Outcome) → IsWorldStep stands e old result new → IsSoundWorld stands old → (s : ℕ) (l : LivesView R) → lives_in s new.lives ≡ Some l → CameFrom s old l
   came_from e old new result (is, does) sound s l there = by (names_session e (happening stands e old) s) refl
     where
       named : (a : Option (LivesView R)) → lives_in s old.lives ≡ a → names_session e (happening stands e old) s ≡ true → LivesOnIf stands e (happening stands e old) a (Some l) → CameFrom s old l
@@ -159,10 +159,10 @@ module _ {R : Type 0} (stands : R → Standing) where
 
 -- ---- what is settled stays so
 
-past_stays : (to old new : Instance) → IsFrom old new → is_past to old ≡ true → is_past to new ≡ true
+past_stays : (to old new : Instance) → IsFrom old new → is_past_life to old ≡ true → is_past_life to new ≡ true
 past_stays to old new from is = by (or_cases (not (to.session == old.session)) (nat_lt to.life old.life) is)
   where
-    by : (not (to.session == old.session) ≡ true) ⊎ (nat_lt to.life old.life ≡ true) → is_past to new ≡ true
+    by : (not (to.session == old.session) ≡ true) ⊎ (nat_lt to.life old.life ≡ true) → is_past_life to new ≡ true
     by (inl other) = or_left (not (to.session == new.session)) (nat_lt to.life new.life) (ap (λ n. not (to.session == n)) from.session ∙ other)
     by (inr earlier) =
         let less = ltb-true to.life old.life earlier in
@@ -170,26 +170,26 @@ past_stays to old new from is = by (or_cases (not (to.session == old.session)) (
         or_right (not (to.session == new.session)) (nat_lt to.life new.life) (lt-ltb to.life new.life (omega (arith, less, life)))
 
 settled_stays : (heard heard' lost lost' : (number : ℕ) → Bool) (old new : Instance) (number : ℕ) (mail now : List Notice) → ((n : ℕ) → heard n ≡ true → heard' n ≡ true) → ((n : ℕ) → lost n ≡ true → lost' n ≡ true)
-    → IsFrom old new → StaysIn mail now → is_settled heard lost old number (numbered number mail) ≡ true → is_settled heard' lost' new number (numbered number now) ≡ true
-settled_stays heard heard' lost lost' old new number mail now more loses from stays is = by (numbered number mail) refl is
+    → IsFrom old new → StaysIn mail now → is_dealt_with heard lost old number (notice_numbered number mail) ≡ true → is_dealt_with heard' lost' new number (notice_numbered number now) ≡ true
+settled_stays heard heard' lost lost' old new number mail now more loses from stays is = by (notice_numbered number mail) refl is
   where
-    one : (n : Notice) → (is_past n.to old ≡ true) ⊎ ((heard number || lost number) ≡ true) → (is_past n.to new || (heard' number || lost' number)) ≡ true
-    one n (inl past) = or_left (is_past n.to new) (heard' number || lost' number) (past_stays n.to old new from past)
-    one n (inr told) = or_right (is_past n.to new) (heard' number || lost' number) (two (or_cases (heard number) (lost number) told))
+    one : (n : Notice) → (is_past_life n.to old ≡ true) ⊎ ((heard number || lost number) ≡ true) → (is_past_life n.to new || (heard' number || lost' number)) ≡ true
+    one n (inl past) = or_left (is_past_life n.to new) (heard' number || lost' number) (past_stays n.to old new from past)
+    one n (inr told) = or_right (is_past_life n.to new) (heard' number || lost' number) (two (or_cases (heard number) (lost number) told))
       where
         two : (heard number ≡ true) ⊎ (lost number ≡ true) → (heard' number || lost' number) ≡ true
         two (inl it) = or_left (heard' number) (lost' number) (more number it)
         two (inr it) = or_right (heard' number) (lost' number) (loses number it)
 
-    by : (o : Option Notice) → numbered number mail ≡ o → is_settled heard lost old number o ≡ true → is_settled heard' lost' new number (numbered number now) ≡ true
+    by : (o : Option Notice) → notice_numbered number mail ≡ o → is_dealt_with heard lost old number o ≡ true → is_dealt_with heard' lost' new number (notice_numbered number now) ≡ true
     by None at is = absurd (false≢true is)
     by (Some n) at is =
-        ap (is_settled heard' lost' new number) (numbered_stays number mail now n stays at)
-        ∙ one n (or_cases (is_past n.to old) (heard number || lost number) is)
+        ap (is_dealt_with heard' lost' new number) (numbered_stays number mail now n stays at)
+        ∙ one n (or_cases (is_past_life n.to old) (heard number || lost number) is)
 
 module _ {R : Type 0} (stands : R → Standing) where
   -- by a step, where no fewer are lost
-  pub passed_stays : (lost : (number : ℕ) → Bool) (e : Event) (result : Outcome) (old new : WorldView R) → IsStep stands e old result new → IsSoundWorld stands old
+  pub passed_stays : (lost : (number : ℕ) → Bool) (e : Event) (result : Outcome) (old new : WorldView R) → IsWorldStep stands e old result new → IsSoundWorld stands old
       → (session number : ℕ) → IsPassed lost session number old → IsPassed lost session number new
   passed_stays lost e result old new step sound session number passed l there =
       let came = came_from stands e old new result step sound session l there in
@@ -204,10 +204,10 @@ module _ {R : Type 0} (stands : R → Standing) where
 
   -- ---- what is settled isn't due
 
-  not_past : (to who : Instance) → same_instance who to ≡ true → is_past to who ≡ false
+  not_past : (to who : Instance) → same_instance who to ≡ true → is_past_life to who ≡ false
   not_past to who same = by (who.session == to.session) (who.life == to.life) refl refl same
     where
-      by : (p q : Bool) → (who.session == to.session) ≡ p → (who.life == to.life) ≡ q → (p && q) ≡ true → is_past to who ≡ false
+      by : (p q : Bool) → (who.session == to.session) ≡ p → (who.life == to.life) ≡ q → (p && q) ≡ true → is_past_life to who ≡ false
       by true true one two is =
           let life : who.life ≡ to.life = eqb-true who.life to.life two in
           ap (λ b. not b || nat_lt to.life who.life) (eq-eqb to.session who.session (sym (eqb-true who.session to.session one)))
@@ -222,17 +222,17 @@ module _ {R : Type 0} (stands : R → Standing) where
       by true false one two is = absurd (false≢true is)
       by false q one two is = absurd (false≢true is)
 
-  settled_not_due : (heard lost : (number : ℕ) → Bool) (c : ClientView R) (number : ℕ) (o : Option Notice) → is_settled heard lost c.session.instance number o ≡ true
+  settled_not_due : (heard lost : (number : ℕ) → Bool) (c : ClientView R) (number : ℕ) (o : Option Notice) → is_dealt_with heard lost c.session.instance number o ≡ true
       → (is_to (Some c) o && (not (heard number) && not (lost number))) ≡ false
   settled_not_due heard lost c number None is = absurd (false≢true is)
-  settled_not_due heard lost c number (Some n) is = by (same_instance c.session.instance n.to) refl (or_cases (is_past n.to c.session.instance) (heard number || lost number) is)
+  settled_not_due heard lost c number (Some n) is = by (same_instance c.session.instance n.to) refl (or_cases (is_past_life n.to c.session.instance) (heard number || lost number) is)
     where
       told : (p q : Bool) → (p || q) ≡ true → (not p && not q) ≡ false
       told true q is = refl
       told false true is = refl
       told false false is = absurd (false≢true is)
 
-      by : (b : Bool) → same_instance c.session.instance n.to ≡ b → (is_past n.to c.session.instance ≡ true) ⊎ ((heard number || lost number) ≡ true)
+      by : (b : Bool) → same_instance c.session.instance n.to ≡ b → (is_past_life n.to c.session.instance ≡ true) ⊎ ((heard number || lost number) ≡ true)
           → (same_instance c.session.instance n.to && (not (heard number) && not (lost number))) ≡ false
       by false other x = and_left (same_instance c.session.instance n.to) (not (heard number) && not (lost number)) other
       by true same (inl past) = absurd (false≢true (sym (not_past n.to c.session.instance same) ∙ past))
@@ -242,28 +242,28 @@ module _ {R : Type 0} (stands : R → Standing) where
   latest_runs : (w : WorldView R) → IsSoundWorld stands w → (session : ℕ) (c : ClientView R) → client_in session w.lives ≡ Some c → (l : LivesView R) → lives_in session w.lives ≡ Some l → c.session.instance ≡ l.latest
   latest_runs w sound session c runs l there = (sound.told.lives session l there).latest c (sym (ap running_of there) ∙ runs)
 
-  pub passed_not_due : (lost : (number : ℕ) → Bool) (w : WorldView R) → IsSoundWorld stands w → (session number : ℕ) → IsPassed lost session number w → is_due lost session number w ≡ false
+  pub passed_not_due : (lost : (number : ℕ) → Bool) (w : WorldView R) → IsSoundWorld stands w → (session number : ℕ) → IsPassed lost session number w → is_notice_due lost session number w ≡ false
   passed_not_due lost w sound session number passed = by (client_in session w.lives) refl
     where
       one : (c : ClientView R) → client_in session w.lives ≡ Some c → (o : Option (LivesView R)) → lives_in session w.lives ≡ o
-          → (is_to (Some c) (numbered number w.sites.mail) && (not (was_heard number w.calls) && not (lost number))) ≡ false
+          → (is_to (Some c) (notice_numbered number w.sites.mail) && (not (was_heard number w.calls) && not (lost number))) ≡ false
       one c runs None there = absurd (none-some c (sym (ap running_of there) ∙ runs))
       one c runs (Some l) there =
-          settled_not_due (λ n. was_heard n w.calls) lost c number (numbered number w.sites.mail)
-          (subst (λ i. is_settled (λ n. was_heard n w.calls) lost i number (numbered number w.sites.mail) ≡ true) (sym (latest_runs w sound session c runs l there)) (passed l there))
+          settled_not_due (λ n. was_heard n w.calls) lost c number (notice_numbered number w.sites.mail)
+          (subst (λ i. is_dealt_with (λ n. was_heard n w.calls) lost i number (notice_numbered number w.sites.mail) ≡ true) (sym (latest_runs w sound session c runs l there)) (passed l there))
 
-      by : (o : Option (ClientView R)) → client_in session w.lives ≡ o → (is_to o (numbered number w.sites.mail) && (not (was_heard number w.calls) && not (lost number))) ≡ false
+      by : (o : Option (ClientView R)) → client_in session w.lives ≡ o → (is_to o (notice_numbered number w.sites.mail) && (not (was_heard number w.calls) && not (lost number))) ≡ false
       by None runs = refl
       by (Some c) runs = one c runs (lives_in session w.lives) refl
 
   -- what is settled for the life that runs, its session is past
   pub settled_passed : (lost : (number : ℕ) → Bool) (w : WorldView R) (who : Instance) (session number : ℕ) → IsSoundWorld stands w → option_map (λ (c : ClientView R). c.session.instance) (client_in session w.lives) ≡ Some who
-      → is_settled (λ n. was_heard n w.calls) lost who number (numbered number w.sites.mail) ≡ true → IsPassed lost session number w
+      → is_dealt_with (λ n. was_heard n w.calls) lost who number (notice_numbered number w.sites.mail) ≡ true → IsPassed lost session number w
   settled_passed lost w who session number sound runs settled l there = by (client_in session w.lives) refl runs
     where
       by : (o : Option (ClientView R)) → client_in session w.lives ≡ o → option_map (λ (c : ClientView R). c.session.instance) o ≡ Some who
-          → is_settled (λ n. was_heard n w.calls) lost l.latest number (numbered number w.sites.mail) ≡ true
+          → is_dealt_with (λ n. was_heard n w.calls) lost l.latest number (notice_numbered number w.sites.mail) ≡ true
       by None at is = absurd (none-some who is)
       by (Some c) at is =
-          subst (λ i. is_settled (λ n. was_heard n w.calls) lost i number (numbered number w.sites.mail) ≡ true)
+          subst (λ i. is_dealt_with (λ n. was_heard n w.calls) lost i number (notice_numbered number w.sites.mail) ≡ true)
           (sym (same_Some c.session.instance who is) ∙ latest_runs w sound session c at l there) settled

@@ -19,31 +19,31 @@ use Rattle.rbd_kinds.specs.Images.{is_at}
 use Rattle.rbd_kinds.specs.Instances.{same_instance}
 use Rattle.rbd_kinds.proofs.Images.{at_itself}
 use Rattle.rbd_kinds.proofs.Instances.{same_instance_is, same_instance_itself}
-use Rattle.rbd_locks.specs.declared.lock_state.LockState.{LockState}
-use Rattle.rbd_locks.specs.Locks.{heard, state_at}
-use Rattle.rbd_locks.specs.States.{told}
+use Rattle.rbd_lock.specs.declared.lock_state.LockState.{LockState}
+use Rattle.rbd_lock.specs.Locks.{heard, lock_state_at}
+use Rattle.rbd_lock.specs.States.{told_state}
 use Rattle.rbd_machine.specs.Plan.{Standing}
-use Rattle.rbd_owner.specs.Acquire.{op_at, op_of}
-use Rattle.rbd_owner.specs.Steps.{is_among, request_lock}
-use Rattle.rbd_owner.specs.Waiting.{asks_again}
-use Rattle.rbd_owner.specs.declared.acquire.Acquire.{Acquire}
-use Rattle.rbd_owner.specs.declared.acquire.Stage.{Stage}
-use Rattle.rbd_owner.specs.declared.acquire.Stage.TheVariants as stage
-use Rattle.rbd_session.specs.Session.{IsSoundSession, SessionView, held_in, running_at, running_in}
-use Rattle.rbd_session.specs.declared.running.Occupant.{Occupant}
-use Rattle.rbd_session.specs.declared.running.Running.{Running}
-use Rattle.rbd_session.proofs.Sound.{held_range}
+use Rattle.rbd_lock.specs.Acquire.{op_at_stage, op_of}
+use Rattle.rbd_lock.specs.Steps.{is_instance_among, request_lock}
+use Rattle.rbd_lock.specs.Waiting.{asks_again}
+use Rattle.rbd_lock.specs.declared.acquire.Acquire.{Acquire}
+use Rattle.rbd_lock.specs.declared.acquire.Stage.{Stage}
+use Rattle.rbd_lock.specs.declared.acquire.Stage.TheVariants as stage
+use Rattle.rbd_slots.specs.Session.{IsSoundSession, SessionView, held_in, running_at, running_in}
+use Rattle.rbd_slots.specs.declared.running.Occupant.{Occupant}
+use Rattle.rbd_slots.specs.declared.running.Running.{Running}
+use Rattle.rbd_slots.proofs.Sound.{held_range}
 use Rattle.rbd_site.specs.Records.{Records}
 use Rattle.rbd_site.specs.Step.{answer_served, answer_to, is_fenced, mail_after, mail_served}
 use Rattle.rbd_site.specs.WatchStep.{receivers}
-use Rattle.rbd_watch.specs.Posting.{notices, numbered}
+use Rattle.rbd_watch.specs.Posting.{notices, notice_numbered}
 use Rattle.rbd_watch.specs.Watching.{without}
 use Rattle.rbd_watch.proofs.Numbers.{posted_at}
 use Rattle.rbd_world.specs.declared.event.Event.TheVariants as event
 use Rattle.rbd_world.specs.declared.event.Outcome.{Outcome}
 use Rattle.rbd_world.specs.Run.{Happening, Heard, Nothing}
-use Rattle.rbd_world.specs.Step.{BecomesOf, Hears, IsStep, RunsOn, delivered, happening, hears_in, heard_by, mail_then, polled}
-use Rattle.rbd_world.specs.World.{WorldView, client_in, lives_in, records_in, session_of, site_in}
+use Rattle.rbd_world.specs.Step.{BecomesOf, Hears, IsWorldStep, RunsOn, delivered, happening, hears_in, heard_by, mail_then, polled}
+use Rattle.rbd_world.specs.World.{WorldView, client_in, lives_in, records_in, session_of_client, site_in}
 use Rattle.rbd_schedule.specs.declared.given.Given.{Given}
 use Rattle.rbd_schedule.specs.Deeds.{Deeds}
 use Rattle.rbd_schedule.specs.Ends.{IsAnothers}
@@ -65,11 +65,11 @@ use Rattle.rbd_schedule.proofs.WaySteps.{IsWayBefore, IsWayStep, WasClient, told
 -- Where this instance runs and counts the lock as its own, it has been asked for it.
 abbrev pub HasBeenAsked : {R : Type 0} → WorldView R → Instance → SiteId → (image : ℕ) → Type 0
 HasBeenAsked {R} w owner site image =
-    (c : ClientView R) → client_in owner.session w.lives ≡ Some c → c.session.instance ≡ owner → (state_at site image c.locks).owned ≡ true → (state_at site image c.locks).asked ≡ true
+    (c : ClientView R) → client_in owner.session w.lives ≡ Some c → c.session.instance ≡ owner → (lock_state_at site image c.locks).owned ≡ true → (lock_state_at site image c.locks).asked ≡ true
 
 -- a notice that asks an owner for a lock, and who has heard it was asked
 pub record IsPosted {R : Type 0} (w : WorldView R) (owner : Instance) (site : SiteId) (image number : ℕ) (n : Notice) : Type 0 where
-  pub posted : numbered number w.sites.mail ≡ Some n
+  pub posted : notice_numbered number w.sites.mail ≡ Some n
   pub to : n.to ≡ owner
   pub site_is : n.site ≡ site
   pub image_is : n.image ≡ image
@@ -80,35 +80,35 @@ abbrev pub IsPostedTo : {R : Type 0} → WorldView R → Instance → SiteId →
 IsPostedTo w owner site image = (number : ℕ) × (n : Notice) × IsPosted w owner site image number n
 
 -- whatever it hears, it was asked
-told_asked : (kind : NoticeKind) (here : Bool) (s : LockState) → (s.owned ≡ true → s.asked ≡ true) → (cond here (told kind s) s).owned ≡ true → (cond here (told kind s) s).asked ≡ true
+told_asked : (kind : NoticeKind) (here : Bool) (s : LockState) → (s.owned ≡ true → s.asked ≡ true) → (cond here (told_state kind s) s).owned ≡ true → (cond here (told_state kind s) s).asked ≡ true
 told_asked kind false s asked owned = asked owned
 told_asked notice.RequestLock true s asked owned = ap (λ b. cond b true s.asked) owned
 told_asked _ true s asked owned = asked owned
 
 -- it hears that it is asked
-told_now : (here : Bool) (s : LockState) → here ≡ true → (cond here (told notice.RequestLock s) s).owned ≡ true → (cond here (told notice.RequestLock s) s).asked ≡ true
+told_now : (here : Bool) (s : LockState) → here ≡ true → (cond here (told_state notice.RequestLock s) s).owned ≡ true → (cond here (told_state notice.RequestLock s) s).asked ≡ true
 told_now true s is owned = ap (λ b. cond b true s.asked) owned
 told_now false s is owned = absurd (false≢true is)
 
 module _ {R : Type 0} (stands : R → Standing) where
   -- what it counts of a lock behind an idle step
   locks_step : (session : ℕ) (old new : WorldView R) → IsIdleStep stands old new → (a c : ClientView R) → client_in session old.lives ≡ Some a → client_in session new.lives ≡ Some c → (site : SiteId) (image : ℕ)
-      → (state_at site image c.locks ≡ state_at site image a.locks) ⊎ ((n : Notice) × (state_at site image c.locks ≡ heard n site image (state_at site image a.locks)))
+      → (lock_state_at site image c.locks ≡ lock_state_at site image a.locks) ⊎ ((n : Notice) × (lock_state_at site image c.locks ≡ heard n site image (lock_state_at site image a.locks)))
   locks_step session old new (Told number result step) a c was there site image = by (client_in session old.lives) (client_in session new.lives) was there (delivery_leaves stands number old new result step session)
     where
-      by : (x z : Option (ClientView R)) → x ≡ Some a → z ≡ Some c → HearsOf stands x z → (state_at site image c.locks ≡ state_at site image a.locks) ⊎ ((n : Notice) × (state_at site image c.locks ≡ heard n site image (state_at site image a.locks)))
+      by : (x z : Option (ClientView R)) → x ≡ Some a → z ≡ Some c → HearsOf stands x z → (lock_state_at site image c.locks ≡ lock_state_at site image a.locks) ⊎ ((n : Notice) × (lock_state_at site image c.locks ≡ heard n site image (lock_state_at site image a.locks)))
       by None z was there hears = absurd (none-some a was)
       by (Some x) None was there hears = absurd hears
-      by (Some x) (Some z) was there (inl same) = inl (ap (λ (d : ClientView R). state_at site image d.locks) (sym (same_Some z c there) ∙ same ∙ same_Some x a was))
+      by (Some x) (Some z) was there (inl same) = inl (ap (λ (d : ClientView R). lock_state_at site image d.locks) (sym (same_Some z c there) ∙ same ∙ same_Some x a was))
       by (Some x) (Some z) was there (inr (n, hears)) =
-          inr (n, ap (λ (d : ClientView R). state_at site image d.locks) (sym (same_Some z c there)) ∙ hears.locks site image ∙ ap (λ (d : ClientView R). heard n site image (state_at site image d.locks)) (same_Some x a was))
+          inr (n, ap (λ (d : ClientView R). lock_state_at site image d.locks) (sym (same_Some z c there)) ∙ hears.locks site image ∙ ap (λ (d : ClientView R). heard n site image (lock_state_at site image d.locks)) (same_Some x a was))
   locks_step session old new (Asked s at result none step) a c was there site image = by (client_in session old.lives) (client_in session new.lives) was there (poll_leaves stands s at old new result step none session)
     where
-      by : (x z : Option (ClientView R)) → x ≡ Some a → z ≡ Some c → IsIdlePollOf stands at x z → (state_at site image c.locks ≡ state_at site image a.locks) ⊎ ((n : Notice) × (state_at site image c.locks ≡ heard n site image (state_at site image a.locks)))
+      by : (x z : Option (ClientView R)) → x ≡ Some a → z ≡ Some c → IsIdlePollOf stands at x z → (lock_state_at site image c.locks ≡ lock_state_at site image a.locks) ⊎ ((n : Notice) × (lock_state_at site image c.locks ≡ heard n site image (lock_state_at site image a.locks)))
       by None z was there poll = absurd (none-some a was)
       by (Some x) None was there poll = absurd poll
       by (Some x) (Some z) was there poll =
-          inl (ap (λ (d : ClientView R). state_at site image d.locks) (sym (same_Some z c there)) ∙ poll.locks site image ∙ ap (λ (d : ClientView R). state_at site image d.locks) (same_Some x a was))
+          inl (ap (λ (d : ClientView R). lock_state_at site image d.locks) (sym (same_Some z c there)) ∙ poll.locks site image ∙ ap (λ (d : ClientView R). lock_state_at site image d.locks) (same_Some x a was))
 
   pub asked_step : (old new : WorldView R) → IsIdleStep stands old new → (owner : Instance) (site : SiteId) (image : ℕ) → HasBeenAsked old owner site image → HasBeenAsked new owner site image
   asked_step old new step owner site image asked c there me owned = by (locks_step owner.session old new step was.client c was.there there site image)
@@ -116,40 +116,40 @@ module _ {R : Type 0} (stands : R → Standing) where
       was : WasClient stands owner.session old c
       was = was_client stands owner.session old new step c there
 
-      before : (state_at site image was.client.locks).owned ≡ true → (state_at site image was.client.locks).asked ≡ true
+      before : (lock_state_at site image was.client.locks).owned ≡ true → (lock_state_at site image was.client.locks).asked ≡ true
       before = asked was.client was.there (sym (ap (λ (s : SessionView R). s.instance) was.same) ∙ me)
 
-      by : (state_at site image c.locks ≡ state_at site image was.client.locks) ⊎ ((n : Notice) × (state_at site image c.locks ≡ heard n site image (state_at site image was.client.locks)))
-          → (state_at site image c.locks).asked ≡ true
+      by : (lock_state_at site image c.locks ≡ lock_state_at site image was.client.locks) ⊎ ((n : Notice) × (lock_state_at site image c.locks ≡ heard n site image (lock_state_at site image was.client.locks)))
+          → (lock_state_at site image c.locks).asked ≡ true
       by (inl same) = ap (λ (s : LockState). s.asked) same ∙ before (sym (ap (λ (s : LockState). s.owned) same) ∙ owned)
       by (inr (n, hears)) =
-          ap (λ (s : LockState). s.asked) hears ∙ told_asked n.kind (is_at n.site n.image site image) (state_at site image was.client.locks) before (sym (ap (λ (s : LockState). s.owned) hears) ∙ owned)
+          ap (λ (s : LockState). s.asked) hears ∙ told_asked n.kind (is_at n.site n.image site image) (lock_state_at site image was.client.locks) before (sym (ap (λ (s : LockState). s.owned) hears) ∙ owned)
 
   -- ---- a notice that is delivered
 
   -- the instance that it is for hears it
-  deliver_hears : (number : ℕ) (result : Outcome) (old new : WorldView R) → IsStep stands (event.Deliver number) old result new → (n : Notice) → numbered number old.sites.mail ≡ Some n → (a c : ClientView R)
+  deliver_hears : (number : ℕ) (result : Outcome) (old new : WorldView R) → IsWorldStep stands (event.Deliver number) old result new → (n : Notice) → notice_numbered number old.sites.mail ≡ Some n → (a c : ClientView R)
       → client_in n.to.session old.lives ≡ Some a → client_in n.to.session new.lives ≡ Some c → a.session.instance ≡ n.to → Hears stands n a c
   deliver_hears number result old new step n posted a c was there me =
-      let h : Happening = delivered (numbered number old.sites.mail) old.lives in
-      let is : delivered (numbered number old.sites.mail) old.lives ≡ Heard n
+      let h : Happening = delivered (notice_numbered number old.sites.mail) old.lives in
+      let is : delivered (notice_numbered number old.sites.mail) old.lives ≡ Heard n
       = ap (λ o. delivered o old.lives) posted ∙ ap (heard_by n) was ∙ ap (λ b. cond b (Heard n) Nothing) (ap (λ i. same_instance i n.to) me ∙ same_instance_itself n.to) in
-      let named : hears_in (delivered (numbered number old.sites.mail) old.lives) n.to.session ≡ true = ap (λ x. hears_in x n.to.session) is ∙ eq-eqb n.to.session n.to.session refl in
-      let runs = named_lives stands (event.Deliver number) (delivered (numbered number old.sites.mail) old.lives) (lives_in n.to.session old.lives) (lives_in n.to.session new.lives) (step.1.named n.to.session named) a was in
+      let named : hears_in (delivered (notice_numbered number old.sites.mail) old.lives) n.to.session ≡ true = ap (λ x. hears_in x n.to.session) is ∙ eq-eqb n.to.session n.to.session refl in
+      let runs = named_lives stands (event.Deliver number) (delivered (notice_numbered number old.sites.mail) old.lives) (lives_in n.to.session old.lives) (lives_in n.to.session new.lives) (step.1.named n.to.session named) a was in
       let became : BecomesOf stands (event.Deliver number) (Heard n) (Some a) (client_in n.to.session new.lives)
       = subst (λ x. RunsOn stands (event.Deliver number) x runs.0 (Some a) (client_in n.to.session new.lives)) is runs.1 in
       subst (BecomesOf stands (event.Deliver number) (Heard n) (Some a)) there became
 
   hears_asked : (n : Notice) (owner : Instance) (site : SiteId) (image : ℕ) → n.site ≡ site → n.image ≡ image → n.kind ≡ notice.RequestLock → (a c : ClientView R) → Hears stands n a c
-      → (state_at site image c.locks).owned ≡ true → (state_at site image c.locks).asked ≡ true
+      → (lock_state_at site image c.locks).owned ≡ true → (lock_state_at site image c.locks).asked ≡ true
   hears_asked n owner site image site_is image_is kind a c hears owned =
-      let is : state_at site image c.locks ≡ cond (is_at n.site n.image site image) (told notice.RequestLock (state_at site image a.locks)) (state_at site image a.locks)
-      = hears.locks site image ∙ ap (λ k. cond (is_at n.site n.image site image) (told k (state_at site image a.locks)) (state_at site image a.locks)) kind in
+      let is : lock_state_at site image c.locks ≡ cond (is_at n.site n.image site image) (told_state notice.RequestLock (lock_state_at site image a.locks)) (lock_state_at site image a.locks)
+      = hears.locks site image ∙ ap (λ k. cond (is_at n.site n.image site image) (told_state k (lock_state_at site image a.locks)) (lock_state_at site image a.locks)) kind in
       let here : is_at n.site n.image site image ≡ true = ap (λ s. is_at s n.image site image) site_is ∙ ap (λ i. is_at site i site image) image_is ∙ at_itself site image in
-      ap (λ (s : LockState). s.asked) is ∙ told_now (is_at n.site n.image site image) (state_at site image a.locks) here (sym (ap (λ (s : LockState). s.owned) is) ∙ owned)
+      ap (λ (s : LockState). s.asked) is ∙ told_now (is_at n.site n.image site image) (lock_state_at site image a.locks) here (sym (ap (λ (s : LockState). s.owned) is) ∙ owned)
 
   -- so it has been asked
-  pub deliver_asks : (number : ℕ) (result : Outcome) (old new : WorldView R) → IsStep stands (event.Deliver number) old result new → (owner : Instance) (site : SiteId) (image : ℕ) (n : Notice) → IsPosted old owner site image number n
+  pub deliver_asks : (number : ℕ) (result : Outcome) (old new : WorldView R) → IsWorldStep stands (event.Deliver number) old result new → (owner : Instance) (site : SiteId) (image : ℕ) (n : Notice) → IsPosted old owner site image number n
       → HasBeenAsked new owner site image
   deliver_asks number result old new step owner site image n it c there me owned =
       let was = was_client stands owner.session old new (Told number result step) c there in
@@ -174,7 +174,7 @@ module _ {R : Type 0} (stands : R → Standing) where
       by (inl before) = asked_step old new (Told k result step) owner site image (it.heard before)
       by (inr now) =
           let same : k ≡ number = eqb-true k number (and_parts (k == number) (is_heard result) now).0 in
-          deliver_asks number result old new (subst (λ j. IsStep stands (event.Deliver j) old result new) same step) owner site image n it
+          deliver_asks number result old new (subst (λ j. IsWorldStep stands (event.Deliver j) old result new) same step) owner site image n it
   posted_step old new (Asked s slot result none step) owner site image number n it = record {
     posted = numbered_stays number old.sites.mail new.sites.mail n (subst (λ mail. (more : List Notice) × (mail ≡ old.sites.mail ++ more)) (sym step.1.mail) (then_stays (happening stands (event.Poll s slot) old) old.sites)) it.posted;
     to = it.to;
@@ -196,7 +196,7 @@ module _ {R : Type 0} (stands : R → Standing) where
 -- ---- a way that asks
 
 -- an owner that watches is among those whom a notice of another one goes to
-among_others : (watchers : List Instance) (owner me : Instance) → is_among watchers owner ≡ true → same_instance owner me ≡ false → (place : ℕ) × (slice_get (without me watchers) place ≡ Some owner)
+among_others : (watchers : List Instance) (owner me : Instance) → is_instance_among watchers owner ≡ true → same_instance owner me ≡ false → (place : ℕ) × (slice_get (without me watchers) place ≡ Some owner)
 among_others [] owner me among other = absurd (false≢true among)
 among_others (x ∷ watchers) owner me among other = by (same_instance x owner) refl among (same_instance me x) refl (λ rest. among_others watchers owner me rest other)
   where
@@ -207,8 +207,8 @@ among_others (x ∷ watchers) owner me among other = by (same_instance x owner) 
     behind true rest = rest
     behind false (place, at) = (suc place, at)
 
-    by : (here : Bool) → same_instance x owner ≡ here → (here || is_among watchers owner) ≡ true → (mine : Bool) → same_instance me x ≡ mine
-        → (is_among watchers owner ≡ true → (place : ℕ) × (slice_get (without me watchers) place ≡ Some owner))
+    by : (here : Bool) → same_instance x owner ≡ here → (here || is_instance_among watchers owner) ≡ true → (mine : Bool) → same_instance me x ≡ mine
+        → (is_instance_among watchers owner ≡ true → (place : ℕ) × (slice_get (without me watchers) place ≡ Some owner))
         → (place : ℕ) × (slice_get (cond (not mine) (x ∷ without me watchers) (without me watchers)) place ≡ Some owner)
     by true is among false at rest = (0, ap Some (same_instance_is x owner is))
     by true is among true at rest = absurd (unlike (ap (same_instance me) (sym (same_instance_is x owner is)) ∙ at))
@@ -225,14 +225,14 @@ asked_mail id r me image mail h again there = by (is_fenced r me) again
 
 module _ {R : Type 0} (stands : R → Standing) (base : SiteId → Records) where
   -- the poll of a way that asks
-  posts_now : (session slot : ℕ) (old new : WorldView R) (result : Outcome) → IsStep stands (event.Poll session slot) old result new → IsMailed old → AreAsIn base old.sites → (a : ClientView R)
+  posts_now : (session slot : ℕ) (old new : WorldView R) (result : Outcome) → IsWorldStep stands (event.Poll session slot) old result new → IsMailed old → AreAsIn base old.sites → (a : ClientView R)
       → client_in session old.lives ≡ Some a → (y : Acquire) → (it : IsWayStep stands old.sites slot a y) → it.on.stage ≡ stage.Asking → (lock : IsAnothers (base it.on.site) it.on.image a.session.instance)
       → IsPostedTo new lock.owner it.on.site it.on.image
   posts_now session slot old new result step mailed alike a was y it asking lock = (
     number,
     record { number = number; to = lock.owner; from = me; site = id; image = image; kind = notice.RequestLock },
     record {
-      posted = ap (numbered number) mail ∙ posted_at id image me notice.RequestLock old.sites.mail among.0 (without me (r.watchers image)) lock.owner mailed.numbers among.1;
+      posted = ap (notice_numbered number) mail ∙ posted_at id image me notice.RequestLock old.sites.mail among.0 (without me (r.watchers image)) lock.owner mailed.numbers among.1;
       to = refl;
       site_is = mailed.ids it.on.site;
       image_is = refl;
@@ -254,21 +254,21 @@ module _ {R : Type 0} (stands : R → Standing) (base : SiteId → Records) wher
       id = (site_in it.on.site old.sites).id
 
       among : (place : ℕ) × (slice_get (without me (r.watchers image)) place ≡ Some lock.owner)
-      among = among_others (r.watchers image) lock.owner me (subst (λ ws. is_among ws lock.owner ≡ true) (sym ((alike it.on.site).1 image)) lock.watches) lock.other
+      among = among_others (r.watchers image) lock.owner me (subst (λ ws. is_instance_among ws lock.owner ≡ true) (sym ((alike it.on.site).1 image)) lock.watches) lock.other
 
       number : ℕ
       number = length old.sites.mail + 1 + among.0
 
       o : stage.Asking ≡ it.on.stage → op_of it.on ≡ request_lock image
-      o is = ap (λ x. op_at x image) (sym is)
+      o is = ap (λ x. op_at_stage x image) (sym is)
 
       again : asks_again (kind_of (request_lock image)) (answer_to r me (request_lock image)) ≡ true
-      again = subst (λ p. asks_again (kind_of p) (answer_to r me p) ≡ true) (ap (λ x. op_at x image) asking) it.again
+      again = subst (λ p. asks_again (kind_of p) (answer_to r me p) ≡ true) (ap (λ x. op_at_stage x image) asking) it.again
 
       mail : new.sites.mail ≡ old.sites.mail ++ notices (length old.sites.mail + 1) id image me (without me (r.watchers image)) notice.RequestLock
       mail =
           step.1.mail ∙ ap (λ x. mail_then (polled stands old.sites slot x) old.sites) was ∙ ap (λ h. mail_then h old.sites) it.is
-          ∙ ap (λ p. mail_after id r me p old.sites.mail) (ap (λ x. op_at x image) asking)
+          ∙ ap (λ p. mail_after id r me p old.sites.mail) (ap (λ x. op_at_stage x image) asking)
           ∙ asked_mail id r me image old.sites.mail lock.header again ((alike it.on.site).0 image ∙ lock.there)
 
       unheard : (was_heard number old.calls ≡ true) ⊎ (hears number (event.Poll session slot) result ≡ true) → ⊥
@@ -311,11 +311,11 @@ module _ {R : Type 0} (stands : R → Standing) (base : SiteId → Records) wher
   looking left owner false two = omega (arith, two)
 
   -- by a poll it has asked, or is nearer to it
-  left_on : (left : ℕ) (image : ℕ) (at : Stage) (told_it : Answer) (s : Stage) → asks_again (kind_of (op_at at image)) told_it ≡ true → IsNext at told_it s → IsLeft (suc left) at → (at ≡ stage.Asking) ⊎ IsLeft left s
+  left_on : (left : ℕ) (image : ℕ) (at : Stage) (told_it : Answer) (s : Stage) → asks_again (kind_of (op_at_stage at image)) told_it ≡ true → IsNext at told_it s → IsLeft (suc left) at → (at ≡ stage.Asking) ⊎ IsLeft left s
   left_on left image stage.Watching told_it s again next is = absurd (false≢true again)
   left_on left image stage.Taking (answer.Held owner) s again next is = inr (subst (IsLeft left) (sym next) (omega (arith, is)))
   left_on left image stage.Taking _ s again next is = absurd (false≢true again)
-  left_on left image (stage.Looking owner) (answer.Instances watchers) s again next is = inr (subst (IsLeft left) (sym next) (looking left owner (is_among watchers owner) is))
+  left_on left image (stage.Looking owner) (answer.Instances watchers) s again next is = inr (subst (IsLeft left) (sym next) (looking left owner (is_instance_among watchers owner) is))
   left_on left image (stage.Looking owner) _ s again next is = absurd (false≢true again)
   left_on left image stage.Asking told_it s again next is = inl refl
   left_on left image (stage.Fencing owner) told_it s again next is = absurd (false≢true again)
@@ -334,7 +334,7 @@ module _ {R : Type 0} (stands : R → Standing) (base : SiteId → Records) wher
 
   module _ (old new : WorldView R) (mailed : IsMailed old) (alike : AreAsIn base old.sites) (left session slot : ℕ) where
     -- a step on the way
-    way_posts : (result : Outcome) → goes_on result ≡ false → IsStep stands (event.Poll session slot) old result new → (a : ClientView R) → client_in session old.lives ≡ Some a → (y : Acquire) → (it : IsWayStep stands old.sites slot a y)
+    way_posts : (result : Outcome) → goes_on result ≡ false → IsWorldStep stands (event.Poll session slot) old result new → (a : ClientView R) → client_in session old.lives ≡ Some a → (y : Acquire) → (it : IsWayStep stands old.sites slot a y)
         → ((lock : IsAnothers (base it.on.site) it.on.image a.session.instance) → IsPostedTo old lock.owner it.on.site it.on.image ⊎ IsLeft (suc left) it.on.stage)
         → (lock : IsAnothers (base y.site) y.image a.session.instance) → IsPostedTo new lock.owner y.site y.image ⊎ IsLeft left y.stage
     way_posts result none step a was y it before =
@@ -349,7 +349,7 @@ module _ {R : Type 0} (stands : R → Standing) (base : SiteId → Records) wher
             go (inl asking) = inl (posts_now session slot old new result step mailed alike a was y it asking lock)
             go (inr near) = inr near
 
-    pub polls_post : (slot == 0) ≡ false → (result : Outcome) → IsStep stands (event.Poll session slot) old result new → goes_on result ≡ false → PostsIn (suc left) session slot old → PostsIn left session slot new
+    pub polls_post : (slot == 0) ≡ false → (result : Outcome) → IsWorldStep stands (event.Poll session slot) old result new → goes_on result ≡ false → PostsIn (suc left) session slot old → PostsIn left session slot new
     polls_post some result step none posts c there r runs y acts = by (way_polled stands session slot some old new result step none c there r runs y acts)
       where
         by : (was : WasClient stands session old c) × IsWayStep stands old.sites slot was.client y → (lock : IsAnothers (base y.site) y.image c.session.instance) → IsPostedTo new lock.owner y.site y.image ⊎ IsLeft left y.stage
@@ -396,7 +396,7 @@ module _ {R : Type 0} (stands : R → Standing) (base : SiteId → Records) wher
     pub none : (s : ℕ) → n ≤ s → client_in s w.lives ≡ None
     pub posts : (session slot : ℕ) → (slot == 0) ≡ false → PostsIn left session slot w
 
-  none_of : (o : Option (ClientView R)) → session_of o ≡ None → o ≡ None
+  none_of : (o : Option (ClientView R)) → session_of_client o ≡ None → o ≡ None
   none_of None is = refl
   none_of (Some c) is = absurd (none-some c.session (sym is))
 
@@ -405,7 +405,7 @@ module _ {R : Type 0} (stands : R → Standing) (base : SiteId → Records) wher
     alike = λ s. as_before (base s) (records_in s old.sites) (records_in s new.sites) (all.alike s) (idle_unchanged stands old new step s);
     mailed = mailed_idle stands old new step all.mailed;
     sound = sounds_step stands given old new step all.sound;
-    none = λ s past. none_of (client_in s new.lives) (same_sessions stands old new step s ∙ ap session_of (all.none s past));
+    none = λ s past. none_of (client_in s new.lives) (same_sessions stands old new step s ∙ ap session_of_client (all.none s past));
     posts = λ session slot some. step_posts old new all.mailed all.alike left session slot some step (all.posts session slot some);
   }
 

@@ -17,16 +17,16 @@ use Rattle.rbd_kinds.specs.declared.id.SiteId.{SiteId}
 use Rattle.rbd_kinds.specs.declared.machine.Fed.{Fed}
 use Rattle.rbd_kinds.specs.declared.operation.Op.{Op}
 use Rattle.rbd_machine.specs.Plan.{Standing}
-use Rattle.rbd_session.specs.Lines.{LinesView}
-use Rattle.rbd_session.specs.Session.{ComesToIn, IsLowest, OfRunning, SessionView, free_slot, held_in, script_line}
-use Rattle.rbd_session.specs.declared.running.Occupant.{Occupant}
-use Rattle.rbd_session.specs.declared.running.Occupant.TheVariants as occupant
+use Rattle.rbd_slots.specs.Lines.{LinesView}
+use Rattle.rbd_slots.specs.Session.{ComesToIn, IsLowest, OfRunning, SessionView, free_slot, held_in, script_line}
+use Rattle.rbd_slots.specs.declared.running.Occupant.{Occupant}
+use Rattle.rbd_slots.specs.declared.running.Occupant.TheVariants as occupant
 use Rattle.rbd_world.specs.declared.event.Event.{Event}
 use Rattle.rbd_world.specs.declared.event.Event.TheVariants as event
 use Rattle.rbd_world.specs.declared.event.Outcome.{Outcome}
 use Rattle.rbd_world.specs.Run.{Doer, Itself, OnWay, House, AfterStop, Happening, Nothing, Waited, Began, Did, Refused, Trimmed, Expired, Heard, Stopped, Restarted, cause_of, ending_entries, entries_of, entry_by, entry_unfenced, fence_of, outcome_of}
 use Rattle.rbd_world.specs.Sound.{IsSoundWorld}
-use Rattle.rbd_world.specs.Step.{Becomes, BecomesOf, Does, IsStep, RunsOn, happening, is_begun}
+use Rattle.rbd_world.specs.Step.{Becomes, BecomesOf, Does, IsWorldStep, RunsOn, happening, is_begun}
 use Rattle.rbd_world.specs.World.{WorldView, client_in, free_in}
 use Rattle.rbd_schedule.specs.declared.given.Given.{Given}
 use Rattle.rbd_schedule.specs.Playing.{IsNoStart, lets_start}
@@ -178,7 +178,7 @@ module _ {R : Type 0} (stands : R → Standing) where
   runs_room e (Expired s number image who) home old new plain none before after runs = room_of e (Expired s number image who) old new plain none before after runs
   runs_room e (Heard notice) home old new plain none before after runs = room_of e (Heard notice) old new plain none before after runs
 
-  event_room : (e : Event) (old : WorldView R) (result : Outcome) (new : WorldView R) → IsNoStart e → IsStep stands e old result new → IsSoundWorld stands old → IsSoundWorld stands new → lets_start result ≡ false
+  event_room : (e : Event) (old : WorldView R) (result : Outcome) (new : WorldView R) → IsNoStart e → IsWorldStep stands e old result new → IsSoundWorld stands old → IsSoundWorld stands new → lets_start result ≡ false
       → (s : ℕ) → is_some (free_in (client_in s new.lives)) ≡ is_some (free_in (client_in s old.lives))
   event_room e old result new plain (is, does) before after none s = by (client_then stands e (happening stands e old) old new does s)
     where
@@ -201,7 +201,7 @@ quiet_along given old new begun ended room quiet session =
     ∙ ap (λ f. cond (is_some (free_in (client_in session old.lives))) (earliest (λ line. is_begun line old.history) f true (given session)) None) (fun_ext ended)
     ∙ quiet session
 
-pub quiet_event : {R : Type 0} (stands : R → Standing) (given : (session : ℕ) → List Given) (e : Event) (old : WorldView R) (result : Outcome) (new : WorldView R) → IsNoStart e → IsStep stands e old result new
+pub quiet_event : {R : Type 0} (stands : R → Standing) (given : (session : ℕ) → List Given) (e : Event) (old : WorldView R) (result : Outcome) (new : WorldView R) → IsNoStart e → IsWorldStep stands e old result new
     → IsSoundWorld stands old → IsSoundWorld stands new → lets_start result ≡ false → IsQuiet given old → IsQuiet given new
 quiet_event stands given e old result new plain step before after none quiet =
     quiet_along given old new (begun_then stands e (happening stands e old) old new step.1 (λ line. event_begins stands line e old plain))

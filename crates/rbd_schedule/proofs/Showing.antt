@@ -7,17 +7,17 @@ use Rattle.rbd_client.specs.Actor.{actor_at}
 use Rattle.rbd_client.specs.Client.{ClientView}
 use Rattle.rbd_kinds.specs.declared.id.SiteId.{SiteId}
 use Rattle.rbd_machine.specs.Plan.{Standing}
-use Rattle.rbd_owner.specs.declared.acquire.Acquire.{Acquire}
-use Rattle.rbd_session.specs.Session.{IsSoundSession, SessionView, held_in, running_at, running_in}
-use Rattle.rbd_session.specs.declared.running.Occupant.{Occupant}
-use Rattle.rbd_session.specs.declared.running.Running.{Running}
-use Rattle.rbd_session.proofs.Sound.{held_range}
+use Rattle.rbd_lock.specs.declared.acquire.Acquire.{Acquire}
+use Rattle.rbd_slots.specs.Session.{IsSoundSession, SessionView, held_in, running_at, running_in}
+use Rattle.rbd_slots.specs.declared.running.Occupant.{Occupant}
+use Rattle.rbd_slots.specs.declared.running.Running.{Running}
+use Rattle.rbd_slots.proofs.Sound.{held_range}
 use Rattle.rbd_site.specs.Records.{Records}
 use Rattle.rbd_world.specs.declared.event.Event.TheVariants as event
 use Rattle.rbd_world.specs.declared.event.Outcome.{Outcome}
 use Rattle.rbd_world.specs.declared.sites.Sites.{Sites}
-use Rattle.rbd_world.specs.Step.{IsStep}
-use Rattle.rbd_world.specs.World.{WorldView, client_in, records_in, session_of}
+use Rattle.rbd_world.specs.Step.{IsWorldStep}
+use Rattle.rbd_world.specs.World.{WorldView, client_in, records_in, session_of_client}
 use Rattle.rbd_schedule.specs.declared.given.Given.{Given}
 use Rattle.rbd_schedule.specs.Deeds.{Deeds}
 use Rattle.rbd_schedule.specs.Schedule.{Pace, Round, goes_on}
@@ -51,7 +51,7 @@ module _ {R : Type 0} (stands : R → Standing) (base : SiteId → Records) wher
       subst (λ s. Nears (base s) a.session.instance y.image left y.stage) (sym it.site_is) (subst (λ i. Nears (base on.site) a.session.instance i left y.stage) (sym it.image_is) near)
 
   -- behind a poll of it one is left less
-  pub polls_show : (left session slot : ℕ) → (slot == 0) ≡ false → (old new : WorldView R) (result : Outcome) → IsStep stands (event.Poll session slot) old result new → goes_on result ≡ false → AreAsIn base old.sites
+  pub polls_show : (left session slot : ℕ) → (slot == 0) ≡ false → (old new : WorldView R) (result : Outcome) → IsWorldStep stands (event.Poll session slot) old result new → goes_on result ≡ false → AreAsIn base old.sites
       → ShowsIn (suc left) session slot old → ShowsIn left session slot new
   polls_show left session slot some old new result step none alike shows c there r runs y acts = by (way_polled stands session slot some old new result step none c there r runs y acts)
     where
@@ -79,7 +79,7 @@ module _ {R : Type 0} (stands : R → Standing) (base : SiteId → Records) wher
     pub none : (s : ℕ) → n ≤ s → client_in s w.lives ≡ None
     pub shows : (session slot : ℕ) → (slot == 0) ≡ false → ShowsIn left session slot w
 
-  none_of : (o : Option (ClientView R)) → session_of o ≡ None → o ≡ None
+  none_of : (o : Option (ClientView R)) → session_of_client o ≡ None → o ≡ None
   none_of None is = refl
   none_of (Some c) is = absurd (none-some c.session (sym is))
 
@@ -87,7 +87,7 @@ module _ {R : Type 0} (stands : R → Standing) (base : SiteId → Records) wher
   all_step given left n old new step all = record {
     alike = λ s. as_before (base s) (records_in s old.sites) (records_in s new.sites) (all.alike s) (idle_unchanged stands old new step s);
     sound = sounds_step stands given old new step all.sound;
-    none = λ s past. none_of (client_in s new.lives) (same_sessions stands old new step s ∙ ap session_of (all.none s past));
+    none = λ s past. none_of (client_in s new.lives) (same_sessions stands old new step s ∙ ap session_of_client (all.none s past));
     shows = λ session slot some. step_shows left session slot some old new step all.alike (all.shows session slot some);
   }
 

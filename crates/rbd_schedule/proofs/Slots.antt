@@ -6,11 +6,11 @@ use Rattle.std.proofs.lemmas.Option.{none-some}
 use Rattle.rbd_client.specs.Client.{ClientView}
 use Rattle.rbd_client.specs.Sound.{IsSoundClient}
 use Rattle.rbd_machine.specs.Plan.{Standing}
-use Rattle.rbd_session.specs.Session.{held_in}
-use Rattle.rbd_session.specs.declared.running.Occupant.{Occupant}
+use Rattle.rbd_slots.specs.Session.{held_in}
+use Rattle.rbd_slots.specs.declared.running.Occupant.{Occupant}
 use Rattle.rbd_world.specs.Sound.{IsSoundWorld}
 use Rattle.rbd_world.specs.World.{WorldView}
-use Rattle.rbd_schedule.specs.Slots.{AreCounted, IsCounted}
+use Rattle.rbd_schedule.specs.Slots.{AreClientsCounted, IsCounted}
 
 module _ {R : Type 0} (stands : R → Standing) where
   pub client_counted : (c : ClientView R) → IsSoundClient stands c → IsCounted c
@@ -23,7 +23,7 @@ module _ {R : Type 0} (stands : R → Standing) where
     asked = sound.locks.order;
   }
 
-  pub world_counted : (w : WorldView R) → IsSoundWorld stands w → AreCounted w
+  pub world_counted : (w : WorldView R) → IsSoundWorld stands w → AreClientsCounted w
   world_counted w sound session c is = client_counted c (sound.clients session c is).sound
 
 pub counted_range : {R : Type 0} (c : ClientView R) → IsCounted c → (slot : ℕ) (o : Occupant R) → held_in slot c.session.slots ≡ Some o → (1 ≤ slot) × (slot ≤ 64)

@@ -14,11 +14,11 @@ use Rattle.rbd_world.specs.declared.event.Event.{Event}
 use Rattle.rbd_world.specs.declared.event.Event.TheVariants as event
 use Rattle.rbd_world.specs.declared.event.Outcome.{Outcome}
 use Rattle.rbd_world.specs.Run.{Nothing, Began, entries_of}
-use Rattle.rbd_world.specs.Step.{IsStep, begins_of, happening, is_begun, submitted}
+use Rattle.rbd_world.specs.Step.{IsWorldStep, begins_of, happening, is_begun, submitted}
 use Rattle.rbd_world.specs.World.{WorldView, client_in}
 use Rattle.rbd_schedule.specs.declared.given.Given.{Given}
 use Rattle.rbd_schedule.specs.Given.{commands_of, given_in}
-use Rattle.rbd_schedule.specs.InOrder.{AreInOrder}
+use Rattle.rbd_schedule.specs.InOrder.{AreLinesInOrder}
 use Rattle.rbd_schedule.specs.InTurn.{AreInTurn, IsEndedBefore}
 use Rattle.rbd_schedule.specs.Playing.{IsNoStart, IsPlay}
 use Rattle.rbd_schedule.specs.Schedule.{Submits}
@@ -108,12 +108,12 @@ turns_stay given old more new is none turns i j d less within behind =
     let b = get_or given j d in
     subst (IsEndedBefore a.line b.line) (sym is) (stays_before a.line b.line old more (none b.line) (turns i j d less within behind))
 
-turns_by_event : {R : Type 0} (stands : R → Standing) (given : List Given) (e : Event) (result : Outcome) (old new : WorldView R) → IsNoStart e → IsStep stands e old result new → AreInTurn given old.history → AreInTurn given new.history
+turns_by_event : {R : Type 0} (stands : R → Standing) (given : List Given) (e : Event) (result : Outcome) (old new : WorldView R) → IsNoStart e → IsWorldStep stands e old result new → AreInTurn given old.history → AreInTurn given new.history
 turns_by_event stands given e result old new plain step turns =
     turns_stay given old.history (entries_of (happening stands e old)) new.history step.1.history (λ line. event_begins stands line e old plain) turns
 
 -- a command begins whose turn it is
-module _ (all : List Line) (in_order : AreInOrder all) (session : ℕ) where
+module _ (all : List Line) (in_order : AreLinesInOrder all) (session : ℕ) where
   -- What is known of a command that starts: it is one of the script's, its event submits it, and
   -- where it is this session's and waits, who stands before it has ended.
   record IsTurnOf (c : Given) (history : List Entry) : Type 0 where
@@ -154,7 +154,7 @@ module _ (all : List Line) (in_order : AreInOrder all) (session : ℕ) where
       (other_begins stands c.submission c.session c.line turn.submission.command old turn.submission.is) answered (turns i j d less within behind))
 
 -- the commands of a session take turns in a play
-pub play_takes_turns : {R : Type 0} (stands : R → Standing) (script : Script) (w : WorldView R) → IsPlay stands script w → AreInOrder script.lines → (session : ℕ) → AreInTurn (given_in script.lines session) w.history
+pub play_takes_turns : {R : Type 0} (stands : R → Standing) (script : Script) (w : WorldView R) → IsPlay stands script w → AreLinesInOrder script.lines → (session : ℕ) → AreInTurn (given_in script.lines session) w.history
 play_takes_turns stands script w play in_order session =
     let given = given_in script.lines session in
     kept_by_parts stands (λ v. AreInTurn given v.history) (turns_by_event stands given) script

@@ -16,21 +16,21 @@ use Rattle.rbd_kinds.specs.Instances.{same_instance}
 use Rattle.rbd_kinds.proofs.Images.{same_site_is}
 use Rattle.rbd_machine.specs.Knowledge.{same_site}
 use Rattle.rbd_machine.specs.Plan.{Standing}
-use Rattle.rbd_owner.specs.Acquire.{op_at, op_of}
-use Rattle.rbd_owner.specs.Steps.{lock_take, watchers_get}
-use Rattle.rbd_owner.specs.Waiting.{asks_again}
-use Rattle.rbd_owner.specs.declared.acquire.Stage.{Stage}
-use Rattle.rbd_owner.specs.declared.acquire.Stage.TheVariants as stage
-use Rattle.rbd_session.specs.Session.{held_in}
+use Rattle.rbd_lock.specs.Acquire.{op_at_stage, op_of}
+use Rattle.rbd_lock.specs.Steps.{lock_take, watchers_get}
+use Rattle.rbd_lock.specs.Waiting.{asks_again}
+use Rattle.rbd_lock.specs.declared.acquire.Stage.{Stage}
+use Rattle.rbd_lock.specs.declared.acquire.Stage.TheVariants as stage
+use Rattle.rbd_slots.specs.Session.{held_in}
 use Rattle.rbd_site.specs.HeaderStep.{header_after, header_answer, lock_taken}
-use Rattle.rbd_site.specs.Log.{SiteLog, line_of, records_of}
+use Rattle.rbd_site.specs.Log.{SiteLog, log_line, records_of}
 use Rattle.rbd_site.specs.Records.{Records, no_records, put}
 use Rattle.rbd_site.specs.Step.{after, after_served, answer_served, answer_to, is_fenced}
 use Rattle.rbd_site.specs.WatchStep.{watchers_after}
 use Rattle.rbd_site.proofs.LogLemmas.{after_all-more}
-use Rattle.rbd_watch.specs.Posting.{numbered}
+use Rattle.rbd_watch.specs.Posting.{notice_numbered}
 use Rattle.rbd_world.specs.Run.{Did, Happening, Heard, Nothing, OnWay, Operation, lines_at, outcome_of}
-use Rattle.rbd_world.specs.Step.{delivered, heard_by, operation_at, polled, with_lines}
+use Rattle.rbd_world.specs.Step.{delivered, heard_by, operation_at, polled, with_log_lines}
 use Rattle.rbd_world.specs.World.{LivesView, WorldView, client_in, records_in, site_in}
 use Rattle.rbd_schedule.specs.Schedule.{goes_on}
 use Rattle.rbd_schedule.proofs.Idle.{Asked, AsksAgain, IsIdleBy, IsIdleStep, Told, idle_held}
@@ -84,7 +84,7 @@ asking_watched : (me : Instance) (o : Option HeaderView) (watchers : List Instan
 asking_watched me None watchers = refl
 asking_watched me (Some h) watchers = refl
 
-served_same : (r : Records) (me : Instance) (at : Stage) (image : ℕ) → asks_again (kind_of (op_at at image)) (answer_served r me (op_at at image)) ≡ true → IsAsIn r (after_served r me (op_at at image))
+served_same : (r : Records) (me : Instance) (at : Stage) (image : ℕ) → asks_again (kind_of (op_at_stage at image)) (answer_served r me (op_at_stage at image)) ≡ true → IsAsIn r (after_served r me (op_at_stage at image))
 served_same r me stage.Watching image is = absurd (false≢true is)
 served_same r me stage.Taking image is = (
   put_same r.headers image (header_after me (r.headers image) header.LockTake) (take_same r me (r.watchers image) (r.headers image) is),
@@ -101,10 +101,10 @@ served_same r me stage.Asking image is = (
 served_same r me (stage.Fencing owner) image is = absurd (false≢true is)
 served_same r me (stage.Breaking owner) image is = absurd (false≢true is)
 
-pub again_same : (r : Records) (me : Instance) (at : Stage) (image : ℕ) → asks_again (kind_of (op_at at image)) (answer_to r me (op_at at image)) ≡ true → IsAsIn r (after r me (op_at at image))
+pub again_same : (r : Records) (me : Instance) (at : Stage) (image : ℕ) → asks_again (kind_of (op_at_stage at image)) (answer_to r me (op_at_stage at image)) ≡ true → IsAsIn r (after r me (op_at_stage at image))
 again_same r me at image is = by (is_fenced r me) is
   where
-    by : (b : Bool) → asks_again (kind_of (op_at at image)) (cond b answer.Fenced (answer_served r me (op_at at image))) ≡ true → IsAsIn r (cond b r (after_served r me (op_at at image)))
+    by : (b : Bool) → asks_again (kind_of (op_at_stage at image)) (cond b answer.Fenced (answer_served r me (op_at_stage at image))) ≡ true → IsAsIn r (cond b r (after_served r me (op_at_stage at image)))
     by true is = as_itself r
     by false is = served_same r me at image is
 
@@ -170,17 +170,17 @@ watchers_there r me image watchers is = by (is_fenced r me) is
 
 -- ---- a site behind a step
 
-no_lines : (s : SiteLog) → with_lines [] s ≡ s
+no_lines : (s : SiteLog) → with_log_lines [] s ≡ s
 no_lines s = ap (λ log. record s { log = log }) (append-nil s.log)
 
-without_lines : (h : Happening) (s : SiteId) (old new : SiteLog) → lines_at s h ≡ [] → new ≡ with_lines (lines_at s h) old → records_of new ≡ records_of old
-without_lines h s old new none is = ap records_of (is ∙ ap (λ lines. with_lines lines old) none ∙ no_lines old)
+without_lines : (h : Happening) (s : SiteId) (old new : SiteLog) → lines_at s h ≡ [] → new ≡ with_log_lines (lines_at s h) old → records_of new ≡ records_of old
+without_lines h s old new none is = ap records_of (is ∙ ap (λ lines. with_log_lines lines old) none ∙ no_lines old)
 
 -- an operation of one instance, at one site
-one_line : (s : SiteId) (o : Operation) (old new : SiteLog) → same_site o.site s ≡ true → new ≡ with_lines (lines_at s (Did o None)) old → records_of new ≡ after (records_of old) o.instance o.op
+one_line : (s : SiteId) (o : Operation) (old new : SiteLog) → same_site o.site s ≡ true → new ≡ with_log_lines (lines_at s (Did o None)) old → records_of new ≡ after (records_of old) o.instance o.op
 one_line s o old new here is =
-    ap records_of (is ∙ ap (λ (b : Bool). with_lines (cond b (line_of o.number o.instance o.op o.answer ∷ []) []) old) here)
-    ∙ after_all-more no_records old.log (line_of o.number o.instance o.op o.answer)
+    ap records_of (is ∙ ap (λ (b : Bool). with_log_lines (cond b (log_line o.number o.instance o.op o.answer ∷ []) []) old) here)
+    ∙ after_all-more no_records old.log (log_line o.number o.instance o.op o.answer)
 
 module _ {R : Type 0} (stands : R → Standing) where
   told_lines : (s : SiteId) (o : Option Notice) (lives : List (LivesView R)) → lines_at s (delivered o lives) ≡ []
@@ -198,27 +198,27 @@ module _ {R : Type 0} (stands : R → Standing) where
   same_records : (a b : Records) → b ≡ a → IsAsIn a b
   same_records a b same = (λ image. ap (λ (r : Records). r.headers image) same, λ image. ap (λ (r : Records). r.watchers image) same)
 
-  again_records : (old new : WorldView R) (c : ClientView R) (slot : ℕ) (h : Happening) → AsksAgain stands old.sites c slot h → (s : SiteId) → site_in s new.sites ≡ with_lines (lines_at s h) (site_in s old.sites)
+  again_records : (old new : WorldView R) (c : ClientView R) (slot : ℕ) (h : Happening) → AsksAgain stands old.sites c slot h → (s : SiteId) → site_in s new.sites ≡ with_log_lines (lines_at s h) (site_in s old.sites)
       → IsAsIn (records_in s old.sites) (records_in s new.sites)
   again_records old new c slot h asks s is = by (same_site asks.on.site s) refl
     where
       o : Operation
       o = operation_at (site_in asks.on.site old.sites) c.session.instance (OnWay asks.line) asks.on.site (op_of asks.on)
 
-      did : site_in s new.sites ≡ with_lines (lines_at s (Did o None)) (site_in s old.sites)
-      did = is ∙ ap (λ x. with_lines (lines_at s x) (site_in s old.sites)) asks.is
+      did : site_in s new.sites ≡ with_log_lines (lines_at s (Did o None)) (site_in s old.sites)
+      did = is ∙ ap (λ x. with_log_lines (lines_at s x) (site_in s old.sites)) asks.is
 
       by : (b : Bool) → same_site asks.on.site s ≡ b → IsAsIn (records_in s old.sites) (records_in s new.sites)
       by false other =
           same_records (records_in s old.sites) (records_in s new.sites)
-          (without_lines (Did o None) s (site_in s old.sites) (site_in s new.sites) (ap (λ (b : Bool). cond b (line_of o.number o.instance o.op o.answer ∷ []) []) other) did)
+          (without_lines (Did o None) s (site_in s old.sites) (site_in s new.sites) (ap (λ (b : Bool). cond b (log_line o.number o.instance o.op o.answer ∷ []) []) other) did)
       by true here =
           as_before (records_in s old.sites) (after (records_in s old.sites) c.session.instance (op_of asks.on)) (records_in s new.sites)
           (again_same (records_in s old.sites) c.session.instance asks.on.stage asks.on.image
           (subst (λ q. asks_again (kind_of (op_of asks.on)) (answer_to (records_in q old.sites) c.session.instance (op_of asks.on)) ≡ true) (same_site_is asks.on.site s here) asks.again))
           (same_records (after (records_in s old.sites) c.session.instance (op_of asks.on)) (records_in s new.sites) (one_line s o (site_in s old.sites) (site_in s new.sites) here did))
 
-  idle_records : (old new : WorldView R) (c : ClientView R) (slot : ℕ) (h : Happening) → IsIdleBy stands old.sites c slot h → (s : SiteId) → site_in s new.sites ≡ with_lines (lines_at s h) (site_in s old.sites)
+  idle_records : (old new : WorldView R) (c : ClientView R) (slot : ℕ) (h : Happening) → IsIdleBy stands old.sites c slot h → (s : SiteId) → site_in s new.sites ≡ with_log_lines (lines_at s h) (site_in s old.sites)
       → IsAsIn (records_in s old.sites) (records_in s new.sites)
   idle_records old new c slot h (inl is) s site =
       same_records (records_in s old.sites) (records_in s new.sites) (without_lines h s (site_in s old.sites) (site_in s new.sites) (ap (lines_at s) is) site)
@@ -229,7 +229,7 @@ module _ {R : Type 0} (stands : R → Standing) where
   pub idle_unchanged : (old new : WorldView R) → IsIdleStep stands old new → (s : SiteId) → IsAsIn (records_in s old.sites) (records_in s new.sites)
   idle_unchanged old new (Told number result step) s =
       same_records (records_in s old.sites) (records_in s new.sites)
-      (without_lines (delivered (numbered number old.sites.mail) old.lives) s (site_in s old.sites) (site_in s new.sites) (told_lines s (numbered number old.sites.mail) old.lives) (step.1.sites s))
+      (without_lines (delivered (notice_numbered number old.sites.mail) old.lives) s (site_in s old.sites) (site_in s new.sites) (told_lines s (notice_numbered number old.sites.mail) old.lives) (step.1.sites s))
   idle_unchanged old new (Asked session slot result none step) s = by (client_in session old.lives) refl
     where
       by : (o : Option (ClientView R)) → client_in session old.lives ≡ o → IsAsIn (records_in s old.sites) (records_in s new.sites)
@@ -239,4 +239,4 @@ module _ {R : Type 0} (stands : R → Standing) where
       by (Some c) at =
           idle_records old new c slot (polled stands old.sites slot (Some c))
           (idle_held stands old.sites c slot (held_in slot c.session.slots) (ap (λ o. goes_on (outcome_of (polled stands old.sites slot o))) (sym at) ∙ sym (ap goes_on step.0) ∙ none)) s
-          (subst (λ o. site_in s new.sites ≡ with_lines (lines_at s (polled stands old.sites slot o)) (site_in s old.sites)) at (step.1.sites s))
+          (subst (λ o. site_in s new.sites ≡ with_log_lines (lines_at s (polled stands old.sites slot o)) (site_in s old.sites)) at (step.1.sites s))

@@ -11,14 +11,14 @@ use Rattle.rbd_kinds.specs.declared.notice.Notice.{Notice}
 use Rattle.rbd_kinds.specs.Instances.{same_instance}
 use Rattle.rbd_kinds.proofs.Instances.{same_instance_itself}
 use Rattle.rbd_machine.specs.Plan.{Standing}
-use Rattle.rbd_owner.specs.declared.acquire.Acquire.{Acquire}
-use Rattle.rbd_session.specs.Session.{SessionView, running_at}
-use Rattle.rbd_session.specs.declared.running.Running.{Running}
-use Rattle.rbd_watch.specs.Posting.{numbered}
-use Rattle.rbd_world.specs.World.{WorldView, client_in, session_of}
+use Rattle.rbd_lock.specs.declared.acquire.Acquire.{Acquire}
+use Rattle.rbd_slots.specs.Session.{SessionView, running_at}
+use Rattle.rbd_slots.specs.declared.running.Running.{Running}
+use Rattle.rbd_watch.specs.Posting.{notice_numbered}
+use Rattle.rbd_world.specs.World.{WorldView, client_in, session_of_client}
 use Rattle.rbd_schedule.specs.declared.given.Given.{Given}
 use Rattle.rbd_schedule.specs.Deeds.{Deeds}
-use Rattle.rbd_schedule.specs.Notices.{is_due, is_to, runs, was_heard}
+use Rattle.rbd_schedule.specs.Notices.{is_notice_due, is_to, runs, was_heard}
 use Rattle.rbd_schedule.specs.Schedule.{DeliversWhere, Pace, Round, TurnOf, TurnWhere}
 use Rattle.rbd_schedule.specs.Starts.{IsQuiet}
 use Rattle.rbd_schedule.proofs.Elsewhere.{settled}
@@ -43,22 +43,22 @@ module _ {R : Type 0} (stands : R → Standing) (given : (session : ℕ) → Lis
     posts_step a b step posts = posted_step stands a b step owner site image number n posts
 
     -- who isn't due to hear it has heard it
-    not_due : (start : WorldView R) → Posts start → is_due lost owner.session number start ≡ false → (c : ClientView R) → client_in owner.session start.lives ≡ Some c → c.session.instance ≡ owner → was_heard number start.calls ≡ true
+    not_due : (start : WorldView R) → Posts start → is_notice_due lost owner.session number start ≡ false → (c : ClientView R) → client_in owner.session start.lives ≡ Some c → c.session.instance ≡ owner → was_heard number start.calls ≡ true
     not_due start posts due c there me = by (was_heard number start.calls) refl
       where
-        to : is_to (client_in owner.session start.lives) (numbered number start.sites.mail) ≡ true
-        to = ap (λ o. is_to o (numbered number start.sites.mail)) there ∙ ap (is_to (Some c)) posts.posted ∙ ap (λ i. same_instance i n.to) (me ∙ sym posts.to) ∙ same_instance_itself n.to
+        to : is_to (client_in owner.session start.lives) (notice_numbered number start.sites.mail) ≡ true
+        to = ap (λ o. is_to o (notice_numbered number start.sites.mail)) there ∙ ap (is_to (Some c)) posts.posted ∙ ap (λ i. same_instance i n.to) (me ∙ sym posts.to) ∙ same_instance_itself n.to
 
         by : (b : Bool) → was_heard number start.calls ≡ b → was_heard number start.calls ≡ true
         by true is = is
         by false is =
-            let yes : is_due lost owner.session number start ≡ true
+            let yes : is_notice_due lost owner.session number start ≡ true
             = ap (λ b. b && (not (was_heard number start.calls) && not (lost number))) to ∙ ap (λ b. not b && not (lost number)) is ∙ ap not found in
             absurd (true≢false (sym yes ∙ due))
 
     -- ---- the notices of a turn
 
-    due_asks : (start between new : WorldView R) → Posts start → IsQuiet given between → Posts between → HasRequestsOf stands given start between → (Asks start → Asks between) → (due : Bool) → is_due lost owner.session number start ≡ due
+    due_asks : (start between new : WorldView R) → Posts start → IsQuiet given between → Posts between → HasRequestsOf stands given start between → (Asks start → Asks between) → (due : Bool) → is_notice_due lost owner.session number start ≡ due
         → DeliversWhere stands given due number between new → Asks new
     due_asks start between new posts quiet there same kept true due happens =
         let comes = happens.comes in
@@ -68,23 +68,23 @@ module _ {R : Type 0} (stands : R → Standing) (given : (session : ℕ) → Lis
       where
         asks : Asks between
         asks c at me owned =
-            let was = client_of stands given owner.session (client_in owner.session start.lives) c.session (sym (same owner.session) ∙ ap session_of at) in
+            let was = client_of stands given owner.session (client_in owner.session start.lives) c.session (sym (same owner.session) ∙ ap session_of_client at) in
             kept (posts.heard (not_due start posts due was.0 was.1 (ap (λ (s : SessionView R). s.instance) was.2 ∙ me))) c at me owned
 
-    dues_ask : (start : WorldView R) (count : ℕ) (new : WorldView R) → Deeds (λ k. DeliversWhere stands given (is_due lost owner.session (k + 1) start) (k + 1)) count start new → IsQuiet given start → Posts start
+    dues_ask : (start : WorldView R) (count : ℕ) (new : WorldView R) → Deeds (λ k. DeliversWhere stands given (is_notice_due lost owner.session (k + 1) start) (k + 1)) count start new → IsQuiet given start → Posts start
         → 1 ≤ number → number ≤ count → Asks new
     unfolding Deeds
     dues_ask start zero new done quiet posts some few = absurd (omega (arith, some, few))
     dues_ask start (suc count) new (between, first, it) quiet posts some few =
-        let due = λ (k : ℕ). is_due lost owner.session (k + 1) start in
+        let due = λ (k : ℕ). is_notice_due lost owner.session (k + 1) start in
         let there = keeps_dues stands given Posts posts_step due count start between first (posts, quiet) in
         let same = keeps_dues stands given (HasRequestsOf stands given start) (requests_step stands given start) due count start between first ((λ s. refl), quiet) in
         either_way number (count + 1)
         (λ less. (keeps_due stands given Asks asks_step (due count) (count + 1) between new it (dues_ask start count between first quiet posts some (omega (arith, less)), there.1)).0)
         (λ more.
         let is : number ≡ count + 1 = omega (arith, few, more) in
-        due_asks start between new posts there.1 there.0 same.0 (λ asks. (keeps_dues stands given Asks asks_step due count start between first (asks, quiet)).0) (is_due lost owner.session number start) refl
-        (subst (λ k. DeliversWhere stands given (is_due lost owner.session k start) k between new) (sym is) it))
+        due_asks start between new posts there.1 there.0 same.0 (λ asks. (keeps_dues stands given Asks asks_step due count start between first (asks, quiet)).0) (is_notice_due lost owner.session number start) refl
+        (subst (λ k. DeliversWhere stands given (is_notice_due lost owner.session k start) k between new) (sym is) it))
 
     -- ---- a turn, and a round
 
@@ -94,7 +94,7 @@ module _ {R : Type 0} (stands : R → Standing) (given : (session : ℕ) → Lis
     turn_asks true old new at turn still quiet mailed posts =
         let range = there_below number old.world.sites.mail n mailed.numbers posts.posted in
         let asks = dues_ask old.world (length old.world.sites.mail) turn.told turn.notices quiet posts range.0 range.1 in
-        let told = keeps_dues stands given Posts posts_step (λ k. is_due lost owner.session (k + 1) old.world) (length old.world.sites.mail) old.world turn.told turn.notices (posts, quiet) in
+        let told = keeps_dues stands given Posts posts_step (λ k. is_notice_due lost owner.session (k + 1) old.world) (length old.world.sites.mail) old.world turn.told turn.notices (posts, quiet) in
         (keeps_all stands given Asks asks_step owner.session (record { world = turn.told; went_on = old.went_on }) new turn.polls still (asks, told.1)).0
 
     record IsReady (w : WorldView R) : Type 0 where

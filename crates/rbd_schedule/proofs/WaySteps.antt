@@ -7,8 +7,8 @@ use Rattle.rbd_client.specs.declared.actor.Actor.{Actor}
 use Rattle.rbd_client.specs.declared.actor.Actor.TheVariants as actor
 use Rattle.rbd_client.specs.declared.slot_state.Way.{Way}
 use Rattle.rbd_client.specs.declared.slot_state.Way.TheVariants as way
-use Rattle.rbd_client.specs.Actor.{actor_at, actor_by, actor_on, due_release, is_acquiring, releasing}
-use Rattle.rbd_client.specs.Client.{ClientView, state_in}
+use Rattle.rbd_client.specs.Actor.{actor_at, actor_by, actor_on, due_release, is_acquiring, release_actor}
+use Rattle.rbd_client.specs.Client.{ClientView, slot_state}
 use Rattle.rbd_client.specs.Feeding.{IsFedBy, WayComesTo}
 use Rattle.rbd_kinds.specs.declared.answer.Answer.{Answer}
 use Rattle.rbd_kinds.specs.declared.answer.Answer.TheVariants as answer
@@ -22,24 +22,24 @@ use Rattle.rbd_kinds.specs.declared.notice.NoticeKind.{NoticeKind}
 use Rattle.rbd_kinds.specs.declared.notice.NoticeKind.TheVariants as notice
 use Rattle.rbd_kinds.specs.Images.{is_at}
 use Rattle.rbd_kinds.specs.OperationKind.{kind_of}
-use Rattle.rbd_locks.specs.declared.lock_state.LockState.{LockState}
-use Rattle.rbd_locks.specs.Locks.{LocksView, heard, state_at}
-use Rattle.rbd_locks.specs.States.{told}
+use Rattle.rbd_lock.specs.declared.lock_state.LockState.{LockState}
+use Rattle.rbd_lock.specs.Locks.{LocksView, heard, lock_state_at}
+use Rattle.rbd_lock.specs.States.{told_state}
 use Rattle.rbd_machine.specs.Plan.{Standing}
-use Rattle.rbd_owner.specs.Acquire.{begun, op_at, op_of}
-use Rattle.rbd_owner.specs.Waiting.{asks_again}
-use Rattle.rbd_owner.specs.declared.acquire.Acquire.{Acquire}
-use Rattle.rbd_owner.specs.declared.acquire.Stage.{Stage}
-use Rattle.rbd_owner.specs.declared.acquire.Stage.TheVariants as stage
-use Rattle.rbd_session.specs.Session.{SessionView, held_in, own_look_at, running_at}
-use Rattle.rbd_session.specs.declared.running.Running.{Running}
+use Rattle.rbd_lock.specs.Acquire.{begun_way, op_at_stage, op_of}
+use Rattle.rbd_lock.specs.Waiting.{asks_again}
+use Rattle.rbd_lock.specs.declared.acquire.Acquire.{Acquire}
+use Rattle.rbd_lock.specs.declared.acquire.Stage.{Stage}
+use Rattle.rbd_lock.specs.declared.acquire.Stage.TheVariants as stage
+use Rattle.rbd_slots.specs.Session.{SessionView, held_in, look_under_lock_at, running_at}
+use Rattle.rbd_slots.specs.declared.running.Running.{Running}
 use Rattle.rbd_site.specs.Step.{answer_to}
 use Rattle.rbd_world.specs.declared.event.Event.TheVariants as event
 use Rattle.rbd_world.specs.declared.event.Outcome.{Outcome}
 use Rattle.rbd_world.specs.declared.sites.Sites.{Sites}
 use Rattle.rbd_world.specs.Run.{Did, Happening, Nothing, OnWay, Waited}
-use Rattle.rbd_world.specs.Step.{Becomes, Goes, Hears, IsStep, goes_on_by, operation_at, polled, polled_in}
-use Rattle.rbd_world.specs.World.{WorldView, client_in, records_in, running_of, session_of, site_in}
+use Rattle.rbd_world.specs.Step.{Becomes, Goes, Hears, IsWorldStep, goes_on_by, operation_at, polled, polled_in}
+use Rattle.rbd_world.specs.World.{WorldView, client_in, records_in, running_of, session_of_client, site_in}
 use Rattle.rbd_schedule.specs.Schedule.{goes_on}
 use Rattle.rbd_schedule.proofs.Going.{runs_there}
 use Rattle.rbd_schedule.proofs.Idle.{AsksAgain, Asked, HearsOf, IsIdleBy, IsIdlePollOf, IsIdleStep, Told, acts_on, acts_same, delivery_leaves, idle_held, poll_leaves, same_sessions}
@@ -65,29 +65,29 @@ module _ {R : Type 0} (stands : R → Standing) where
   asked_way w x false true asked is = absurd (false≢true (ap is_acquiring is))
   asked_way w x false false asked is = is
 
-  told_way : (x : Acquire) (p : ImageAt) (kind : NoticeKind) (here : Bool) (s : LockState) → actor_by (cond here (told kind s) s) p.site p.image ≡ actor.Way x → actor_by s p.site p.image ≡ actor.Way x
+  told_way : (x : Acquire) (p : ImageAt) (kind : NoticeKind) (here : Bool) (s : LockState) → actor_by (cond here (told_state kind s) s) p.site p.image ≡ actor.Way x → actor_by s p.site p.image ≡ actor.Way x
   told_way x p kind false s is = is
-  told_way x p notice.RequestLock true s is = asked_way (begun p.site p.image s.watched) x s.quiesced s.owned s.asked is
+  told_way x p notice.RequestLock true s is = asked_way (begun_way p.site p.image s.watched) x s.quiesced s.owned s.asked is
   told_way x p _ true s is = is
 
-  hears_way : (x : Acquire) (n : Notice) (w : Way) (look : Option ImageAt) (old new : LocksView) → ((s : SiteId) (image : ℕ) → state_at s image new ≡ heard n s image (state_at s image old))
+  hears_way : (x : Acquire) (n : Notice) (w : Way) (look : Option ImageAt) (old new : LocksView) → ((s : SiteId) (image : ℕ) → lock_state_at s image new ≡ heard n s image (lock_state_at s image old))
       → actor_on w look new ≡ actor.Way x → actor_on w look old ≡ actor.Way x
   hears_way x n (way.On a) look old new locks is = is
   hears_way x n (way.Taken p) look old new locks is = is
   hears_way x n way.Unbegun None old new locks is = is
   hears_way x n way.Unbegun (Some p) old new locks is =
-      told_way x p n.kind (is_at n.site n.image p.site p.image) (state_at p.site p.image old) (subst (λ s. actor_by s p.site p.image ≡ actor.Way x) (locks p.site p.image) is)
+      told_way x p n.kind (is_at n.site n.image p.site p.image) (lock_state_at p.site p.image old) (subst (λ s. actor_by s p.site p.image ≡ actor.Way x) (locks p.site p.image) is)
 
-  acts_by : (slot : ℕ) (c : ClientView R) → (slot == 0) ≡ false → actor_at stands slot c ≡ actor_on (state_in slot c.slots).way (own_look_at stands slot c.session) c.locks
-  acts_by slot c some = ap (λ b. cond b (releasing c.release (due_release c)) (actor_on (state_in slot c.slots).way (own_look_at stands slot c.session) c.locks)) some
+  acts_by : (slot : ℕ) (c : ClientView R) → (slot == 0) ≡ false → actor_at stands slot c ≡ actor_on (slot_state slot c.slots).way (look_under_lock_at stands slot c.session) c.locks
+  acts_by slot c some = ap (λ b. cond b (release_actor c.release (due_release c)) (actor_on (slot_state slot c.slots).way (look_under_lock_at stands slot c.session) c.locks)) some
 
   heard_way : (slot : ℕ) (n : Notice) (a b : ClientView R) → (slot == 0) ≡ false → Hears stands n a b → (x : Acquire) → actor_at stands slot b ≡ actor.Way x → actor_at stands slot a ≡ actor.Way x
-  heard_way slot n a b some hears x acts = acts_by slot a some ∙ hears_way x n (state_in slot a.slots).way (own_look_at stands slot a.session) a.locks b.locks hears.locks (sym now ∙ acts)
+  heard_way slot n a b some hears x acts = acts_by slot a some ∙ hears_way x n (slot_state slot a.slots).way (look_under_lock_at stands slot a.session) a.locks b.locks hears.locks (sym now ∙ acts)
     where
-      now : actor_at stands slot b ≡ actor_on (state_in slot a.slots).way (own_look_at stands slot a.session) b.locks
+      now : actor_at stands slot b ≡ actor_on (slot_state slot a.slots).way (look_under_lock_at stands slot a.session) b.locks
       now = acts_by slot b some
-          ∙ ap (λ slots. actor_on (state_in slot slots).way (own_look_at stands slot b.session) b.locks) hears.slots
-          ∙ ap (λ (s : SessionView R). actor_on (state_in slot a.slots).way (own_look_at stands slot s) b.locks) hears.session
+          ∙ ap (λ slots. actor_on (slot_state slot slots).way (look_under_lock_at stands slot b.session) b.locks) hears.slots
+          ∙ ap (λ (s : SessionView R). actor_on (slot_state slot a.slots).way (look_under_lock_at stands slot s) b.locks) hears.session
 
   -- ---- a poll of the slot
 
@@ -109,7 +109,7 @@ module _ {R : Type 0} (stands : R → Standing) where
   module _ (sites : Sites) (slot : ℕ) (some : (slot == 0) ≡ false) (a b : ClientView R) where
     stepped : (session : ℕ) → AsksAgain stands sites a slot (polled stands sites slot (Some a)) → Becomes stands (event.Poll session slot) (polled stands sites slot (Some a)) a b
         → (y : Acquire) → actor_at stands slot b ≡ actor.Way y → IsWayStep sites slot a y
-    stepped session asks becomes y acts = by (state_in slot b.slots).way refl goes.comes
+    stepped session asks becomes y acts = by (slot_state slot b.slots).way refl goes.comes
       where
         on : Acquire
         on = asks.on
@@ -123,7 +123,7 @@ module _ {R : Type 0} (stands : R → Standing) where
         goes : IsFedBy stands slot on.site (op_of on) (fed.Answer told_it) None a b (actor.Way on)
         goes = subst (IsFedBy stands slot on.site (op_of on) (fed.Answer told_it) None a b) asks.acts fed_it.fed
 
-        by : (w : Way) → (state_in slot b.slots).way ≡ w → WayComesTo on (fed.Answer told_it) None w → IsWayStep sites slot a y
+        by : (w : Way) → (slot_state slot b.slots).way ≡ w → WayComesTo on (fed.Answer told_it) None w → IsWayStep sites slot a y
         by (way.On z) at comes =
             let one : z ≡ y = ap (way_or z) (sym (acts_on stands slot b z some at) ∙ acts) in
             record {
@@ -141,8 +141,8 @@ module _ {R : Type 0} (stands : R → Standing) where
             told_done : ◌≡◌ {A = Fed} (fed.Answer told_it) (fed.Answer answer.Done) → told_it ≡ answer.Done
             told_done is = cc
 
-            not_done : (at : Stage) → at ≡ stage.Taking → asks_again (kind_of (op_at at on.image)) answer.Done ≡ true → ⊥
-            not_done at is again = false≢true (subst (λ x. asks_again (kind_of (op_at x on.image)) answer.Done ≡ true) is again)
+            not_done : (at : Stage) → at ≡ stage.Taking → asks_again (kind_of (op_at_stage at on.image)) answer.Done ≡ true → ⊥
+            not_done at is again = false≢true (subst (λ x. asks_again (kind_of (op_at_stage x on.image)) answer.Done ≡ true) is again)
         by way.Unbegun at comes = absurd comes
 
     -- nobody's way acted where nothing was done
@@ -172,11 +172,11 @@ module _ {R : Type 0} (stands : R → Standing) where
       record {
         client = was.0;
         there = was.1;
-        same = same_Some c.session was.0.session (sym (ap session_of there) ∙ same_sessions stands old new step session ∙ ap session_of was.1);
+        same = same_Some c.session was.0.session (sym (ap session_of_client there) ∙ same_sessions stands old new step session ∙ ap session_of_client was.1);
       }
 
   -- a way behind a poll of its slot asked again by it
-  pub way_polled : (session slot : ℕ) → (slot == 0) ≡ false → (old new : WorldView R) (result : Outcome) → IsStep stands (event.Poll session slot) old result new → goes_on result ≡ false
+  pub way_polled : (session slot : ℕ) → (slot == 0) ≡ false → (old new : WorldView R) (result : Outcome) → IsWorldStep stands (event.Poll session slot) old result new → goes_on result ≡ false
       → (c : ClientView R) → client_in session new.lives ≡ Some c → (r : Running R) → running_at slot c.session ≡ Some r → (y : Acquire) → actor_at stands slot c ≡ actor.Way y
       → (was : WasClient session old c) × IsWayStep old.sites slot was.client y
   way_polled session slot some old new result step none c there r runs y acts =
@@ -187,7 +187,7 @@ module _ {R : Type 0} (stands : R → Standing) where
   -- the way before
   abbrev pub IsWayBefore : (session slot : ℕ) (old new : WorldView R) (a : ClientView R) (y : Acquire) → Type 0
   IsWayBefore session slot old new a y =
-      (actor_at stands slot a ≡ actor.Way y) ⊎ ((result : Outcome) × (goes_on result ≡ false) × IsStep stands (event.Poll session slot) old result new × IsWayStep old.sites slot a y)
+      (actor_at stands slot a ≡ actor.Way y) ⊎ ((result : Outcome) × (goes_on result ≡ false) × IsWorldStep stands (event.Poll session slot) old result new × IsWayStep old.sites slot a y)
 
   heard_of : (slot : ℕ) (old new : Option (ClientView R)) → (slot == 0) ≡ false → HearsOf stands old new → (a c : ClientView R) → old ≡ Some a → new ≡ Some c → (y : Acquire) → actor_at stands slot c ≡ actor.Way y → actor_at stands slot a ≡ actor.Way y
   heard_of slot None new some hears a c was is y acts = absurd (none-some a was)
@@ -220,6 +220,6 @@ module _ {R : Type 0} (stands : R → Standing) where
           let same : c ≡ was.client = same_Some c was.client (sym there ∙ ap running_of (step.1.others session (ne_eqb s session (λ is. elsewhere (sym is)))) ∙ was.there) in
           (was, inl (subst (λ d. actor_at stands slot d ≡ actor.Way y) same acts))
       by (inl here) (inl mine) =
-          let own = subst (λ k. IsStep stands (event.Poll k slot) old result new) (sym mine) (subst (λ k. IsStep stands (event.Poll s k) old result new) (sym here) step) in
+          let own = subst (λ k. IsWorldStep stands (event.Poll k slot) old result new) (sym mine) (subst (λ k. IsWorldStep stands (event.Poll s k) old result new) (sym here) step) in
           let polled = way_polled session slot some old new result own none c there r runs y acts in
           (polled.0, inr (result, none, own, polled.1))

@@ -10,17 +10,17 @@ use Rattle.rbd_kinds.specs.declared.image_at.ImageAt.{ImageAt}
 use Rattle.rbd_kinds.specs.declared.notice.Notice.{Notice}
 use Rattle.rbd_kinds.specs.declared.notice.NoticeKind.TheVariants as notice
 use Rattle.rbd_kinds.specs.Instances.{same_instance}
-use Rattle.rbd_line.specs.Line.{Member, member_of}
-use Rattle.rbd_locks.specs.declared.lock_state.LockState.{LockState}
-use Rattle.rbd_locks.specs.Locks.{state_at}
+use Rattle.rbd_queue.specs.Line.{Member, member_of}
+use Rattle.rbd_lock.specs.declared.lock_state.LockState.{LockState}
+use Rattle.rbd_lock.specs.Locks.{lock_state_at}
 use Rattle.rbd_machine.specs.Plan.{Standing}
-use Rattle.rbd_owner.specs.Steps.{is_among}
+use Rattle.rbd_lock.specs.Steps.{is_instance_among}
 use Rattle.rbd_script.specs.declared.script.Script.{Script}
-use Rattle.rbd_session.specs.declared.running.Running.{Running}
-use Rattle.rbd_session.specs.Lines.{lines_of}
-use Rattle.rbd_session.specs.Session.{SessionView, own_look_at, running_at}
+use Rattle.rbd_slots.specs.declared.running.Running.{Running}
+use Rattle.rbd_slots.specs.Lines.{lines_of}
+use Rattle.rbd_slots.specs.Session.{SessionView, look_under_lock_at, running_at}
 use Rattle.rbd_site.specs.Records.{Records}
-use Rattle.rbd_watch.specs.Posting.{numbered}
+use Rattle.rbd_watch.specs.Posting.{notice_numbered}
 use Rattle.rbd_site.specs.Step.{is_fenced}
 use Rattle.rbd_world.specs.Sound.{line_at}
 use Rattle.rbd_world.specs.Step.{is_begun}
@@ -48,14 +48,14 @@ pub record IsAnothers (r : Records) (image : ℕ) (me : Instance) : Type 0 where
   pub owner : Instance
   pub has : header.owner ≡ Some owner
   pub other : same_instance owner me ≡ false
-  pub watches : is_among (r.watchers image) owner ≡ true
+  pub watches : is_instance_among (r.watchers image) owner ≡ true
 
 -- A notice that asks an owner for the lock of an image is lost: no settle delivers it, and nobody
 -- has heard it.
 pub record IsRequestLost {R : Type 0} (lost : (number : ℕ) → Bool) (w : WorldView R) (p : ImageAt) (owner : Instance) : Type 0 where
   pub number : ℕ
   pub request : Notice
-  pub posted : numbered number w.sites.mail ≡ Some request
+  pub posted : notice_numbered number w.sites.mail ≡ Some request
   pub to : request.to ≡ owner
   pub site_is : request.site ≡ p.site
   pub image_is : request.image ≡ p.image
@@ -70,18 +70,18 @@ pub record HasGivenUp {R : Type 0} (w : WorldView R) (p : ImageAt) (owner : Inst
 
 -- Why an owner that still runs doesn't let a lock go: it has quiesced the image; or it was fenced,
 -- and counts the lock as given up; or it doesn't know that it is asked, since a notice was lost.
-abbrev pub IsKept : {R : Type 0} → (lost : (number : ℕ) → Bool) → WorldView R → ImageAt → (owner : Instance) → LockState → Type 0
-IsKept lost w p owner s = (s.quiesced ≡ true) ⊎ (HasGivenUp w p owner s ⊎ IsRequestLost lost w p owner)
+abbrev pub KeepsLock : {R : Type 0} → (lost : (number : ℕ) → Bool) → WorldView R → ImageAt → (owner : Instance) → LockState → Type 0
+KeepsLock lost w p owner s = (s.quiesced ≡ true) ⊎ (HasGivenUp w p owner s ⊎ IsRequestLost lost w p owner)
 
 -- Another instance has the lock, and has been stopped, or keeps it.
 pub record IsKeptFrom {R : Type 0} (lost : (number : ℕ) → Bool) (w : WorldView R) (p : ImageAt) (me : Instance) : Type 0 where
   pub lock : IsAnothers (records_in p.site w.sites) p.image me
-  pub keeps : (c : ClientView R) → client_in lock.owner.session w.lives ≡ Some c → c.session.instance ≡ lock.owner → IsKept lost w p lock.owner (state_at p.site p.image c.locks)
+  pub keeps : (c : ClientView R) → client_in lock.owner.session w.lives ≡ Some c → c.session.instance ≡ lock.owner → KeepsLock lost w p lock.owner (lock_state_at p.site p.image c.locks)
 
 -- Why a request that stands at its look under the lock of an image doesn't act there: a quiesce of
 -- its session holds it back; or it is on its way to the lock, which another one keeps.
 abbrev pub IsLockedOut : {R : Type 0} → (lost : (number : ℕ) → Bool) → ImageAt → WorldView R → ClientView R → Actor → Type 0
-IsLockedOut lost p w c actor.Nobody = (state_at p.site p.image c.locks).quiesced ≡ true
+IsLockedOut lost p w c actor.Nobody = (lock_state_at p.site p.image c.locks).quiesced ≡ true
 IsLockedOut lost p w c (actor.Way a) = IsKeptFrom lost w p c.session.instance
 IsLockedOut lost p w c who = ⊥
 
@@ -90,10 +90,10 @@ pub record IsHeldUp {R : Type 0} (stands : R → Standing) (lost : (number : ℕ
   pub request : Running R
   pub runs : running_at slot c.session ≡ Some request
   pub image : ImageAt
-  pub look : own_look_at stands slot c.session ≡ Some image
+  pub look : look_under_lock_at stands slot c.session ≡ Some image
   pub out : IsLockedOut lost image w c (actor_at stands slot c)
 
--- It stands in the line of an image behind the request in this slot, which is the first there.
+-- The request stands in the line of an image behind the one in this slot, which is the first there.
 pub record StandsBehind {R : Type 0} (s : SessionView R) (slot first : ℕ) : Type 0 where
   pub image : ImageAt
   pub member : Member

@@ -16,7 +16,7 @@ given_by line s = []
 abbrev pub commands_of : List Line → List Given
 commands_of lines = flat_map (λ (line : Line). given_by line.number line.said) lines
 
--- those of a session
+-- the commands of one session
 abbrev pub of_session : (session : ℕ) → List Given → List Given
 of_session session given = filter (λ (c : Given). c.session == session) given
 
@@ -24,17 +24,17 @@ abbrev pub given_in : List Line → (session : ℕ) → List Given
 given_in lines session = of_session session (commands_of lines)
 
 -- one, or none
-abbrev pub listed : Option Given → List Given
-listed None = []
-listed (Some c) = c ∷ []
+abbrev pub given_or_none : Option Given → List Given
+given_or_none None = []
+given_or_none (Some c) = c ∷ []
 
 -- ---- notices
 
--- settles don't deliver the notice behind this line
-abbrev pub loses : (number : ℕ) → Said → Bool
-loses number (said.Lose other) = other == number
-loses number s = false
+-- whether the notice is one that no settle delivers, by this line
+abbrev pub loses_notice : (number : ℕ) → Said → Bool
+loses_notice number (said.Lose other) = other == number
+loses_notice number s = false
 
--- behind these lines
+-- whether the notice is lost by one of these lines
 abbrev pub is_lost_by : List Line → (number : ℕ) → Bool
-is_lost_by lines number = list_any (λ (line : Line). loses number line.said) lines
+is_lost_by lines number = list_any (λ (line : Line). loses_notice number line.said) lines

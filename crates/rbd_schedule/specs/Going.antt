@@ -1,10 +1,10 @@
 -- Whether a request of a session may go on.
 use Rattle.std.specs.Prelude.{◌≡◌, ℕ, ◌≤◌, false, Some}
-use Rattle.rbd_session.specs.declared.running.Occupant.{Occupant}
-use Rattle.rbd_session.specs.declared.running.Occupant.TheVariants as occupant
-use Rattle.rbd_session.specs.Advance.{track_of}
-use Rattle.rbd_session.specs.Session.{SessionView, held_in}
-use Rattle.rbd_session.specs.Waits.{waits}
+use Rattle.rbd_slots.specs.declared.running.Occupant.{Occupant}
+use Rattle.rbd_slots.specs.declared.running.Occupant.TheVariants as occupant
+use Rattle.rbd_slots.specs.Advance.{track_of}
+use Rattle.rbd_slots.specs.Session.{SessionView, held_in}
+use Rattle.rbd_slots.specs.Waits.{waits}
 
 module _ {R : Type 0} where
   -- What is in a slot goes on: it is refused before any operation, or runs and doesn't wait.

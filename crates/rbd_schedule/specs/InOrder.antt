@@ -5,15 +5,15 @@ use Rattle.rbd_script.specs.declared.script.Said.{Said}
 use Rattle.rbd_script.specs.declared.script.Said.TheVariants as said
 
 -- each line has a greater number than the one before it, and the first a greater one than this
-abbrev pub AreBehind : (number : ℕ) → List Line → Type 0
-AreBehind number [] = Unit {0}
-AreBehind number (line ∷ lines) = (number < line.number) × AreBehind line.number lines
+abbrev pub AreAscendingFrom : (number : ℕ) → List Line → Type 0
+AreAscendingFrom number [] = Unit {0}
+AreAscendingFrom number (line ∷ lines) = (number < line.number) × AreAscendingFrom line.number lines
 
 -- The numbers are at least 1, and ascend.
-abbrev pub AreInOrder : List Line → Type 0
-AreInOrder lines = AreBehind 0 lines
+abbrev pub AreLinesInOrder : List Line → Type 0
+AreLinesInOrder lines = AreAscendingFrom 0 lines
 
--- Where a line names a session, it is one of the first so many.
+-- A line that names a session names a declared one.
 abbrev pub NamesDeclared : (sessions : ℕ) → Said → Type 0
 NamesDeclared sessions (said.Command session beside command) = session < sessions
 NamesDeclared sessions (said.Poll session slot times) = session < sessions
@@ -27,7 +27,7 @@ NamesDeclared sessions (said.Deliver notice) = Unit {0}
 NamesDeclared sessions (said.Lose notice) = Unit {0}
 NamesDeclared sessions (said.Trim site image object) = Unit {0}
 
--- so it is with each of the lines
+-- each of the lines names only declared sessions
 abbrev pub AreDeclared : (sessions : ℕ) → List Line → Type 0
 AreDeclared sessions [] = Unit {0}
 AreDeclared sessions (line ∷ lines) = NamesDeclared sessions line.said × AreDeclared sessions lines

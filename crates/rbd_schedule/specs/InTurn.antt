@@ -1,4 +1,4 @@
--- Commands of a session that wait for each other.
+-- The commands of a session that wait for each other, in their order.
 use Rattle.std.specs.Prelude.{◌≡◌, ℕ, false, true, List, ◌∷◌, ◌++◌, AllPairs}
 use Rattle.rbd_flat.specs.declared.entry.Entry.{Entry}
 use Rattle.rbd_flat.specs.declared.entry.Entry.TheVariants as entry
@@ -6,8 +6,8 @@ use Rattle.rbd_kinds.specs.declared.id.Instance.{Instance}
 use Rattle.rbd_schedule.specs.declared.given.Given.{Given}
 use Rattle.rbd_schedule.specs.Starts.{is_ended}
 
--- Line b began behind the end of line a: wherever the start of b stands in the history, the reply
--- to a stands before it, or that a is lost.
+-- Line b began after the end of line a: wherever the start of b stands in the history, before it
+-- stands that a has its reply or is lost.
 abbrev pub IsEndedBefore : (a b : ℕ) → List Entry → Type 0
 IsEndedBefore a b history =
     (before after : List Entry) (who : Instance) → history ≡ before ++ entry.Start b who ∷ after → is_ended a before ≡ true

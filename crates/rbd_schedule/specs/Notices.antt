@@ -4,7 +4,7 @@ use Rattle.std.specs.List.{list_any}
 use Rattle.rbd_client.specs.Client.{ClientView}
 use Rattle.rbd_kinds.specs.declared.notice.Notice.{Notice}
 use Rattle.rbd_kinds.specs.Instances.{same_instance}
-use Rattle.rbd_watch.specs.Posting.{numbered}
+use Rattle.rbd_watch.specs.Posting.{notice_numbered}
 use Rattle.rbd_world.specs.declared.event.Call.{Call}
 use Rattle.rbd_world.specs.declared.event.Event.{Event}
 use Rattle.rbd_world.specs.declared.event.Event.TheVariants as event
@@ -32,7 +32,7 @@ was_heard number calls = list_any (λ (c : Call). hears number c.event c.outcome
 
 -- ---- which are due
 
--- the session's instance that runs
+-- whether an instance of the session runs
 abbrev pub runs : {R : Type 0} → (session : ℕ) → WorldView R → Bool
 runs session w = is_some (client_in session w.lives)
 
@@ -41,7 +41,7 @@ is_to None n = false
 is_to (Some c) None = false
 is_to (Some c) (Some n) = same_instance c.session.instance n.to
 
--- A notice that is to the session's instance that runs, and was neither delivered nor lost. Those
--- to an earlier life are due to nobody.
-abbrev pub is_due : {R : Type 0} → (lost : (number : ℕ) → Bool) → (session number : ℕ) → WorldView R → Bool
-is_due lost session number w = is_to (client_in session w.lives) (numbered number w.sites.mail) && (not (was_heard number w.calls) && not (lost number))
+-- whether a notice is to the session's instance that runs, and was neither delivered nor lost.
+-- Notices to an earlier life are due to nobody.
+abbrev pub is_notice_due : {R : Type 0} → (lost : (number : ℕ) → Bool) → (session number : ℕ) → WorldView R → Bool
+is_notice_due lost session number w = is_to (client_in session w.lives) (notice_numbered number w.sites.mail) && (not (was_heard number w.calls) && not (lost number))

@@ -1,8 +1,8 @@
--- What is played, and by what.
+-- What is played, and what a runner keeps beside the world.
 use Rattle.std.specs.Prelude.{◌≡◌, ℕ, ◌<◌, ◌≤◌, ◌==◌, ◌&&◌, ◌||◌, ◌+◌, nat_eq, nat_lt, cond, not, Bool, true, false, List, [], length, take, map, All, slice_get, Option, Some, None}
 use Rattle.std.specs.HashSet.{HashSet, contains_by}
-use Rattle.rbd_lines.specs.Known.{is_known}
-use Rattle.rbd_lines.specs.declared.line_map.LineMap.{LineMap}
+use Rattle.rbd_line_table.specs.Known.{is_known}
+use Rattle.rbd_line_table.specs.declared.line_map.LineMap.{LineMap}
 use Rattle.rbd_commands.specs.declared.command.Command.{Command}
 use Rattle.rbd_flat.specs.declared.entry.Entry.{Entry}
 use Rattle.rbd_flat.specs.declared.entry.Entry.TheVariants as entry
@@ -10,13 +10,13 @@ use Rattle.rbd_kinds.specs.declared.id.Instance.{Instance}
 use Rattle.rbd_kinds.specs.declared.id.SiteId.{SiteId}
 use Rattle.rbd_kinds.specs.declared.notice.Notice.{Notice}
 use Rattle.rbd_machine.specs.Plan.{Standing}
-use Rattle.rbd_requests.specs.Plans.{is_built}
+use Rattle.rbd_catalog.specs.Plans.{is_built}
 use Rattle.rbd_script.specs.declared.script.Declared.{Declared}
 use Rattle.rbd_script.specs.declared.script.Line.{Line}
 use Rattle.rbd_script.specs.declared.script.Said.{Said}
 use Rattle.rbd_script.specs.declared.script.Said.TheVariants as said
 use Rattle.rbd_script.specs.declared.script.Script.{Script}
-use Rattle.rbd_watch.specs.Posting.{numbered}
+use Rattle.rbd_watch.specs.Posting.{notice_numbered}
 use Rattle.rbd_client.specs.Seen.{as_is}
 use Rattle.rbd_world.specs.Seen.{seen}
 use Rattle.rbd_world.specs.declared.event.Event.{Event}
@@ -36,16 +36,17 @@ use Rattle.rbd_schedule.specs.Starts.{IsIdle, IsQuiet, is_ended}
 
 -- ---- which scripts are played
 
--- each command that is served, and each line of the schedule
-abbrev pub IsPlayed : Said → Type 0
-IsPlayed (said.Command session beside command) = is_built command ≡ true
-IsPlayed s = Unit {0}
+-- a command that is served, or a line of the schedule
+abbrev pub IsPlayedLine : Said → Type 0
+IsPlayedLine (said.Command session beside command) = is_built command ≡ true
+IsPlayedLine s = Unit {0}
 
--- The forms that are played, of at most 32 sessions; and whom a line names is declared.
+-- Scripts that are played: they have at most 32 sessions, their lines are of forms that are served,
+-- and each session that a line names is declared.
 pub record IsPlayable (script : Script) : Type 0 where
   pub few : length script.sessions ≤ 32
   pub declared : AreDeclared (length script.sessions) script.lines
-  pub lines : All (λ (line : Line). IsPlayed line.said) script.lines
+  pub lines : All (λ (line : Line). IsPlayedLine line.said) script.lines
 
 -- ---- a play
 
@@ -63,11 +64,11 @@ pub record IsPlay {R : Type 0} (stands : R → Standing) (script : Script) (w : 
 
 -- ---- the queue of a session
 
--- a line is one of these
+-- whether a line is one of these
 abbrev pub has_line : {T : Type 0} → (line : ℕ) → LineMap T → Bool
 has_line line lines = is_known lines line
 
--- a notice is one of these
+-- whether a notice is one of these
 abbrev pub has_number : {S : Type 0} → (number : ℕ) → HashSet ℕ S → Bool
 has_number number numbers = contains_by (nat_eq number) numbers
 
@@ -76,20 +77,21 @@ abbrev pub at_place : List Given → Option ℕ → Option Given
 at_place given None = None
 at_place given (Some place) = slice_get given place
 
--- a command that is over: nothing waits for it any more
+-- whether a command is over: nothing waits for it any more
 abbrev pub is_over : (begun ended : (line : ℕ) → Bool) → Given → Bool
 is_over begun ended c = begun c.line && ended c.line
 
--- a command that stands beside the others, and may start where it wasn't begun
-abbrev pub is_beside : (begun : (line : ℕ) → Bool) → Given → Bool
-is_beside begun c = c.beside && not (begun c.line)
+-- whether a command goes beside the others and wasn't begun: so it may start
+abbrev pub may_start_beside : (begun : (line : ℕ) → Bool) → Given → Bool
+may_start_beside begun c = c.beside && not (begun c.line)
 
--- All before `front` are over, and none before `next` stands beside the others and wasn't begun.
+-- All commands before `front` are over; and of those before `next` none that goes beside the others
+-- has still to begin.
 pub record IsQueue (begun ended : (line : ℕ) → Bool) (q : Queue) : Type 0 where
   pub front : q.front ≤ length q.commands.items
   pub over : All (λ c. is_over begun ended c ≡ true) (take q.front q.commands.items)
   pub next : q.next ≤ length q.commands.items
-  pub passed : All (λ c. is_beside begun c ≡ false) (take q.next q.commands.items)
+  pub passed : All (λ c. may_start_beside begun c ≡ false) (take q.next q.commands.items)
 
 -- no command was given yet
 pub record IsEmptyQueue (q : Queue) : Type 0 where
@@ -111,8 +113,8 @@ given_to r session = commands_in (slice_get r.queues.items session)
 abbrev pub lost_in : Runner → (number : ℕ) → Bool
 lost_in r number = has_number number r.lost
 
--- a command of a session, as it was given
-pub record IsGiven (session : ℕ) (c : Given) : Type 0 where
+-- a command of the session, as the script gave it
+pub record IsGivenCommand (session : ℕ) (c : Given) : Type 0 where
   pub mine : c.session ≡ session
   pub command : Command
   pub submission : c.submission ≡ event.Submit session c.line command
@@ -120,35 +122,36 @@ pub record IsGiven (session : ℕ) (c : Given) : Type 0 where
 
 pub record IsQueueIn (history : List Entry) (session : ℕ) (q : Queue) : Type 0 where
   pub queue : IsQueue (λ line. is_begun line history) (λ line. is_ended line history) q
-  pub given : All (IsGiven session) q.commands.items
+  pub given : All (IsGivenCommand session) q.commands.items
 
 -- ---- notices that a session is past
 
--- a notice to this instance is none for that life of a session, or a later one
-abbrev pub is_past : (to latest : Instance) → Bool
-is_past to latest = not (to.session == latest.session) || nat_lt to.life latest.life
+-- whether a notice to this instance is none for that life of a session, nor for a later one
+abbrev pub is_past_life : (to latest : Instance) → Bool
+is_past_life to latest = not (to.session == latest.session) || nat_lt to.life latest.life
 
--- the notice is there, and the life, and each later one, has no more to do with it
-abbrev pub is_settled : (heard lost : (number : ℕ) → Bool) → (latest : Instance) → (number : ℕ) → Option Notice → Bool
-is_settled heard lost latest number None = false
-is_settled heard lost latest number (Some n) = is_past n.to latest || (heard number || lost number)
+-- whether the notice is there, and neither that life nor a later one has anything to do with it any
+-- more
+abbrev pub is_dealt_with : (heard lost : (number : ℕ) → Bool) → (latest : Instance) → (number : ℕ) → Option Notice → Bool
+is_dealt_with heard lost latest number None = false
+is_dealt_with heard lost latest number (Some n) = is_past_life n.to latest || (heard number || lost number)
 
 -- No turn of the session will deliver it any more.
 abbrev pub IsPassed : {R : Type 0} → (lost : (number : ℕ) → Bool) → (session number : ℕ) → WorldView R → Type 0
 IsPassed {R} lost session number w =
-    (l : LivesView R) → lives_in session w.lives ≡ Some l → is_settled (λ n. was_heard n w.calls) lost l.latest number (numbered number w.sites.mail) ≡ true
+    (l : LivesView R) → lives_in session w.lives ≡ Some l → is_dealt_with (λ n. was_heard n w.calls) lost l.latest number (notice_numbered number w.sites.mail) ≡ true
 
 abbrev pub count_of : Option ℕ → ℕ
 count_of None = 0
 count_of (Some count) = count
 
 -- how many of the first notices the session is past
-abbrev pub passed_by : Runner → (session : ℕ) → ℕ
-passed_by r session = count_of (slice_get r.passed.items session)
+abbrev pub notices_passed : Runner → (session : ℕ) → ℕ
+notices_passed r session = count_of (slice_get r.passed.items session)
 
 -- ---- all of it
 
--- The world is sound, and what the runner keeps beside it is true of it.
+-- The world is sound, and what the runner keeps beside it is true of the world.
 pub record KeepsUp (r : Runner) : Type 0 where
   pub sound : IsSoundWorld as_is (seen r.world)
   pub quiet : r.is_due ≡ false → IsQuiet (given_to r) (seen r.world)
@@ -158,11 +161,11 @@ pub record KeepsUp (r : Runner) : Type 0 where
   pub queues : (session : ℕ) (q : Queue) → slice_get r.queues.items session ≡ Some q → IsQueueIn (seen r.world).history session q
   pub over : (line : ℕ) → has_line line r.over ≡ is_ended line (seen r.world).history
   pub heard : (number : ℕ) → has_number number r.heard ≡ was_heard number (seen r.world).calls
-  pub passed : (session k : ℕ) → k < passed_by r session → IsPassed (lost_in r) session (k + 1) (seen r.world)
+  pub passed : (session k : ℕ) → k < notices_passed r session → IsPassed (lost_in r) session (k + 1) (seen r.world)
 
--- The runner goes on so: it keeps up, its sessions were given nothing more, and no notice more is
--- lost.
-pub record GoesOn (old new : Runner) : Type 0 where
+-- How the runner goes on: it keeps up, its sessions were given no further command, and no further
+-- notice is lost.
+pub record RunnerGoesOn (old new : Runner) : Type 0 where
   pub keeps : KeepsUp old → KeepsUp new
   pub given : given_to new ≡ given_to old
   pub queues : length new.queues.items ≡ length old.queues.items
@@ -173,20 +176,20 @@ abbrev pub StartsIf : {R : Type 0} → (stands : R → Standing) → (given : (s
 StartsIf stands given session true old new = Submits stands given session old new
 StartsIf stands given session false old new = (new ≡ old) × IsIdle given old session
 
--- the command that starts next was submitted, or none may start
+-- the command that starts next was submitted, or no command may start
 abbrev pub StartsWhere : {R : Type 0} → (stands : R → Standing) → (given : (session : ℕ) → List Given) → (started : Bool) → (old new : WorldView R) → Type 0
 StartsWhere stands given true old new = Starts stands given old new
 StartsWhere stands given false old new = (new ≡ old) × IsQuiet given old
 
 -- ---- what an event comes to
 
--- it is none that begins a command
+-- the event begins no command
 abbrev pub IsNoStart : Event → Type 0
 IsNoStart (event.Submit session line command) = ⊥
 IsNoStart e = Unit {0}
 
--- Behind it a command may have come to start: a request has its reply, or lines are lost, or a
--- session runs again.
+-- whether a command may have come to start after this: a request has its reply, lines are lost, or
+-- a session runs again
 abbrev pub lets_start : Outcome → Bool
 lets_start (outcome.Step site number waiting replied) = replied
 lets_start outcome.Stopped = true
@@ -198,15 +201,15 @@ is_one_of number None = false
 is_one_of number (Some other) = other == number
 
 -- the line that an entry ends, where it ends one
-abbrev pub ended_by : Entry → Option ℕ
-ended_by (entry.Reply line reply) = Some line
-ended_by (entry.Lost line) = Some line
-ended_by e = None
+abbrev pub line_ended_by : Entry → Option ℕ
+line_ended_by (entry.Reply line reply) = Some line
+line_ended_by (entry.Lost line) = Some line
+line_ended_by e = None
 
 -- the notice that an event delivers, where it delivers one
-abbrev pub told_by : Event → Option ℕ
-told_by (event.Deliver number) = Some number
-told_by e = None
+abbrev pub delivered_by : Event → Option ℕ
+delivered_by (event.Deliver number) = Some number
+delivered_by e = None
 
 -- the highest slot that was given so far, behind this
 abbrev pub highest_after : (highest : ℕ) → Outcome → ℕ

@@ -12,16 +12,16 @@ use Rattle.rbd_world.specs.declared.event.Event.TheVariants as event
 use Rattle.rbd_world.specs.declared.event.Outcome.{Outcome}
 use Rattle.rbd_world.specs.declared.event.Outcome.TheVariants as outcome
 use Rattle.rbd_world.specs.Sound.{line_at}
-use Rattle.rbd_world.specs.Step.{IsBuiltEvent, IsStep}
+use Rattle.rbd_world.specs.Step.{IsBuiltEvent, IsWorldStep}
 use Rattle.rbd_world.specs.World.{WorldView, client_in, kind_in}
 use Rattle.rbd_schedule.specs.declared.given.Given.{Given}
 use Rattle.rbd_schedule.specs.Deeds.{Deeds}
 use Rattle.rbd_schedule.specs.Given.{commands_of, given_in, is_lost_by}
-use Rattle.rbd_schedule.specs.Notices.{is_due, runs}
-use Rattle.rbd_schedule.specs.Slots.{AreCounted}
+use Rattle.rbd_schedule.specs.Notices.{is_notice_due, runs}
+use Rattle.rbd_schedule.specs.Slots.{AreClientsCounted}
 use Rattle.rbd_schedule.specs.Starts.{IsIdle, IsQuiet, to_start}
 
--- something went on: a step, and none that only asks again for a lock
+-- whether something went on: a step happened that doesn't only ask again for a lock
 abbrev pub goes_on : Outcome → Bool
 goes_on (outcome.Step site number waiting replied) = not waiting
 goes_on result = false
@@ -68,7 +68,7 @@ abbrev pub is_held : {R : Type 0} → (session slot : ℕ) → WorldView R → B
 is_held session slot w = is_some (line_at session slot w.lives)
 
 -- the slot wants an operation of the kind
-pub record Wants {R : Type 0} (stands : R → Standing) (session slot : ℕ) (kind : OpKind) (w : WorldView R) : Type 0 where
+pub record WantsKind {R : Type 0} (stands : R → Standing) (session slot : ℕ) (kind : OpKind) (w : WorldView R) : Type 0 where
   pub site : SiteId
   pub wants : kind_in stands slot (client_in session w.lives) ≡ Some (site, kind)
 
@@ -84,8 +84,8 @@ module _ {R : Type 0} (stands : R → Standing) (given : (session : ℕ) → Lis
     pub may : to_start (given session) old session ≡ Some command
     pub built : IsBuiltEvent command.submission
     pub result : Outcome
-    pub step : IsStep stands command.submission old result new
-    pub counted : AreCounted new
+    pub step : IsWorldStep stands command.submission old result new
+    pub counted : AreClientsCounted new
 
   -- The command that starts next: no session that was declared before its own has one that may.
   pub record Starts (old new : WorldView R) : Type 0 where
@@ -103,11 +103,11 @@ module _ {R : Type 0} (stands : R → Standing) (given : (session : ℕ) → Lis
   -- may start.
   pub record Comes (e : Event) (result : Outcome) (old new : WorldView R) : Type 0 where
     pub between : WorldView R
-    pub step : IsStep stands e old result between
-    pub counted : AreCounted between
+    pub step : IsWorldStep stands e old result between
+    pub counted : AreClientsCounted between
     pub starts : StartsAll between new
 
-  -- it comes, whatever comes of it
+  -- the event comes, with any outcome
   pub record Happens (e : Event) (old new : WorldView R) : Type 0 where
     pub result : Outcome
     pub comes : Comes e result old new
@@ -117,17 +117,18 @@ module _ {R : Type 0} (stands : R → Standing) (given : (session : ℕ) → Lis
   abbrev pub Polls : (session slot : ℕ) → (old new : WorldView R) → Type 0
   Polls session slot old new = Happens (event.Poll session slot) old new
 
-  -- a poll of a slot that doesn't want it yet
+  -- a poll of a slot that doesn't want an operation of the kind yet
   pub record PollsBefore (session slot : ℕ) (kind : OpKind) (old new : WorldView R) : Type 0 where
-    pub not_yet : ¬ (Wants stands session slot kind old)
+    pub not_yet : ¬ (WantsKind stands session slot kind old)
     pub polls : Polls session slot old new
 
-  -- polls, with a look before each, until the slot wants the kind, or so many were made
+  -- polls of a slot until it wants an operation of the kind, or as many polls as may be made; it is
+  -- looked at before each
   pub record PollsUntil (session slot : ℕ) (kind : OpKind) (old new : WorldView R) : Type 0 where
     pub count : ℕ
     pub most : count ≤ most_polls
     pub polls : Deeds (λ k. PollsBefore session slot kind) count old new
-    pub ends : (count ≡ most_polls) ⊎ Wants stands session slot kind new
+    pub ends : (count ≡ most_polls) ⊎ WantsKind stands session slot kind new
 
   -- ---- rounds
 
@@ -158,10 +159,10 @@ module _ {R : Type 0} (stands : R → Standing) (given : (session : ℕ) → Lis
     -- delivered, in ascending order, and then its slots are polled. Notices are numbered from 1.
     pub record Turn (session : ℕ) (old new : Pace R) : Type 0 where
       pub told : WorldView R
-      pub notices : Deeds (λ k. DeliversWhere (is_due lost session (k + 1) old.world) (k + 1)) (length old.world.sites.mail) old.world told
+      pub notices : Deeds (λ k. DeliversWhere (is_notice_due lost session (k + 1) old.world) (k + 1)) (length old.world.sites.mail) old.world told
       pub polls : PollsAll session (record { world = told; went_on = old.went_on }) new
 
-    -- one that is stopped has none
+    -- the turn of a session that runs; a stopped session has none
     abbrev pub TurnWhere : (runs : Bool) → (session : ℕ) → (old new : Pace R) → Type 0
     TurnWhere true session old new = Turn session old new
     TurnWhere false session old new = new ≡ old
@@ -173,7 +174,7 @@ module _ {R : Type 0} (stands : R → Standing) (given : (session : ℕ) → Lis
     abbrev pub Round : (sessions : ℕ) → (went_on : Bool) → (old new : WorldView R) → Type 0
     Round sessions went_on old new = Deeds TurnOf sessions (record { world = old; went_on = false }) (record { world = new; went_on = went_on })
 
-    -- one more round, as long as no eight were idle in a row
+    -- one more round, unless eight in a row were idle
     pub record RoundsOn (sessions : ℕ) (old new : Calm R) : Type 0 where
       pub few : old.idle < most_idle
       pub went_on : Bool
@@ -190,9 +191,8 @@ module _ {R : Type 0} (stands : R → Standing) (given : (session : ℕ) → Lis
 
     -- ---- lines
 
-    -- What a line does when it is reached. Behind its last event nothing may start any more; so
-    -- only where a line gives a command is there more to be started. A notice that is lost is no
-    -- event.
+    -- What a line does when it is reached. After its last event nothing may start any more, so
+    -- commands start only behind a line that gives one. That a notice is lost is no event.
     abbrev pub Plays : (sessions : ℕ) → Said → (old new : WorldView R) → Type 0
     Plays sessions (said.Command session beside command) old new = StartsAll old new
     Plays sessions (said.Poll session slot times) old new = Deeds (λ k. Polls session slot) times old new

@@ -7,13 +7,13 @@ use Rattle.rbd_world.specs.Step.{is_begun}
 use Rattle.rbd_world.specs.World.{WorldView, client_in, free_in}
 use Rattle.rbd_schedule.specs.declared.given.Given.{Given}
 
--- by the entry the line has its reply, or is lost
+-- whether the entry gives the line its reply, or tells that it is lost
 abbrev pub is_end_of : (line : ℕ) → Entry → Bool
 is_end_of line (entry.Reply other reply) = line == other
 is_end_of line (entry.Lost other) = line == other
 is_end_of line e = false
 
--- the history has its end
+-- whether the history has the end of the line
 abbrev pub is_ended : (line : ℕ) → List Entry → Bool
 is_ended line history = list_any (is_end_of line) history
 
@@ -24,7 +24,7 @@ earliest begun ended before [] = None
 earliest begun ended before (c ∷ given) =
     if not (begun c.line) && (c.beside || before) then Some c else earliest begun ended (before && ended c.line) given
 
--- So it is in a world, where the session runs and has a free slot. `given` are the commands of a
+-- The same in a world, where the session runs and has a free slot. `given` are the commands of a
 -- session so far.
 abbrev pub to_start : {R : Type 0} → (given : List Given) → WorldView R → (session : ℕ) → Option Given
 to_start given w session =
@@ -32,10 +32,10 @@ to_start given w session =
     then earliest (λ line. is_begun line w.history) (λ line. is_ended line w.history) true given
     else None
 
--- none of a session may start
+-- no command of the session may start
 abbrev pub IsIdle : {R : Type 0} → (given : (session : ℕ) → List Given) → WorldView R → (session : ℕ) → Type 0
 IsIdle given w session = to_start (given session) w session ≡ None
 
--- none may start
+-- no command may start
 abbrev pub IsQuiet : {R : Type 0} → (given : (session : ℕ) → List Given) → WorldView R → Type 0
 IsQuiet given w = (session : ℕ) → IsIdle given w session

@@ -1,6 +1,6 @@
 //! A command that a script gives to a session.
 ghost use Rattle.std.specs.Prelude.{◌≡◌, IfOk};
-ghost use Rattle.rbd_schedule.specs.Given.{given_by as told_by, listed};
+ghost use Rattle.rbd_schedule.specs.Given.{given_by as told_by, given_or_none};
 
 use rbd_kinds::{NoMemory, SessionNo, TryClone};
 use rbd_script::{Line, Said};
@@ -19,7 +19,7 @@ pub struct Given {
 
 /// The command that a line gives.
 pub fn given_by(line: &Line) -> Result<Option<Given>, NoMemory>
-    ensures { IfOk result (λ given. listed given ≡ told_by line.now.number line.now.said) }
+    ensures { IfOk result (λ given. given_or_none given ≡ told_by line.now.number line.now.said) }
 {
     match &line.said {
         Said::Command {

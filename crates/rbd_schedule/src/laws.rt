@@ -5,27 +5,27 @@ ghost use Rattle.rbd_client.specs.Seen.{as_is};
 ghost use Rattle.rbd_machine.specs.Plan.{Standing};
 ghost use Rattle.rbd_script.specs.Reading.{reading};
 ghost use Rattle.rbd_script.specs.declared.script.Script.{Script};
-ghost use Rattle.rbd_session.specs.Session.{SessionView, IsSoundSession, held_in};
-ghost use Rattle.rbd_session.specs.declared.running.Occupant.{Occupant};
+ghost use Rattle.rbd_slots.specs.Session.{SessionView, IsSoundSession, held_in};
+ghost use Rattle.rbd_slots.specs.declared.running.Occupant.{Occupant};
 ghost use Rattle.rbd_world.specs.Sound.{IsSoundWorld};
 ghost use Rattle.rbd_world.specs.World.{WorldView};
 ghost use Rattle.rbd_schedule.specs.Ends.{HasCalmed};
 ghost use Rattle.rbd_schedule.specs.Given.{given_in};
 ghost use Rattle.rbd_schedule.specs.Going.{MayGo};
-ghost use Rattle.rbd_schedule.specs.InOrder.{AreDeclared, AreInOrder};
+ghost use Rattle.rbd_schedule.specs.InOrder.{AreDeclared, AreLinesInOrder};
 ghost use Rattle.rbd_schedule.specs.InTurn.{AreInTurn};
 ghost use Rattle.rbd_schedule.specs.Playing.{IsPlay};
 
 /// The numbers of a script's lines begin at 1 or later and ascend, so no two lines have the same;
 /// whom a line names is declared; and there are at most 32 sessions.
 pub fn scripts_are_in_order()
-    ensures lines { (threads : Bool) (bytes : List ℕ) (s : Script) → reading threads bytes ≡ Ok s → AreInOrder s.lines }
+    ensures lines { (threads : Bool) (bytes : List ℕ) (s : Script) → reading threads bytes ≡ Ok s → AreLinesInOrder s.lines }
     ensures declared { (threads : Bool) (bytes : List ℕ) (s : Script) → reading threads bytes ≡ Ok s → AreDeclared (length s.sessions) s.lines }
     ensures sessions { (threads : Bool) (bytes : List ℕ) (s : Script) → reading threads bytes ≡ Ok s → length s.sessions ≤ 32 }
 {}
 
-/// In a session with a request some request may go on: what waits, waits for another of its
-/// session, and who is first in a line never waits.
+/// In a session that has a request some request may go on: a request only waits for another one of
+/// its session, and the first of a line never waits.
 pub fn somebody_goes_on()
     ensures { (s : SessionView Standing) (slot : ℕ) (o : Occupant Standing) → IsSoundSession as_is s → held_in slot s.slots ≡ Some o → MayGo s }
 {}
@@ -56,5 +56,5 @@ pub fn closing_rounds_suffice()
 /// be in order, as those of each script that was read are: a history tells commands by their lines.
 /// Own.
 pub fn commands_take_turns()
-    ensures { (script : Script) (w : WorldView Standing) → AreInOrder script.lines → IsPlay as_is script w → (session : ℕ) → AreInTurn (given_in script.lines session) w.history }
+    ensures { (script : Script) (w : WorldView Standing) → AreLinesInOrder script.lines → IsPlay as_is script w → (session : ℕ) → AreInTurn (given_in script.lines session) w.history }
 {}

@@ -41,10 +41,10 @@
 //! | file | what it says |
 //! |---|---|
 //! | `specs/Given.antt` | the commands that lines give to sessions, and the notices that they lose |
-//! | `specs/Notices.antt` | which notices were delivered (`was_heard`), and which are due to a session (`is_due`) |
+//! | `specs/Notices.antt` | which notices were delivered (`was_heard`), and which are due to a session (`is_notice_due`) |
 //! | `specs/Starts.antt` | which of them may start (`to_start`), and that none may (`IsQuiet`) |
 //! | `specs/Schedule.antt` | the schedule, as a relation on worlds: an event and what starts behind it, polls, turns, rounds, lines, a script (`PlaysScript`) |
-//! | `specs/Slots.antt` | what the slots of a client tell, behind each event (`AreCounted`) |
+//! | `specs/Slots.antt` | what the slots of a client tell, behind each event (`AreClientsCounted`) |
 //! | `specs/Deeds.antt` | deeds, one after another |
 //! | `specs/Playing.antt` | which scripts are played (`IsPlayable`), and what a play is (`IsPlay`); and what the runner keeps |
 //! | `specs/InOrder.antt` | what holds of the lines of each script that was read |

@@ -11,11 +11,11 @@
 //! notices, for each session.
 ghost use Rattle.std.specs.Prelude.{◌≡◌, ℕ, ◌+◌, ◌<◌, ◌≤◌, false, true, length, OnOk};
 ghost use Rattle.rbd_client.specs.Seen.{as_is};
-ghost use Rattle.rbd_watch.specs.Posting.{numbered};
+ghost use Rattle.rbd_watch.specs.Posting.{notice_numbered};
 ghost use Rattle.rbd_world.specs.Seen.{seen};
 ghost use Rattle.rbd_schedule.specs.Deeds.{Deeds};
-ghost use Rattle.rbd_schedule.specs.Notices.{is_due as due_to};
-ghost use Rattle.rbd_schedule.specs.Playing.{GoesOn, KeepsUp, given_to, has_number, is_past as past_by, is_settled as settled_by, lost_in};
+ghost use Rattle.rbd_schedule.specs.Notices.{is_notice_due as due_to};
+ghost use Rattle.rbd_schedule.specs.Playing.{RunnerGoesOn, KeepsUp, given_to, has_number, is_past_life as past_by, is_dealt_with as settled_by, lost_in};
 ghost use Rattle.rbd_schedule.specs.Schedule.{DeliversWhere};
 
 use crate::runner::Runner;
@@ -30,7 +30,7 @@ impl Runner {
     pub fn deliver_due(&mut self, alloc: Global, session: SessionNo) -> Result<(), NoMemory>
         requires { KeepsUp self.old }
         ensures notices { OnOk result (Deeds (λ k. DeliversWhere as_is (given_to self.old) (due_to (lost_in self.old) session (k + 1) (seen self.old.world)) (k + 1)) (length (seen self.old.world).sites.mail) (seen self.old.world) (seen self.new.world)) }
-        ensures goes { OnOk result (GoesOn self.old self.new) }
+        ensures goes { OnOk result (RunnerGoesOn self.old self.new) }
     {
         let first = self.pass(session);
         let all = self.world.notices();
@@ -49,7 +49,7 @@ impl Runner {
     ) -> Result<(), NoMemory>
         requires { KeepsUp self.old }
         ensures delivers { OnOk result (DeliversWhere as_is (given_to self.old) (due_to (lost_in self.old) session number (seen self.old.world)) number (seen self.old.world) (seen self.new.world)) }
-        ensures goes { OnOk result (GoesOn self.old self.new) }
+        ensures goes { OnOk result (RunnerGoesOn self.old self.new) }
     {
         if !self.is_due(session, number) {
             return Ok(());
@@ -83,7 +83,7 @@ impl Runner {
         requires { KeepsUp self.old }
         ensures most { result ≤ length (seen self.old.world).sites.mail }
         ensures none { (k : ℕ) → k < result → due_to (lost_in self.old) session (k + 1) (seen self.old.world) ≡ false }
-        ensures goes { GoesOn self.old self.new }
+        ensures goes { RunnerGoesOn self.old self.new }
         ensures world { seen self.new.world ≡ seen self.old.world }
     {
         let Some(who) = self.world.running(session) else {
@@ -106,7 +106,7 @@ fn passed_on(
     from: u64,
 ) -> u64
     ensures most { result ≤ length (seen world.now).sites.mail }
-    ensures passed { (k : ℕ) → from ≤ k → k < result → settled_by (λ n. has_number n heard.now) (λ n. has_number n lost.now) who.now (k + 1) (numbered (k + 1) (seen world.now).sites.mail) ≡ true }
+    ensures passed { (k : ℕ) → from ≤ k → k < result → settled_by (λ n. has_number n heard.now) (λ n. has_number n lost.now) who.now (k + 1) (notice_numbered (k + 1) (seen world.now).sites.mail) ≡ true }
 {
     let all = world.notices();
     for k in from..all {
@@ -125,7 +125,7 @@ fn is_settled(
     who: &Instance,
     number: u64,
 ) -> bool
-    ensures { result ≡ settled_by (λ n. has_number n heard.now) (λ n. has_number n lost.now) who.now number (numbered number (seen world.now).sites.mail) }
+    ensures { result ≡ settled_by (λ n. has_number n heard.now) (λ n. has_number n lost.now) who.now number (notice_numbered number (seen world.now).sites.mail) }
 {
     let Some(notice) = world.notice(number) else {
         return false;

@@ -13,12 +13,12 @@ ghost use Rattle.std.specs.Prelude.{◌≡◌, ◌<◌, ◌≤◌, ◌∷◌, �
 ghost use Rattle.rbd_world.specs.Seen.{seen};
 ghost use Rattle.rbd_schedule.specs.declared.given.Given.{Given as Commanded};
 ghost use Rattle.rbd_world.specs.Step.{is_begun};
-ghost use Rattle.rbd_schedule.specs.Playing.{IsQueue, at_place, is_beside, is_over as over, has_line};
+ghost use Rattle.rbd_schedule.specs.Playing.{IsQueue, at_place, may_start_beside, is_over as over, has_line};
 ghost use Rattle.rbd_schedule.specs.Starts.{earliest as earliest_of};
 
 use crate::given::Given;
 use rbd_kinds::NoMemory;
-use rbd_lines::LineMap;
+use rbd_line_table::LineMap;
 use rbd_machine::Machine;
 use rbd_world::World;
 use std::alloc::Global;
@@ -106,10 +106,10 @@ fn is_over(given: &Given, world: &World, ended: &LineMap<()>) -> bool
 /// the end where there is none.
 fn first_beside(commands: &[Given], from: usize, world: &World) -> usize
     requires from { from ≤ length commands.now }
-    requires begun { All (λ c. is_beside (λ line. is_begun line (seen world.now).history) c ≡ false) (take from commands.now) }
+    requires begun { All (λ c. may_start_beside (λ line. is_begun line (seen world.now).history) c ≡ false) (take from commands.now) }
     ensures end { result ≤ length commands.now }
-    ensures begun { All (λ c. is_beside (λ line. is_begun line (seen world.now).history) c ≡ false) (take result commands.now) }
-    ensures beside { (c : Commanded) → slice_get commands.now result ≡ Some c → is_beside (λ line. is_begun line (seen world.now).history) c ≡ true }
+    ensures begun { All (λ c. may_start_beside (λ line. is_begun line (seen world.now).history) c ≡ false) (take result commands.now) }
+    ensures beside { (c : Commanded) → slice_get commands.now result ≡ Some c → may_start_beside (λ line. is_begun line (seen world.now).history) c ≡ true }
 {
     for place in from..commands.len() {
         if may_start_beside(&commands[place], world) {
@@ -121,7 +121,7 @@ fn first_beside(commands: &[Given], from: usize, world: &World) -> usize
 
 /// Whether a command stands beside the others and wasn't begun.
 fn may_start_beside(given: &Given, world: &World) -> bool
-    ensures { result ≡ is_beside (λ line. is_begun line (seen world.now).history) given.now }
+    ensures { result ≡ may_start_beside (λ line. is_begun line (seen world.now).history) given.now }
 {
     given.beside && !world.has_begun(given.line)
 }

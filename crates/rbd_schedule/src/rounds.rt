@@ -5,11 +5,11 @@
 //! round     turn of session 0, turn of session 1, ..
 //! turn      of a session that runs: its notices, slot 0, and then each slot that is held at this point
 //! ```
-ghost use Rattle.std.specs.Prelude.{◌≡◌, ℕ, ◌+◌, ◌<◌, ◌≤◌, if◌then◌else◌, length, slice_get, Some, IfOk, OnOk};
+ghost use Rattle.std.specs.Prelude.{◌≡◌, ℕ, ◌+◌, ◌<◌, ◌≤◌, ◌||◌, if◌then◌else◌, length, slice_get, Some, IfOk, OnOk};
 ghost use Rattle.rbd_client.specs.Seen.{as_is};
 ghost use Rattle.rbd_world.specs.Seen.{seen};
-ghost use Rattle.rbd_schedule.specs.Playing.{GoesOn, KeepsUp, given_to, lost_in};
-ghost use Rattle.rbd_schedule.specs.Schedule.{PollsAll, PollsIn, PollsWhere, Round, Settles, Turn, TurnOf, goes_on as goes_on_by, is_held};
+ghost use Rattle.rbd_schedule.specs.Playing.{RunnerGoesOn, KeepsUp, given_to, lost_in};
+ghost use Rattle.rbd_schedule.specs.Schedule.{PollsAll, Round, Settles, Turn, TurnOf, goes_on as goes_on_by, is_held};
 
 use crate::runner::Runner;
 use rbd_kinds::{NoMemory, SessionNo, Slot};
@@ -25,7 +25,7 @@ impl Runner {
     pub fn settle(&mut self, alloc: Global, rounds: u128) -> Result<(), NoMemory>
         requires { KeepsUp self.old }
         ensures settles { OnOk result (Settles as_is (given_to self.old) (lost_in self.old) (length self.old.queues.items) rounds (seen self.old.world) (seen self.new.world)) }
-        ensures goes { OnOk result (GoesOn self.old self.new) }
+        ensures goes { OnOk result (RunnerGoesOn self.old self.new) }
     {
         let mut left = rounds;
         let mut idle = 0;
@@ -41,7 +41,7 @@ impl Runner {
     fn round(&mut self, alloc: Global) -> Result<bool, NoMemory>
         requires { KeepsUp self.old }
         ensures round { IfOk result (λ went_on. Round as_is (given_to self.old) (lost_in self.old) (length self.old.queues.items) went_on (seen self.old.world) (seen self.new.world)) }
-        ensures goes { OnOk result (GoesOn self.old self.new) }
+        ensures goes { OnOk result (RunnerGoesOn self.old self.new) }
     {
         let mut went_on = false;
         for session in 0..self.sessions() {
@@ -59,7 +59,7 @@ impl Runner {
     ) -> Result<bool, NoMemory>
         requires { KeepsUp self.old }
         ensures turn { IfOk result (λ went_on'. TurnOf as_is (given_to self.old) (lost_in self.old) session (record { world = seen self.old.world; went_on = went_on }) (record { world = seen self.new.world; went_on = went_on' })) }
-        ensures goes { OnOk result (GoesOn self.old self.new) }
+        ensures goes { OnOk result (RunnerGoesOn self.old self.new) }
     {
         if !self.world.runs(session) {
             return Ok(went_on);
@@ -72,7 +72,7 @@ impl Runner {
     fn turn(&mut self, alloc: Global, session: SessionNo, went_on: bool) -> Result<bool, NoMemory>
         requires { KeepsUp self.old }
         ensures turn { IfOk result (λ went_on'. Turn as_is (given_to self.old) (lost_in self.old) session (record { world = seen self.old.world; went_on = went_on }) (record { world = seen self.new.world; went_on = went_on' })) }
-        ensures goes { OnOk result (GoesOn self.old self.new) }
+        ensures goes { OnOk result (RunnerGoesOn self.old self.new) }
     {
         self.deliver_due(alloc, session)?;
         self.polls(alloc, session, went_on)
@@ -82,50 +82,19 @@ impl Runner {
     fn polls(&mut self, alloc: Global, session: SessionNo, went_on: bool) -> Result<bool, NoMemory>
         requires { KeepsUp self.old }
         ensures polls { IfOk result (λ went_on'. PollsAll as_is (given_to self.old) session (record { world = seen self.old.world; went_on = went_on }) (record { world = seen self.new.world; went_on = went_on' })) }
-        ensures goes { OnOk result (GoesOn self.old self.new) }
+        ensures goes { OnOk result (RunnerGoesOn self.old self.new) }
     {
-        let mut went_on = self.poll_in(alloc, session, Slot(0), went_on)?;
+        let outcome = self.poll(alloc, session, Slot(0))?;
+        let mut went_on = went_on_by(went_on, outcome);
         let held = self.held(session);
         for k in 0..self.highest() as usize {
-            went_on = self.poll_held(alloc, session, Slot(k as u8 + 1), held[k], went_on)?;
+            if !held[k] {
+                continue;
+            }
+            let outcome = self.poll(alloc, session, Slot(k as u8 + 1))?;
+            went_on = went_on_by(went_on, outcome);
         }
         Ok(went_on)
-    }
-
-    /// A poll in a round where the slot is held: whether a request went on in the round so far.
-    fn poll_held(
-        &mut self,
-        alloc: Global,
-        session: SessionNo,
-        slot: Slot,
-        held: bool,
-        went_on: bool,
-    ) -> Result<bool, NoMemory>
-        requires { KeepsUp self.old }
-        ensures polls { IfOk result (λ went_on'. PollsWhere as_is (given_to self.old) held session slot (record { world = seen self.old.world; went_on = went_on }) (record { world = seen self.new.world; went_on = went_on' })) }
-        ensures goes { OnOk result (GoesOn self.old self.new) }
-    {
-        if held {
-            self.poll_in(alloc, session, slot, went_on)
-        } else {
-            Ok(went_on)
-        }
-    }
-
-    /// A poll in a round: whether a request went on in the round so far.
-    fn poll_in(
-        &mut self,
-        alloc: Global,
-        session: SessionNo,
-        slot: Slot,
-        went_on: bool,
-    ) -> Result<bool, NoMemory>
-        requires { KeepsUp self.old }
-        ensures polls { IfOk result (λ went_on'. PollsIn as_is (given_to self.old) session slot (record { world = seen self.old.world; went_on = went_on }) (record { world = seen self.new.world; went_on = went_on' })) }
-        ensures goes { OnOk result (GoesOn self.old self.new) }
-    {
-        let outcome = self.poll(alloc, session, slot)?;
-        Ok(went_on || goes_on(outcome))
     }
 
     /// Which slots of a session are held: those from 1 on.
@@ -148,6 +117,13 @@ fn idle_after(went_on: bool, idle: u8) -> u8
     ensures few { result ≤ 8 }
 {
     if went_on { 0 } else { idle + 1 }
+}
+
+/// Whether a request went on in a round so far, behind one more poll.
+fn went_on_by(so_far: bool, outcome: Outcome) -> bool
+    ensures { result ≡ (so_far || goes_on_by outcome) }
+{
+    so_far || goes_on(outcome)
 }
 
 /// Whether a request went on: a step, and none that only asks again for a lock.

@@ -6,20 +6,20 @@
 ghost use Rattle.std.specs.Prelude.{◌≡◌, ℕ, ◌<◌, ◌≤◌, ◌&&◌, ◌||◌, ◌++◌, [], true, false, drop, length, All, slice_get, IfOk, IfSome, OnOk};
 ghost use Rattle.rbd_client.specs.Seen.{as_is};
 ghost use Rattle.rbd_world.specs.Sound.{AreAtHome, IsNewWorld, IsSoundWorld};
-ghost use Rattle.rbd_world.specs.Step.{IsBuiltEvent, IsStep};
+ghost use Rattle.rbd_world.specs.Step.{IsBuiltEvent, IsWorldStep};
 ghost use Rattle.rbd_world.specs.declared.event.Event.TheVariants as of_event;
 ghost use Rattle.rbd_world.specs.Seen.{seen};
-ghost use Rattle.rbd_schedule.specs.Given.{given_by as told_by_line, loses, of_session};
+ghost use Rattle.rbd_schedule.specs.Given.{given_by as told_by_line, loses_notice, of_session};
 ghost use Rattle.rbd_schedule.specs.Notices.{is_heard as heard_by};
 ghost use Rattle.rbd_schedule.specs.Starts.{is_ended, to_start};
-ghost use Rattle.rbd_schedule.specs.Playing.{at_place, count_of, GoesOn, IsEmptyQueue, IsNoStart, IsPlayed, KeepsUp, StartsIf, StartsWhere, ended_by as end_of, given_to, has_line, has_number, highest_after, homes_of, is_one_of, lets_start as may_start_by, lost_in, told_by};
+ghost use Rattle.rbd_schedule.specs.Playing.{at_place, count_of, RunnerGoesOn, IsEmptyQueue, IsNoStart, IsPlayedLine, KeepsUp, StartsIf, StartsWhere, line_ended_by as end_of, given_to, has_line, has_number, highest_after, homes_of, is_one_of, lets_start as may_start_by, lost_in, delivered_by};
 ghost use Rattle.rbd_schedule.specs.Schedule.{Comes, Happens, StartsAll};
 
 use crate::given::given_by;
 use crate::queue::Queue;
 use rbd_flat::Entry;
 use rbd_kinds::{ImageId, NoMemory, Number, SessionNo, SiteId, Slot};
-use rbd_lines::LineMap;
+use rbd_line_table::LineMap;
 use rbd_machine::Machine;
 use rbd_script::{Declared, Line, Said};
 use rbd_world::{Event, Outcome, World};
@@ -104,9 +104,9 @@ impl Runner {
     /// A line is reached: the command that it gives, where it gives one, waits behind the others of
     /// its session, and the notice that it loses is one of those.
     pub fn give(&mut self, line: &Line) -> Result<(), NoMemory>
-        ensures keeps { OnOk result (IsPlayed line.now.said → KeepsUp self.old → KeepsUp self.new) }
+        ensures keeps { OnOk result (IsPlayedLine line.now.said → KeepsUp self.old → KeepsUp self.new) }
         ensures given { OnOk result ((session : ℕ) → session < length self.old.queues.items → given_to self.new session ≡ given_to self.old session ++ of_session session (told_by_line line.now.number line.now.said)) }
-        ensures lost { OnOk result ((number : ℕ) → lost_in self.new number ≡ (lost_in self.old number || loses number line.now.said)) }
+        ensures lost { OnOk result ((number : ℕ) → lost_in self.new number ≡ (lost_in self.old number || loses_notice number line.now.said)) }
         ensures queues { OnOk result (length self.new.queues.items ≡ length self.old.queues.items) }
         ensures world { OnOk result (seen self.new.world ≡ seen self.old.world) }
     {
@@ -116,7 +116,7 @@ impl Runner {
 
     /// The notice that a line loses, where it loses one, is one of those that no settle delivers.
     fn lose_by(&mut self, said: &Said) -> Result<(), NoMemory>
-        ensures lost { OnOk result ((number : ℕ) → lost_in self.new number ≡ (lost_in self.old number || loses number said.now)) }
+        ensures lost { OnOk result ((number : ℕ) → lost_in self.new number ≡ (lost_in self.old number || loses_notice number said.now)) }
         ensures rest { self.new ≡ record self.old { lost = self.new.lost } }
     {
         if let Said::Lose(number) = said {
@@ -127,7 +127,7 @@ impl Runner {
 
     /// The command of a line, where it gives one, waits behind the others of its session.
     fn queue(&mut self, line: &Line) -> Result<(), NoMemory>
-        ensures keeps { OnOk result (IsPlayed line.now.said → KeepsUp self.old → KeepsUp self.new) }
+        ensures keeps { OnOk result (IsPlayedLine line.now.said → KeepsUp self.old → KeepsUp self.new) }
         ensures given { OnOk result ((session : ℕ) → session < length self.old.queues.items → given_to self.new session ≡ given_to self.old session ++ of_session session (told_by_line line.now.number line.now.said)) }
         ensures lost { lost_in self.new ≡ lost_in self.old }
         ensures queues { OnOk result (length self.new.queues.items ≡ length self.old.queues.items) }
@@ -155,10 +155,10 @@ impl Runner {
     ) -> Result<Outcome, NoMemory>
         requires { KeepsUp self.old }
         ensures comes { IfOk result (λ outcome. Comes as_is (given_to self.old) (of_event.Poll session slot) outcome (seen self.old.world) (seen self.new.world)) }
-        ensures goes { OnOk result (GoesOn self.old self.new) }
+        ensures goes { OnOk result (RunnerGoesOn self.old self.new) }
     {
         let from = self.world.history().len();
-        let outcome = self.poll_alone(alloc, session, slot)?;
+        let outcome = self.world.poll(alloc, session, slot)?;
         self.note(from, None, &outcome)?;
         self.start_all(alloc)?;
         Ok(outcome)
@@ -169,7 +169,7 @@ impl Runner {
         requires keeps { KeepsUp self.old }
         requires none { IsNoStart event }
         ensures happens { OnOk result (Happens as_is (given_to self.old) event (seen self.old.world) (seen self.new.world)) }
-        ensures goes { OnOk result (GoesOn self.old self.new) }
+        ensures goes { OnOk result (RunnerGoesOn self.old self.new) }
     {
         let from = self.world.history().len();
         let told = notice_of(&event);
@@ -188,7 +188,7 @@ impl Runner {
     ) -> Result<(), NoMemory>
         requires { KeepsUp self.old }
         ensures happens { OnOk result (Happens as_is (given_to self.old) (of_event.Expire session site image) (seen self.old.world) (seen self.new.world)) }
-        ensures goes { OnOk result (GoesOn self.old self.new) }
+        ensures goes { OnOk result (RunnerGoesOn self.old self.new) }
     {
         let event = Event::Expire {
             session,
@@ -202,7 +202,7 @@ impl Runner {
     pub fn late(&mut self, alloc: Global, session: SessionNo, slot: Slot) -> Result<(), NoMemory>
         requires { KeepsUp self.old }
         ensures happens { OnOk result (Happens as_is (given_to self.old) (of_event.Late session slot) (seen self.old.world) (seen self.new.world)) }
-        ensures goes { OnOk result (GoesOn self.old self.new) }
+        ensures goes { OnOk result (RunnerGoesOn self.old self.new) }
     {
         self.happen(alloc, Event::Late { session, slot })
     }
@@ -217,7 +217,7 @@ impl Runner {
     ) -> Result<(), NoMemory>
         requires { KeepsUp self.old }
         ensures happens { OnOk result (Happens as_is (given_to self.old) (of_event.Trim site image object) (seen self.old.world) (seen self.new.world)) }
-        ensures goes { OnOk result (GoesOn self.old self.new) }
+        ensures goes { OnOk result (RunnerGoesOn self.old self.new) }
     {
         let event = Event::Trim {
             site,
@@ -227,24 +227,10 @@ impl Runner {
         self.happen(alloc, event)
     }
 
-    /// A poll, and nothing else.
-    fn poll_alone(
-        &mut self,
-        alloc: Global,
-        session: SessionNo,
-        slot: Slot,
-    ) -> Result<Outcome, NoMemory>
-        ensures step { IfOk result (λ outcome. IsStep as_is (of_event.Poll session slot) (seen self.old.world) outcome (seen self.new.world)) }
-        ensures sound { IsSoundWorld as_is (seen self.new.world) }
-        ensures rest { self.new ≡ record self.old { world = self.new.world } }
-    {
-        self.world.poll(alloc, session, slot)
-    }
-
     /// One event, and nothing else.
     fn step(&mut self, alloc: Global, event: Event) -> Result<Outcome, NoMemory>
         requires { IsBuiltEvent event }
-        ensures step { IfOk result (λ outcome. IsStep as_is event (seen self.old.world) outcome (seen self.new.world)) }
+        ensures step { IfOk result (λ outcome. IsWorldStep as_is event (seen self.old.world) outcome (seen self.new.world)) }
         ensures sound { IsSoundWorld as_is (seen self.new.world) }
         ensures rest { self.new ≡ record self.old { world = self.new.world } }
     {
@@ -273,7 +259,7 @@ impl Runner {
     pub fn start_all(&mut self, alloc: Global) -> Result<(), NoMemory>
         requires { KeepsUp self.old }
         ensures starts { OnOk result (StartsAll as_is (given_to self.old) (seen self.old.world) (seen self.new.world)) }
-        ensures goes { OnOk result (GoesOn self.old self.new) }
+        ensures goes { OnOk result (RunnerGoesOn self.old self.new) }
     {
         if !self.is_due {
             return Ok(());
@@ -287,7 +273,7 @@ impl Runner {
     fn start_next(&mut self, alloc: Global) -> Result<bool, NoMemory>
         requires { KeepsUp self.old }
         ensures starts { IfOk result (λ started. StartsWhere as_is (given_to self.old) started (seen self.old.world) (seen self.new.world)) }
-        ensures goes { OnOk result (GoesOn self.old self.new) }
+        ensures goes { OnOk result (RunnerGoesOn self.old self.new) }
     {
         for session in 0..self.queues.len() {
             if self.start_of(alloc, SessionNo(session as u8))? {
@@ -302,7 +288,7 @@ impl Runner {
     fn start_of(&mut self, alloc: Global, session: SessionNo) -> Result<bool, NoMemory>
         requires { KeepsUp self.old }
         ensures starts { IfOk result (λ started. StartsIf as_is (given_to self.old) session started (seen self.old.world) (seen self.new.world)) }
-        ensures goes { OnOk result (GoesOn self.old self.new) }
+        ensures goes { OnOk result (RunnerGoesOn self.old self.new) }
     {
         match self.place_of(session) {
             Some(place) => self.start_at(alloc, session, place),
@@ -315,7 +301,7 @@ impl Runner {
         requires { KeepsUp self.old }
         ensures place { at_place (given_to self.old session) result ≡ to_start (given_to self.old session) (seen self.old.world) session }
         ensures within { IfSome result (λ place. place < length (given_to self.old session)) }
-        ensures goes { GoesOn self.old self.new }
+        ensures goes { RunnerGoesOn self.old self.new }
         ensures world { seen self.new.world ≡ seen self.old.world }
     {
         self.world.free(session)?;
@@ -335,7 +321,7 @@ impl Runner {
         requires may { to_start (given_to self.old session) (seen self.old.world) session ≡ slice_get (given_to self.old session) place }
         ensures starts { IfOk result (λ started. StartsIf as_is (given_to self.old) session started (seen self.old.world) (seen self.new.world)) }
         ensures started { IfOk result (λ started. started ≡ true) }
-        ensures goes { OnOk result (GoesOn self.old self.new) }
+        ensures goes { OnOk result (RunnerGoesOn self.old self.new) }
     {
         let command = &self.queues[session.0 as usize].commands[place];
         let outcome = self.world.step(alloc, &command.submission)?;
@@ -421,7 +407,7 @@ fn is_heard(outcome: &Outcome) -> bool
 
 /// The notice that an event delivers, where it delivers one.
 fn notice_of(event: &Event) -> Option<u64>
-    ensures { result ≡ told_by event.now }
+    ensures { result ≡ delivered_by event.now }
 {
     match event {
         Event::Deliver { number } => Some(*number),

@@ -6,8 +6,8 @@ ghost use Rattle.rbd_world.specs.Seen.{seen};
 ghost use Rattle.rbd_schedule.specs.Deeds.{Deeds};
 ghost use Rattle.rbd_schedule.specs.Ends.{HasCalmed};
 ghost use Rattle.rbd_schedule.specs.Given.{commands_of, given_by};
-ghost use Rattle.rbd_schedule.specs.Playing.{GoesOn, IsPlay, IsPlayable, KeepsUp, given_to, lost_in};
-ghost use Rattle.rbd_schedule.specs.Schedule.{IsOneEvent, IsOneEventAt, Plays, PlaysScript, Polls, PollsUntil, Wants, closing_rounds as rounds_for};
+ghost use Rattle.rbd_schedule.specs.Playing.{RunnerGoesOn, IsPlay, IsPlayable, KeepsUp, given_to, lost_in};
+ghost use Rattle.rbd_schedule.specs.Schedule.{IsOneEvent, IsOneEventAt, Plays, PlaysScript, Polls, PollsUntil, WantsKind, closing_rounds as rounds_for};
 
 use crate::runner::Runner;
 use rbd_kinds::{NoMemory, OpKind, SessionNo, Slot};
@@ -74,7 +74,7 @@ impl Runner {
     fn play_line(&mut self, alloc: Global, said: &Said) -> Result<(), NoMemory>
         requires { KeepsUp self.old }
         ensures plays { OnOk result (Plays as_is (given_to self.old) (lost_in self.old) (length self.old.queues.items) said.now (seen self.old.world) (seen self.new.world)) }
-        ensures goes { OnOk result (GoesOn self.old self.new) }
+        ensures goes { OnOk result (RunnerGoesOn self.old self.new) }
     {
         match said {
             Said::Command {
@@ -103,7 +103,7 @@ impl Runner {
         requires keeps { KeepsUp self.old }
         requires one { IsOneEvent said.now }
         ensures plays { OnOk result (Plays as_is (given_to self.old) (lost_in self.old) (length self.old.queues.items) said.now (seen self.old.world) (seen self.new.world)) }
-        ensures goes { OnOk result (GoesOn self.old self.new) }
+        ensures goes { OnOk result (RunnerGoesOn self.old self.new) }
     {
         match said {
             Said::Deliver(number) => self.happen(
@@ -123,7 +123,7 @@ impl Runner {
         requires keeps { KeepsUp self.old }
         requires one { IsOneEventAt said.now }
         ensures plays { OnOk result (Plays as_is (given_to self.old) (lost_in self.old) (length self.old.queues.items) said.now (seen self.old.world) (seen self.new.world)) }
-        ensures goes { OnOk result (GoesOn self.old self.new) }
+        ensures goes { OnOk result (RunnerGoesOn self.old self.new) }
     {
         match said {
             Said::Expire {
@@ -151,7 +151,7 @@ impl Runner {
     ) -> Result<(), NoMemory>
         requires { KeepsUp self.old }
         ensures polls { OnOk result (Deeds (λ k. Polls as_is (given_to self.old) session slot) times (seen self.old.world) (seen self.new.world)) }
-        ensures goes { OnOk result (GoesOn self.old self.new) }
+        ensures goes { OnOk result (RunnerGoesOn self.old self.new) }
     {
         for _ in 0..times {
             self.poll(alloc, session, slot)?;
@@ -169,7 +169,7 @@ impl Runner {
     ) -> Result<(), NoMemory>
         requires { KeepsUp self.old }
         ensures polls { OnOk result (PollsUntil as_is (given_to self.old) session slot kind (seen self.old.world) (seen self.new.world)) }
-        ensures goes { OnOk result (GoesOn self.old self.new) }
+        ensures goes { OnOk result (RunnerGoesOn self.old self.new) }
     {
         for _ in 0..MOST_POLLS {
             if self.wants(session, slot, kind) {
@@ -182,7 +182,7 @@ impl Runner {
 
     /// Whether a slot wants an operation of the kind.
     fn wants(&self, session: SessionNo, slot: Slot, kind: OpKind) -> bool
-        ensures { IsTrue result ↔ Wants as_is session slot kind (seen self.now.world) }
+        ensures { IsTrue result ↔ WantsKind as_is session slot kind (seen self.now.world) }
     {
         match self.world.kind(session, slot) {
             Some((_, wanted)) => wanted == kind,

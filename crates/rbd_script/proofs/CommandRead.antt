@@ -13,7 +13,7 @@ use Rattle.rbd_script.specs.declared.snap.OfSnap.TheVariants as of_snap
 use Rattle.rbd_script.specs.declared.mirror.MirrorVerb.{MirrorVerb}
 use Rattle.rbd_script.specs.declared.mirror.MirrorVerb.TheVariants as mirror
 use Rattle.rbd_script.specs.declared.mirror.OfMirrored.TheVariants as of_mirror
-use Rattle.rbd_script.specs.Command.{command_form, command_of, mirror_form, shape, shape_parts, snap_form}
+use Rattle.rbd_script.specs.Command.{command_form, command_of_tokens, mirror_form, shape, shape_parts, snap_form}
 use Rattle.rbd_script.specs.Form.{form}
 use Rattle.rbd_script.specs.Number.{greatest, number_between}
 use Rattle.rbd_script.specs.Part.{part_of}
@@ -52,8 +52,8 @@ verb_first (verb.Image image.Quiesce) = refl
 verb_first (verb.Image image.Resume) = refl
 verb_first (verb.Image image.Close) = refl
 
-command_with : (v : Verb) (ts : Tokens) → command_of (verb_word v ∷ ts) ≡ command_form v ts
-unfolding command_of part_of
+command_with : (v : Verb) (ts : Tokens) → command_of_tokens (verb_word v ∷ ts) ≡ command_form v ts
+unfolding command_of_tokens part_of
 command_with v ts = rw (verb_first v) refl
 
 snap_first : (v : SnapVerb) → snap_verb_of (snap_word v) ≡ Ok v
@@ -65,7 +65,7 @@ snap_first (snap.Of of_snap.Unprotect) = refl
 snap_first (snap.Of of_snap.Rollback) = refl
 snap_first snap.List = refl
 
-snap_with : (v : SnapVerb) (ts : Tokens) → command_of (codes "snap" ∷ snap_word v ∷ ts) ≡ snap_form v ts
+snap_with : (v : SnapVerb) (ts : Tokens) → command_of_tokens (codes "snap" ∷ snap_word v ∷ ts) ≡ snap_form v ts
 unfolding part_of
 snap_with v ts = command_with verb.Snap (snap_word v ∷ ts) ∙ rw (snap_first v) refl
 
@@ -78,7 +78,7 @@ mirror_first (mirror.Of of_mirror.Status) = refl
 mirror_first (mirror.Of of_mirror.Follow) = refl
 mirror_first mirror.Promote = refl
 
-mirror_with : (v : MirrorVerb) (ts : Tokens) → command_of (codes "mirror" ∷ mirror_word v ∷ ts) ≡ mirror_form v ts
+mirror_with : (v : MirrorVerb) (ts : Tokens) → command_of_tokens (codes "mirror" ∷ mirror_word v ∷ ts) ≡ mirror_form v ts
 unfolding part_of
 mirror_with v ts = command_with verb.Mirror (mirror_word v ∷ ts) ∙ rw (mirror_first v) refl
 
@@ -116,7 +116,7 @@ shape_read said None None (Some n) j is = unit_read (said None) None (Some n) j 
 shape_read said None (Some n) c j is = unit_read (said None) (Some n) c j is.unit is.count
 shape_read said (Some n) u c j is = rw (number_in greatest n big is.object) (unit_read (said (Some n)) u c j is.unit is.count)
 
-pub spelled_is_read : (c : Command) → IsInRange c → command_of (spelling c) ≡ Ok c
+pub spelled_is_read : (c : Command) → IsInRange c → command_of_tokens (spelling c) ≡ Ok c
 unfolding form part_of
 spelled_is_read (command.Create i size s) is =
     command_with verb.Create (i ∷ decimal size ∷ shape_tokens s)

@@ -16,7 +16,7 @@ use Rattle.rbd_script.specs.declared.snap.OfSnap.TheVariants as of_snap
 use Rattle.rbd_script.specs.declared.mirror.MirrorVerb.{MirrorVerb}
 use Rattle.rbd_script.specs.declared.mirror.MirrorVerb.TheVariants as mirror
 use Rattle.rbd_script.specs.declared.mirror.OfMirrored.TheVariants as of_mirror
-use Rattle.rbd_script.specs.Command.{command_form, command_of, image_command, mirror_command, mirror_form, shape, shape_parts, snap_command, snap_form}
+use Rattle.rbd_script.specs.Command.{command_form, command_of_tokens, image_command, mirror_command, mirror_form, shape, shape_parts, snap_command, snap_form}
 use Rattle.rbd_script.specs.Form.{and_then}
 use Rattle.rbd_script.specs.Number.{greatest}
 use Rattle.rbd_script.specs.Part.{part_of, place}
@@ -303,8 +303,8 @@ command_form_said verb.Mirror ts c is =
     subst (λ (x : Tokens). Spells (codes "mirror" ∷ x) c) (sym w.2) (mirror_form_said w.0 w.1 c w.3)
 
 -- what is read as a command spells it
-pub command_said : (ts : Tokens) (c : Command) → command_of ts ≡ Ok c → Spells ts c
-unfolding command_of part_of
+pub command_said : (ts : Tokens) (c : Command) → command_of_tokens ts ≡ Ok c → Spells ts c
+unfolding command_of_tokens part_of
 command_said ts c is =
     let w = word_ok verb_of verb_word command_form ts c verb_said is in
     subst (λ (x : Tokens). Spells x c) (sym w.2) (command_form_said w.0 w.1 c w.3)

@@ -7,7 +7,7 @@ use Rattle.std.proofs.lemmas.Bool.Decides.{nat_tests}
 use Rattle.hex.specs.Hex.{encode_lower, encode_with, lower_digits, decode_of, IsBytes}
 use Rattle.hex.proofs.HexLemmas.{length-encode_with, decode_of-encode_lower, decode_of-ok}
 use Rattle.rbd_script.specs.declared.fault.LineCause.TheVariants.{BadNumber}
-use Rattle.rbd_script.specs.Hex.{are_pairs, byte_of, bytes_of, bytes_of_pairs, hex_digit, is_hex_digit, pair}
+use Rattle.rbd_script.specs.Hex.{are_pairs, byte_of_digits, bytes_of_digits, bytes_of_pairs, hex_digit, is_hex_digit, pair}
 use Rattle.rbd_script.specs.Spelling.{IsHex}
 use Rattle.rbd_script.proofs.HexPairs.{even_of_pairs, pairs_decoded, same_value}
 use Rattle.rbd_script.proofs.TokenSpelling.{if_ok}
@@ -93,8 +93,8 @@ even_length bytes = let long = length-encode_with lower_digits bytes in omega (a
 pairs_told : (bytes : List ℕ) → IsBytes bytes → are_pairs (encode_lower bytes) ≡ true
 pairs_told bytes each = rw (all_digits bytes each, even_length bytes) refl
 
-pub hex_read : (bytes : List ℕ) → IsHex bytes → bytes_of (encode_lower bytes) ≡ Ok bytes
-unfolding bytes_of
+pub hex_read : (bytes : List ℕ) → IsHex bytes → bytes_of_digits (encode_lower bytes) ≡ Ok bytes
+unfolding bytes_of_digits
 hex_read bytes is =
     let t = encode_lower bytes in
     let long : length t ≡ 2 * length bytes = length-encode_with lower_digits bytes in
@@ -120,8 +120,8 @@ spelled_again (high ∷ low ∷ digits) all even =
     rw (high_half (hex_digit high) (hex_digit low) small, low_half (hex_digit high) (hex_digit low) small, digit_back high first.0, digit_back low second.0)
     (ap (λ x. high ∷ low ∷ x) (spelled_again digits second.1 (omega arith)))
 
-pub hex_said : (t bytes : List ℕ) → bytes_of t ≡ Ok bytes → (t ≡ encode_lower bytes) × IsHex bytes
-unfolding bytes_of
+pub hex_said : (t bytes : List ℕ) → bytes_of_digits t ≡ Ok bytes → (t ≡ encode_lower bytes) × IsHex bytes
+unfolding bytes_of_digits
 hex_said t bytes is =
     let told = if_ok (nat_le (length t) 131072 && nat_le 2 (length t) && are_pairs t) (bytes_of_pairs t) bytes BadNumber is in
     let outer = and_parts (nat_le (length t) 131072 && nat_le 2 (length t)) (are_pairs t) told.0 in
@@ -136,14 +136,14 @@ hex_said t bytes is =
     )
 
 -- one byte
-pub byte_read : (byte : ℕ) → byte < 256 → byte_of (encode_lower (byte ∷ [])) ≡ Ok byte
-unfolding byte_of encode_with
+pub byte_read : (byte : ℕ) → byte < 256 → byte_of_digits (encode_lower (byte ∷ [])) ≡ Ok byte
+unfolding byte_of_digits encode_with
 byte_read byte small =
     let whole : byte / 16 * 16 + byte % 16 ≡ byte = omega arith in
     rw (digit_told (byte / 16) (omega arith), digit_told (byte % 16) (omega arith), digit_value (byte / 16) (omega arith), digit_value (byte % 16) (omega arith), whole) refl
 
-pub byte_said : (t : List ℕ) (byte : ℕ) → byte_of t ≡ Ok byte → (t ≡ encode_lower (byte ∷ [])) × (byte < 256)
-unfolding byte_of encode_with
+pub byte_said : (t : List ℕ) (byte : ℕ) → byte_of_digits t ≡ Ok byte → (t ≡ encode_lower (byte ∷ [])) × (byte < 256)
+unfolding byte_of_digits encode_with
 byte_said [] byte is = cc
 byte_said (high ∷ []) byte is = cc
 byte_said (high ∷ low ∷ []) byte is =

@@ -15,22 +15,22 @@ use Rattle.rbd_script.specs.declared.fault.ScriptFault.{ScriptFault}
 use Rattle.rbd_script.specs.declared.fault.ScriptFault.TheVariants.{Line, NoMemory}
 use Rattle.rbd_script.specs.Fault.{AtLine, LeavesAt}
 use Rattle.rbd_script.specs.Reading.{limit, lines_before, no_script, reading, too_long, with_lines}
-use Rattle.rbd_script.specs.Token.{lines_of, without_last}
+use Rattle.rbd_script.specs.Token.{text_lines, without_last}
 
 -- there is always a line
 onto_some : (b : ℕ) (parts : List (List ℕ)) → (first : List ℕ) × (more : List (List ℕ)) × (onto_first b parts ≡ first ∷ more)
 onto_some b [] = (b ∷ [], [], refl)
 onto_some b (p ∷ parts) = (b ∷ p, parts, refl)
 
-some_line : (text : List ℕ) → (first : List ℕ) × (more : List (List ℕ)) × (lines_of text ≡ first ∷ more)
+some_line : (text : List ℕ) → (first : List ℕ) × (more : List (List ℕ)) × (text_lines text ≡ first ∷ more)
 some_line [] = ([], [], refl)
 some_line (b ∷ text) = go (eqb b 10) refl
   where
-    go : (t : Bool) → eqb b 10 ≡ t → (first : List ℕ) × (more : List (List ℕ)) × (lines_of (b ∷ text) ≡ first ∷ more)
-    go true is = ([], lines_of text, rw is refl)
-    go false is = let p = onto_some b (lines_of text) in (p.0, p.1, rw is p.2)
+    go : (t : Bool) → eqb b 10 ≡ t → (first : List ℕ) × (more : List (List ℕ)) × (text_lines (b ∷ text) ≡ first ∷ more)
+    go true is = ([], text_lines text, rw is refl)
+    go false is = let p = onto_some b (text_lines text) in (p.0, p.1, rw is p.2)
 
-pub whole_lines : (line text rest : List ℕ) → lines_of text ≡ line ∷ lines_of rest → without_last (lines_of text) ≡ line ∷ without_last (lines_of rest)
+pub whole_lines : (line text rest : List ℕ) → text_lines text ≡ line ∷ text_lines rest → without_last (text_lines text) ≡ line ∷ without_last (text_lines rest)
 whole_lines line text rest is =
     let p = some_line rest in
     ap without_last is ∙ ap (λ ls. without_last (line ∷ ls)) p.2 ∙ ap (λ ls. line ∷ without_last ls) (sym p.2)
@@ -38,16 +38,16 @@ whole_lines line text rest is =
 abbrev line_feed : ℕ → Bool
 line_feed b = eqb b 10
 
-pub one_line : (text : List ℕ) (place : ℕ) → place ≡ position_or_len line_feed text → length (drop place text) < 1 → lines_of text ≡ text ∷ []
+pub one_line : (text : List ℕ) (place : ℕ) → place ≡ position_or_len line_feed text → length (drop place text) < 1 → text_lines text ≡ text ∷ []
 one_line text place is none = slice_split_none line_feed text (λ k d within. fails_before_first line_feed text k d (let long = length-drop place text in omega arith))
 
-pub more_lines : (text behind rest : List ℕ) (place : ℕ) → place ≡ position_or_len line_feed text → behind ≡ drop place text → 1 ≤ length behind → rest ≡ take (length behind - 1) (drop 1 behind) → lines_of text ≡ take place text ∷ lines_of rest
+pub more_lines : (text behind rest : List ℕ) (place : ℕ) → place ≡ position_or_len line_feed text → behind ≡ drop place text → 1 ≤ length behind → rest ≡ take (length behind - 1) (drop 1 behind) → text_lines text ≡ take place text ∷ text_lines rest
 more_lines text behind rest place is at some rest_is =
     let long : length behind ≡ length text - place = ap length at ∙ length-drop place text in
     let within : position_or_len line_feed text < length text = omega arith in
     let whole : rest ≡ drop 1 behind = rest_is ∙ take_all (length behind - 1) (drop 1 behind) (omega (arith, length-drop 1 behind)) in
     let behind_is : drop 1 behind ≡ drop (position_or_len line_feed text + 1) text = ap (drop 1) at ∙ drop-drop 1 place text ∙ ap (λ n. drop (n + 1) text) is in
-    slice_split_first line_feed text 0 within ∙ (λ i. take (sym is i) text ∷ lines_of (sym (whole ∙ behind_is) i))
+    slice_split_first line_feed text 0 within ∙ (λ i. take (sym is i) text ∷ text_lines (sym (whole ∙ behind_is) i))
 
 -- the lines behind one that is read, and one that isn't
 pub lines_on : (threads : Bool) (number : ℕ) (s t : Script) (line : List ℕ) (lines : List (List ℕ)) → with_line threads number s line ≡ Ok t → with_lines threads number s (line ∷ lines) ≡ with_lines threads (number + 1) t lines
@@ -76,7 +76,7 @@ at_line_weaker P Q weaker (Line f) q = weaker f q
 at_line_weaker P Q weaker NoMemory q = tt
 
 -- a text within the limit, and one past it
-pub read_within : (threads : Bool) (text : List ℕ) → length text ≤ limit → reading threads text ≡ with_lines threads 1 no_script (lines_of text)
+pub read_within : (threads : Bool) (text : List ℕ) → length text ≤ limit → reading threads text ≡ with_lines threads 1 no_script (text_lines text)
 unfolding reading
 read_within threads text within =
     let is : nat_le (length text) limit ≡ true = grind (arith, nat_tests) in

@@ -7,10 +7,10 @@ use Rattle.rbd_values.specs.Name.{IsAskedName}
 use Rattle.rbd_script.specs.declared.fault.LineCause.{LineCause}
 use Rattle.rbd_script.specs.declared.fault.LineCause.TheVariants.{UnknownWord}
 use Rattle.rbd_script.specs.Form.{and_then, form, From}
-use Rattle.rbd_script.specs.Hex.{byte_of, bytes_of}
-use Rattle.rbd_script.specs.Name.{name_of, snap_of, target_of}
+use Rattle.rbd_script.specs.Hex.{byte_of_digits, bytes_of_digits}
+use Rattle.rbd_script.specs.Name.{name_of_token, snap_of_token, target_of}
 use Rattle.rbd_script.specs.Number.{number_between}
-use Rattle.rbd_script.specs.Part.{before, flag, Front, given, option, Part, part_of, place, Value}
+use Rattle.rbd_script.specs.Part.{with_rest, flag, Front, given_number, option, Part, part_of, place, Value}
 use Rattle.rbd_script.specs.Part.Part.{Byte, CommandWord, Flag, Hex, Image, Kind, MirrorWord, NewSession, Number, Optional, ScheduleWord, Session, Site, Snap, SnapWord, Target, Times}
 use Rattle.rbd_script.specs.Spelling.{flag_tokens, IsHex, option_tokens, snap_token, target_token}
 use Rattle.rbd_script.specs.Token.{is as same}
@@ -50,7 +50,7 @@ pair_is {A = A} {B = B} x y u v is =
     let same : ◌≡◌ {A = A × B} (x, u) (y, v) = ok_is {E = LineCause} (x, u) (y, v) is in
     (ap (λ (p : A × B). p.0) same, ap (λ (p : A × B). p.1) same)
 
-pub before_ok : {A : Type 0} (r : Result A LineCause) (ts rest : Tokens) (v : A) → before ts r ≡ Ok (v, rest) → (r ≡ Ok v) × (ts ≡ rest)
+pub before_ok : {A : Type 0} (r : Result A LineCause) (ts rest : Tokens) (v : A) → with_rest ts r ≡ Ok (v, rest) → (r ≡ Ok v) × (ts ≡ rest)
 before_ok (Ok x) ts rest v is = let same = pair_is x v ts rest is in (ap Ok same.0, same.1)
 before_ok (Err cause) ts rest v is = cc
 
@@ -58,7 +58,7 @@ pub place_ok : {A : Type 0} (f : List ℕ → Result A LineCause) (ts rest : Tok
 place_ok f [] rest v is = cc
 place_ok f (t ∷ ts) rest v is = let two = before_ok (f t) ts rest v is in (t, ap (λ x. t ∷ x) two.1, two.0)
 
-given_ok : (r : Front ℕ) (o : Option ℕ) (rest : Tokens) → given r ≡ Ok (o, rest) → (n : ℕ) × (r ≡ Ok (n, rest)) × (o ≡ Some n)
+given_ok : (r : Front ℕ) (o : Option ℕ) (rest : Tokens) → given_number r ≡ Ok (o, rest) → (n : ℕ) × (r ≡ Ok (n, rest)) × (o ≡ Some n)
 given_ok (Ok (n, left)) o rest is = let same = pair_is (Some n) o left rest is in (n, ap (λ x. Ok (n, x)) same.1, sym same.0)
 given_ok (Err cause) o rest is = cc
 
@@ -71,7 +71,7 @@ option_said word most [] rest o is small =
     subst (λ x. IsOption word most x [] rest) same.0 (same.1, tt)
 option_said word most (t ∷ ts) rest o is small = go (same word t) refl is
   where
-    go : (b : Bool) → same word t ≡ b → cond {A = Front (Option ℕ)} b (given (place (number_between 0 most) ts)) (Ok (None, t ∷ ts)) ≡ Ok (o, rest) → IsOption word most o (t ∷ ts) rest
+    go : (b : Bool) → same word t ≡ b → cond {A = Front (Option ℕ)} b (given_number (place (number_between 0 most) ts)) (Ok (None, t ∷ ts)) ≡ Ok (o, rest) → IsOption word most o (t ∷ ts) rest
     go true told is =
         let n = given_ok (place (number_between 0 most) ts) o rest is in
         let p = place_ok (number_between 0 most) ts rest n.0 n.1 in
@@ -98,15 +98,15 @@ flag_said word (t ∷ ts) rest b is = go (same word t) refl is
 -- what is read of a part is what it says
 says : (p : Part) (ts rest : Tokens) (v : Value p) → part_of p ts ≡ Ok (v, rest) → Says p v ts rest
 unfolding part_of
-says Image ts rest v is = let p = place_ok name_of ts rest v is in let n = name_said p.0 v p.2 in (p.1 ∙ ap (λ x. x ∷ rest) n.0, n.1)
-says Snap ts rest v is = let p = place_ok snap_of ts rest v is in let n = snap_said p.0 v.0 v.1 p.2 in (p.1 ∙ ap (λ x. x ∷ rest) n.0, n.1, n.2)
+says Image ts rest v is = let p = place_ok name_of_token ts rest v is in let n = name_said p.0 v p.2 in (p.1 ∙ ap (λ x. x ∷ rest) n.0, n.1)
+says Snap ts rest v is = let p = place_ok snap_of_token ts rest v is in let n = snap_said p.0 v.0 v.1 p.2 in (p.1 ∙ ap (λ x. x ∷ rest) n.0, n.1, n.2)
 says Target ts rest v is = let p = place_ok target_of ts rest v is in let n = target_said p.0 v.0 v.1 p.2 in (p.1 ∙ ap (λ x. x ∷ rest) n.0, n.1, n.2)
 says (Number most) ts rest v is = λ small.
     let p = place_ok (number_between 0 most) ts rest v is in
     let n = number_said 0 most v p.0 small p.2 in
     (p.1 ∙ ap (λ x. x ∷ rest) n.0, n.2)
-says Hex ts rest v is = let p = place_ok bytes_of ts rest v is in let n = hex_said p.0 v p.2 in (p.1 ∙ ap (λ x. x ∷ rest) n.0, n.1)
-says Byte ts rest v is = let p = place_ok byte_of ts rest v is in let n = byte_said p.0 v p.2 in (p.1 ∙ ap (λ x. x ∷ rest) n.0, n.1)
+says Hex ts rest v is = let p = place_ok bytes_of_digits ts rest v is in let n = hex_said p.0 v p.2 in (p.1 ∙ ap (λ x. x ∷ rest) n.0, n.1)
+says Byte ts rest v is = let p = place_ok byte_of_digits ts rest v is in let n = byte_said p.0 v p.2 in (p.1 ∙ ap (λ x. x ∷ rest) n.0, n.1)
 says Site ts rest v is = is
 says Kind ts rest v is = is
 says (Session sessions) ts rest v is = is

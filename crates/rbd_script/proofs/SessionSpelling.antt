@@ -18,9 +18,9 @@ use Rattle.rbd_script.specs.EventSpelling.{IsSession, session_name, site_word}
 use Rattle.rbd_script.specs.Number.{number_between}
 use Rattle.rbd_script.specs.Part.{part_of}
 use Rattle.rbd_script.specs.Part.Part.{Kind, NewSession, Session, Site, Times}
-use Rattle.rbd_script.specs.Session.{is_named, is_session_name, new_session_of, session_of}
+use Rattle.rbd_script.specs.Session.{has_session_name, is_session_name, new_session_of, session_of_token}
 use Rattle.rbd_script.specs.Token.{is as same}
-use Rattle.rbd_script.specs.Word.{all_kinds, kind_of, site_of, with_word}
+use Rattle.rbd_script.specs.Word.{all_kinds, kind_of_token, site_of_token, with_word}
 use Rattle.rbd_script.proofs.CommandSaid.{found_word, known_ok}
 use Rattle.rbd_script.proofs.KindWords.{kind_with_word}
 use Rattle.rbd_script.proofs.PartSpelling.{before_ok, pair_is, place_ok}
@@ -48,19 +48,19 @@ place_is p (d ∷ sessions) (suc n) within is none =
 lt_true : (n m : ℕ) → n < m → nat_lt n m ≡ true
 lt_true n m lt = grind (arith, nat_tests)
 
-pub session_read : (sessions : List Declared) (n : ℕ) → IsSession sessions n → session_of sessions (session_name sessions n) ≡ Ok n
-unfolding session_of
+pub session_read : (sessions : List Declared) (n : ℕ) → IsSession sessions n → session_of_token sessions (session_name sessions n) ≡ Ok n
+unfolding session_of_token
 session_read sessions n s =
     let t = session_name sessions n in
-    let is : is_named t (get_or sessions n nobody) ≡ true = subst (λ x. pointwise nat_eq x t ≡ true) (name_is sessions n) (nat_list_eq_equiv.refl t) in
-    let none : (k : ℕ) → k < n → is_named t (get_or sessions k nobody) ≡ false = λ k below.
-    false_from_ne_true (is_named t (get_or sessions k nobody)) (λ told. s.first k below (name_is sessions k ∙ same_text (get_or sessions k nobody).name t (sym told))) in
-    rw (place_is (is_named t) sessions n s.declared is none, lt_true n (length sessions) s.declared) refl
+    let is : has_session_name t (get_or sessions n nobody) ≡ true = subst (λ x. pointwise nat_eq x t ≡ true) (name_is sessions n) (nat_list_eq_equiv.refl t) in
+    let none : (k : ℕ) → k < n → has_session_name t (get_or sessions k nobody) ≡ false = λ k below.
+    false_from_ne_true (has_session_name t (get_or sessions k nobody)) (λ told. s.first k below (name_is sessions k ∙ same_text (get_or sessions k nobody).name t (sym told))) in
+    rw (place_is (has_session_name t) sessions n s.declared is none, lt_true n (length sessions) s.declared) refl
 
-session_told : (sessions : List Declared) (t : List ℕ) (n : ℕ) → session_of sessions t ≡ Ok n → (t ≡ session_name sessions n) × IsSession sessions n
-unfolding session_of
+session_told : (sessions : List Declared) (t : List ℕ) (n : ℕ) → session_of_token sessions t ≡ Ok n → (t ≡ session_name sessions n) × IsSession sessions n
+unfolding session_of_token
 session_told sessions t n is =
-    let p = position-Some (is_named t) sessions n nobody (known_ok (position (is_named t) sessions) n is) in
+    let p = position-Some (has_session_name t) sessions n nobody (known_ok (position (has_session_name t) sessions) n is) in
     let name : session_name sessions n ≡ t = name_is sessions n ∙ same_text (get_or sessions n nobody).name t (sym p.1) in (
       sym name,
       record {
@@ -72,17 +72,17 @@ session_told sessions t n is =
 pub session_said : (sessions : List Declared) (ts rest : Tokens) (n : ℕ) → part_of (Session sessions) ts ≡ Ok (n, rest) → (ts ≡ session_name sessions n ∷ rest) × IsSession sessions n
 unfolding part_of
 session_said sessions ts rest n is =
-    let p = place_ok (session_of sessions) ts rest n is in
+    let p = place_ok (session_of_token sessions) ts rest n is in
     let told = session_told sessions p.0 n p.2 in
     (p.1 ∙ ap (λ x. x ∷ rest) told.0, told.1)
 
-pub site_read : (s : SiteId) → site_of (site_word s) ≡ Ok s
-unfolding site_of
+pub site_read : (s : SiteId) → site_of_token (site_word s) ≡ Ok s
+unfolding site_of_token
 site_read A = refl
 site_read B = refl
 
-site_told : (t : List ℕ) (s : SiteId) → site_of t ≡ Ok s → t ≡ site_word s
-unfolding site_of
+site_told : (t : List ℕ) (s : SiteId) → site_of_token t ≡ Ok s → t ≡ site_word s
+unfolding site_of_token
 site_told t s is = first (same (codes "a") t) refl is
   where
     second : (b : Bool) → same (codes "b") t ≡ b → cond b (Ok B) (Err UnknownWord) ≡ Ok s → t ≡ site_word s
@@ -95,19 +95,19 @@ site_told t s is = first (same (codes "a") t) refl is
 
 pub site_said : (ts rest : Tokens) (s : SiteId) → part_of Site ts ≡ Ok (s, rest) → ts ≡ site_word s ∷ rest
 unfolding part_of
-site_said ts rest s is = let p = place_ok site_of ts rest s is in p.1 ∙ ap (λ x. x ∷ rest) (site_told p.0 s p.2)
+site_said ts rest s is = let p = place_ok site_of_token ts rest s is in p.1 ∙ ap (λ x. x ∷ rest) (site_told p.0 s p.2)
 
-pub kind_read : (k : OpKind) → kind_of (op_word k) ≡ Ok k
-unfolding kind_of
+pub kind_read : (k : OpKind) → kind_of_token (op_word k) ≡ Ok k
+unfolding kind_of_token
 kind_read k = rw (kind_with_word k) refl
 
-kind_told : (t : List ℕ) (k : OpKind) → kind_of t ≡ Ok k → t ≡ op_word k
-unfolding kind_of
+kind_told : (t : List ℕ) (k : OpKind) → kind_of_token t ≡ Ok k → t ≡ op_word k
+unfolding kind_of_token
 kind_told t k is = found_word op_word all_kinds t k (known_ok (with_word op_word all_kinds t) k is)
 
 pub kind_said : (ts rest : Tokens) (k : OpKind) → part_of Kind ts ≡ Ok (k, rest) → ts ≡ op_word k ∷ rest
 unfolding part_of
-kind_said ts rest k is = let p = place_ok kind_of ts rest k is in p.1 ∙ ap (λ x. x ∷ rest) (kind_told p.0 k p.2)
+kind_said ts rest k is = let p = place_ok kind_of_token ts rest k is in p.1 ∙ ap (λ x. x ∷ rest) (kind_told p.0 k p.2)
 
 -- the last part of a poll
 abbrev pub AreTimes : Tokens → ℕ → Type 0
@@ -129,15 +129,15 @@ neither false false is = (refl, refl)
 neither false true is = cc
 neither true b is = cc
 
-none_named : (sessions : List Declared) (t : List ℕ) → list_any (is_named t) sessions ≡ false → (k : ℕ) → k < length sessions → session_name sessions k ≢ t
+none_named : (sessions : List Declared) (t : List ℕ) → list_any (has_session_name t) sessions ≡ false → (k : ℕ) → k < length sessions → session_name sessions k ≢ t
 none_named [] t none k within = absurd (omega arith)
-none_named (d ∷ sessions) t none zero within = other_text d.name t (sym (neither (is_named t d) (list_any (is_named t) sessions) none).0)
-none_named (d ∷ sessions) t none (suc k) within = none_named sessions t (neither (is_named t d) (list_any (is_named t) sessions) none).1 k (omega arith)
+none_named (d ∷ sessions) t none zero within = other_text d.name t (sym (neither (has_session_name t d) (list_any (has_session_name t) sessions) none).0)
+none_named (d ∷ sessions) t none (suc k) within = none_named sessions t (neither (has_session_name t d) (list_any (has_session_name t) sessions) none).1 k (omega arith)
 
-named_none : (sessions : List Declared) (t : List ℕ) → ((k : ℕ) → k < length sessions → session_name sessions k ≢ t) → list_any (is_named t) sessions ≡ false
+named_none : (sessions : List Declared) (t : List ℕ) → ((k : ℕ) → k < length sessions → session_name sessions k ≢ t) → list_any (has_session_name t) sessions ≡ false
 named_none [] t none = refl
 named_none (d ∷ sessions) t none =
-    let first : is_named t d ≡ false = false_from_ne_true (is_named t d) (λ told. none 0 (omega arith) (same_text d.name t (sym told))) in
+    let first : has_session_name t d ≡ false = false_from_ne_true (has_session_name t d) (λ told. none 0 (omega arith) (same_text d.name t (sym told))) in
     rw first (named_none sessions t (λ k within. none (suc k) (omega arith)))
 
 pub new_session_read : (sessions : List Declared) (t : List ℕ) → is_session_name t ≡ true → ((k : ℕ) → k < length sessions → session_name sessions k ≢ t) → length sessions < 32
@@ -155,7 +155,7 @@ IsNew sessions t = (is_session_name t ≡ true) × ((k : ℕ) → k < length ses
 new_session_told : (sessions : List Declared) (t name : List ℕ) → new_session_of sessions t ≡ Ok name → (t ≡ name) × IsNew sessions t
 unfolding new_session_of
 new_session_told sessions t name is =
-    let any = list_any (is_named t) sessions in
+    let any = list_any (has_session_name t) sessions in
     let told = if_ok (is_session_name t && not any && nat_lt (length sessions) 32) t name BadName is in
     let outer = and_parts (is_session_name t && not any) (nat_lt (length sessions) 32) told.0 in
     let inner = and_parts (is_session_name t) (not any) outer.0 in

@@ -3,7 +3,7 @@ use Rattle.std.proofs.Common.{◌≡◌, ◌≢◌, ℕ, ◌+◌, ◌<◌, ◌�
 use Rattle.std.specs.List.{filter, slice_split, onto_first, position_or_len}
 use Rattle.std.proofs.lemmas.Bool.{eq-eqb, ne_eqb}
 use Rattle.std.proofs.lemmas.List.Sums.{position_or_len_is}
-use Rattle.rbd_script.specs.Token.{tokens_of, has_bytes}
+use Rattle.rbd_script.specs.Token.{tokens_of, has_any_byte}
 
 abbrev space : ℕ → Bool
 space b = eqb b 32
@@ -39,7 +39,7 @@ drop_one_more n b line = rw (one_more n) refl
 record Parts (line : List ℕ) : Type 0 where
   more : List (List ℕ)
   split : slice_split space line ≡ take (position_or_len space line) line ∷ more
-  kept : filter has_bytes more ≡ tokens_of (drop (position_or_len space line) line)
+  kept : filter has_any_byte more ≡ tokens_of (drop (position_or_len space line) line)
 
 parts : (line : List ℕ) → Parts line
 parts [] = record { more = []; split = refl; kept = refl }
@@ -73,7 +73,7 @@ nothing_left line (b ∷ rest) is none = absurd (omega arith)
 front_token : (b : ℕ) (line : List ℕ) → space b ≡ false → tokens_of (b ∷ line) ≡ take (position_or_len space (b ∷ line)) (b ∷ line) ∷ tokens_of (drop (position_or_len space (b ∷ line)) (b ∷ line))
 front_token b line is =
     let p = parts (b ∷ line) in
-    ap (filter has_bytes) p.split ∙ rw is (rw (take_one_more (position_or_len space line) b line) (ap (λ ts. (b ∷ take (position_or_len space line) line) ∷ ts) (rw is at p.kept)))
+    ap (filter has_any_byte) p.split ∙ rw is (rw (take_one_more (position_or_len space line) b line) (ap (λ ts. (b ∷ take (position_or_len space line) line) ∷ ts) (rw is at p.kept)))
 
 pub first_token : (line rest : List ℕ) → drop (position_or_len no_space line) line ≡ rest → 0 < length rest → tokens_of line ≡ take (position_or_len space rest) rest ∷ tokens_of (drop (position_or_len space rest) rest)
 first_token [] rest is some = absurd (omega (arith, ap length is))

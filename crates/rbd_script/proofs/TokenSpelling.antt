@@ -9,7 +9,7 @@ use Rattle.std.proofs.lemmas.List.Sums.{split_at_first, prefix_len_stops}
 use Rattle.rbd_values.specs.Name.{IsAskedName, name_byte}
 use Rattle.rbd_script.specs.declared.fault.LineCause.{LineCause}
 use Rattle.rbd_script.specs.declared.fault.LineCause.TheVariants.{BadName, BadNumber}
-use Rattle.rbd_script.specs.Name.{both, is_at, is_asked_name, name_of, of_image, of_snap, snap_of, target_of}
+use Rattle.rbd_script.specs.Name.{both, is_at_sign, is_asked_name, name_of_token, of_image, of_snap, snap_of_token, target_of}
 use Rattle.rbd_script.specs.Number.{is_digit, is_numeral, number_after, number_between}
 use Rattle.rbd_script.specs.Spelling.{snap_token, target_token}
 use Rattle.rbd_script.proofs.Numerals.{digits, numeral_parts}
@@ -49,26 +49,26 @@ told_name t is =
       first_not_dash = byte_other (slice_index t 0) 45 dash.1;
     }
 
-pub name_read : (t : List ℕ) → IsAskedName t → name_of t ≡ Ok t
-unfolding name_of
+pub name_read : (t : List ℕ) → IsAskedName t → name_of_token t ≡ Ok t
+unfolding name_of_token
 name_read t n = rw (name_told t n) refl
 
-pub name_said : (t name : List ℕ) → name_of t ≡ Ok name → (t ≡ name) × IsAskedName name
-unfolding name_of
+pub name_said : (t name : List ℕ) → name_of_token t ≡ Ok name → (t ≡ name) × IsAskedName name
+unfolding name_of_token
 name_said t name is =
     let told = if_ok (is_asked_name t) t name BadName is in
     (told.1, subst IsAskedName told.1 (told_name t told.0))
 
 -- an image and its snapshot
-no_at : (b : ℕ) → name_byte b ≡ true → is_at b ≡ false
+no_at : (b : ℕ) → name_byte b ≡ true → is_at_sign b ≡ false
 no_at b is = grind (arith, nat_tests)
 
-halves_of : (image snap : List ℕ) → list_all name_byte image ≡ true → (before_first is_at (snap_token image snap) ≡ image) × (after_first is_at (snap_token image snap) ≡ snap)
+halves_of : (image snap : List ℕ) → list_all name_byte image ≡ true → (before_first is_at_sign (snap_token image snap) ≡ image) × (after_first is_at_sign (snap_token image snap) ≡ snap)
 halves_of [] snap all = (refl, refl)
 halves_of (b ∷ image) snap all =
     let parts = and_parts (name_byte b) (list_all name_byte image) all in
     let rest = halves_of image snap parts.1 in
-    let place = position_or_len is_at (snap_token image snap) in
+    let place = position_or_len is_at_sign (snap_token image snap) in
     let one : 1 + place + 1 ≡ 1 + (place + 1) = omega arith in (
       rw (no_at b parts.0) (take_one_more place b (snap_token image snap) ∙ ap (λ x. b ∷ x) rest.0),
       rw (no_at b parts.0) (ap (λ k. drop k (b ∷ snap_token image snap)) one ∙ drop_one_more (place + 1) b (snap_token image snap) ∙ rest.1),
@@ -81,39 +81,39 @@ both_ok {A = A} {B = B} (Ok x) (Ok y) a b is =
 both_ok (Ok x) (Err cause) a b is = cc
 both_ok (Err cause) q a b is = cc
 
-pub snap_read : (image snap : List ℕ) → IsAskedName image → IsAskedName snap → snap_of (snap_token image snap) ≡ Ok (image, snap)
-unfolding snap_of
+pub snap_read : (image snap : List ℕ) → IsAskedName image → IsAskedName snap → snap_of_token (snap_token image snap) ≡ Ok (image, snap)
+unfolding snap_of_token
 snap_read image snap i s =
     let halves = halves_of image snap i.name.bytes in
     rw (halves.0, halves.1, name_read image i, name_read snap s) refl
 
-pub snap_said : (t image snap : List ℕ) → snap_of t ≡ Ok (image, snap) → (t ≡ snap_token image snap) × IsAskedName image × IsAskedName snap
-unfolding snap_of
+pub snap_said : (t image snap : List ℕ) → snap_of_token t ≡ Ok (image, snap) → (t ≡ snap_token image snap) × IsAskedName image × IsAskedName snap
+unfolding snap_of_token
 snap_said t image snap is =
-    let two = both_ok (name_of (before_first is_at t)) (name_of (after_first is_at t)) image snap is in
-    let i = name_said (before_first is_at t) image two.0 in
-    let s = name_said (after_first is_at t) snap two.1 in
-    let place = position_or_len is_at t in
+    let two = both_ok (name_of_token (before_first is_at_sign t)) (name_of_token (after_first is_at_sign t)) image snap is in
+    let i = name_said (before_first is_at_sign t) image two.0 in
+    let s = name_said (after_first is_at_sign t) snap two.1 in
+    let place = position_or_len is_at_sign t in
     let long : 0 < length (drop (place + 1) t) = rw s.0 s.1.name.some in
     let within : place < length t = omega (arith, long, length-drop (place + 1) t) in
-    let at : get_or t place 0 ≡ 64 = eqb-true (get_or t place 0) 64 (not-false (is_at (get_or t place 0)) (prefix_len_stops (λ x. not (is_at x)) t 0 within)) in (
-      split_at_first is_at t 0 within ∙ ap (λ b. before_first is_at t ++ (b ∷ after_first is_at t)) at ∙ (λ j. i.0 j ++ 64 ∷ s.0 j),
+    let at : get_or t place 0 ≡ 64 = eqb-true (get_or t place 0) 64 (not-false (is_at_sign (get_or t place 0)) (prefix_len_stops (λ x. not (is_at_sign x)) t 0 within)) in (
+      split_at_first is_at_sign t 0 within ∙ ap (λ b. before_first is_at_sign t ++ (b ∷ after_first is_at_sign t)) at ∙ (λ j. i.0 j ++ 64 ∷ s.0 j),
       i.1,
       s.1,
     )
 
 -- an image, or an image and its snapshot
-no_at_within : (t : List ℕ) → list_all name_byte t ≡ true → list_any is_at t ≡ false
+no_at_within : (t : List ℕ) → list_all name_byte t ≡ true → list_any is_at_sign t ≡ false
 no_at_within [] all = refl
 no_at_within (b ∷ t) all =
     let parts = and_parts (name_byte b) (list_all name_byte t) all in
     rw (no_at b parts.0) (no_at_within t parts.1)
 
-at_within : (image snap : List ℕ) → list_any is_at (snap_token image snap) ≡ true
+at_within : (image snap : List ℕ) → list_any is_at_sign (snap_token image snap) ≡ true
 at_within [] snap = refl
-at_within (b ∷ image) snap = go (is_at b) refl (at_within image snap)
+at_within (b ∷ image) snap = go (is_at_sign b) refl (at_within image snap)
   where
-    go : (t : Bool) → is_at b ≡ t → list_any is_at (snap_token image snap) ≡ true → list_any is_at (snap_token (b ∷ image) snap) ≡ true
+    go : (t : Bool) → is_at_sign b ≡ t → list_any is_at_sign (snap_token image snap) ≡ true → list_any is_at_sign (snap_token (b ∷ image) snap) ≡ true
     go true is rest = rw is refl
     go false is rest = rw is rest
 
@@ -139,15 +139,15 @@ IsTarget t image snap = (t ≡ target_token image snap) × IsAskedName image × 
 
 pub target_said : (t image : List ℕ) (snap : Option (List ℕ)) → target_of t ≡ Ok (image, snap) → (t ≡ target_token image snap) × IsAskedName image × IfSome snap IsAskedName
 unfolding target_of
-target_said t image snap is = go (list_any is_at t) is
+target_said t image snap is = go (list_any is_at_sign t) is
   where
-    go : (b : Bool) → cond b (of_snap (snap_of t)) (of_image (name_of t)) ≡ Ok (image, snap) → IsTarget t image snap
+    go : (b : Bool) → cond b (of_snap (snap_of_token t)) (of_image (name_of_token t)) ≡ Ok (image, snap) → IsTarget t image snap
     go true told =
-        let s = snapped_said (snap_of t) image snap told in
+        let s = snapped_said (snap_of_token t) image snap told in
         let said = snap_said t image s.0 s.1 in
         subst (λ o. IsTarget t image o) (sym s.2) (said.0, said.1, said.2)
     go false told =
-        let s = image_said (name_of t) image snap told in
+        let s = image_said (name_of_token t) image snap told in
         let said = name_said t image s.0 in
         subst (λ o. IsTarget t image o) (sym s.1) (said.0, said.1, tt)
 

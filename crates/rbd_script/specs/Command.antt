@@ -82,5 +82,5 @@ command_form verb.Snap = λ tokens. and_then (part_of SnapWord tokens) snap_form
 command_form verb.Mirror = λ tokens. and_then (part_of MirrorWord tokens) mirror_form
 
 -- `COMMAND`
-unfoldable pub command_of : List (List ℕ) → Result Command LineCause
-command_of tokens = and_then (part_of CommandWord tokens) command_form
+unfoldable pub command_of_tokens : List (List ℕ) → Result Command LineCause
+command_of_tokens tokens = and_then (part_of CommandWord tokens) command_form

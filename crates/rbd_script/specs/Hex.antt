@@ -42,12 +42,12 @@ IsFaultOf token (Cause cause) = (cause ≡ BadNumber) × (are_pairs token ≡ fa
 IsFaultOf token NoMemory = Unit {0}
 
 -- 1 to 65,536 pairs
-unfoldable pub bytes_of : List ℕ → Result (List ℕ) LineCause
-bytes_of token = if nat_le (length token) 131072 && nat_le 2 (length token) && are_pairs token then Ok (bytes_of_pairs token) else Err BadNumber
+unfoldable pub bytes_of_digits : List ℕ → Result (List ℕ) LineCause
+bytes_of_digits token = if nat_le (length token) 131072 && nat_le 2 (length token) && are_pairs token then Ok (bytes_of_pairs token) else Err BadNumber
 
 -- one pair
-unfoldable pub byte_of : List ℕ → Result ℕ LineCause
-byte_of [] = Err BadNumber
-byte_of (high ∷ []) = Err BadNumber
-byte_of (high ∷ low ∷ []) = if is_hex_digit high && is_hex_digit low then Ok (pair high low) else Err BadNumber
-byte_of (high ∷ low ∷ b ∷ bytes) = Err BadNumber
+unfoldable pub byte_of_digits : List ℕ → Result ℕ LineCause
+byte_of_digits [] = Err BadNumber
+byte_of_digits (high ∷ []) = Err BadNumber
+byte_of_digits (high ∷ low ∷ []) = if is_hex_digit high && is_hex_digit low then Ok (pair high low) else Err BadNumber
+byte_of_digits (high ∷ low ∷ b ∷ bytes) = Err BadNumber

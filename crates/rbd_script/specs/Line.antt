@@ -7,27 +7,27 @@ use Rattle.rbd_script.specs.declared.script.Declared.{Declared}
 use Rattle.rbd_script.specs.declared.script.Said.{Said}
 use Rattle.rbd_script.specs.declared.script.Said.TheVariants as said
 use Rattle.rbd_script.specs.declared.script.Script.{Script}
-use Rattle.rbd_script.specs.Command.{command_of}
+use Rattle.rbd_script.specs.Command.{command_of_tokens}
 use Rattle.rbd_script.specs.Form.{and_then, form}
 use Rattle.rbd_script.specs.Part.{part_of}
 use Rattle.rbd_script.specs.Part.Part.{NewSession, Session, Site}
 use Rattle.rbd_script.specs.Schedule.{schedule_of}
 use Rattle.rbd_script.specs.Token.{begins_with, is, tokens_of}
 
-abbrev pub asked : (session : ℕ) (beside : Bool) → Result Command LineCause → Result Said LineCause
-asked session beside (Ok command) = Ok (said.Command session beside command)
-asked session beside (Err cause) = Err cause
+abbrev pub asked_of : (session : ℕ) (beside : Bool) → Result Command LineCause → Result Said LineCause
+asked_of session beside (Ok command) = Ok (said.Command session beside command)
+asked_of session beside (Err cause) = Err cause
 
 -- `NAME COMMAND`
-unfoldable pub request_of : List Declared → (beside : Bool) → List (List ℕ) → Result Said LineCause
-request_of sessions beside tokens = and_then (part_of (Session sessions) tokens) (λ session command. asked session beside (command_of command))
+unfoldable pub request_of_tokens : List Declared → (beside : Bool) → List (List ℕ) → Result Said LineCause
+request_of_tokens sessions beside tokens = and_then (part_of (Session sessions) tokens) (λ session command. asked_of session beside (command_of_tokens command))
 
 -- `[&] NAME COMMAND`, or a line of a schedule, which isn't allowed with threads
 abbrev pub said_behind : (threads : Bool) → List Declared → (first : List ℕ) → List (List ℕ) → Result Said LineCause
 said_behind threads sessions first tokens =
     if begins_with 64 first then (if threads then Err ScheduleLine else schedule_of sessions (first ∷ tokens))
-    else if is (codes "&") first then request_of sessions true tokens
-    else request_of sessions false (first ∷ tokens)
+    else if is (codes "&") first then request_of_tokens sessions true tokens
+    else request_of_tokens sessions false (first ∷ tokens)
 
 -- one more session, or one more line
 abbrev pub declaring : Script → Result Declared LineCause → Result Script LineCause

@@ -10,12 +10,12 @@ abbrev pub is_asked_name : List ℕ → Bool
 is_asked_name token = nat_le 1 (length token) && nat_le (length token) 64 && list_all name_byte token && not (slice_index token 0 == 46) && not (slice_index token 0 == 45)
 
 -- `NAME`
-unfoldable pub name_of : List ℕ → Result (List ℕ) LineCause
-name_of token = if is_asked_name token then Ok token else Err BadName
+unfoldable pub name_of_token : List ℕ → Result (List ℕ) LineCause
+name_of_token token = if is_asked_name token then Ok token else Err BadName
 
 -- `@`
-abbrev pub is_at : ℕ → Bool
-is_at b = b == 64
+abbrev pub is_at_sign : ℕ → Bool
+is_at_sign b = b == 64
 
 abbrev pub both : {A B : Type 0} → Result A LineCause → Result B LineCause → Result (A × B) LineCause
 both (Ok a) (Ok b) = Ok (a, b)
@@ -23,8 +23,8 @@ both (Ok a) (Err cause) = Err cause
 both (Err cause) second = Err cause
 
 -- `IMAGE@SNAP`: two names. Where there is no `@` nothing stands behind it, which is no name.
-unfoldable pub snap_of : List ℕ → Result (List ℕ × List ℕ) LineCause
-snap_of token = both (name_of (before_first is_at token)) (name_of (after_first is_at token))
+unfoldable pub snap_of_token : List ℕ → Result (List ℕ × List ℕ) LineCause
+snap_of_token token = both (name_of_token (before_first is_at_sign token)) (name_of_token (after_first is_at_sign token))
 
 -- `IMAGE` or `IMAGE@SNAP`
 abbrev pub of_image : Result (List ℕ) LineCause → Result (List ℕ × Option (List ℕ)) LineCause
@@ -36,4 +36,4 @@ of_snap (Ok (image, snap)) = Ok (image, Some snap)
 of_snap (Err cause) = Err cause
 
 unfoldable pub target_of : List ℕ → Result (List ℕ × Option (List ℕ)) LineCause
-target_of token = if list_any is_at token then of_snap (snap_of token) else of_image (name_of token)
+target_of token = if list_any is_at_sign token then of_snap (snap_of_token token) else of_image (name_of_token token)

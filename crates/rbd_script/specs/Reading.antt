@@ -5,7 +5,7 @@ use Rattle.rbd_script.specs.declared.fault.LineCause.TheVariants.{ExtraPart}
 use Rattle.rbd_script.specs.declared.fault.LineFault.{LineFault}
 use Rattle.rbd_script.specs.declared.script.Script.{Script}
 use Rattle.rbd_script.specs.Line.{with_line}
-use Rattle.rbd_script.specs.Token.{lines_of, without_last}
+use Rattle.rbd_script.specs.Token.{text_lines, without_last}
 
 abbrev pub no_script : Script
 no_script = record { sessions = []; lines = [] }
@@ -26,7 +26,7 @@ limit = 16777216
 
 -- the lines that end before the byte too many
 abbrev pub lines_before : List ℕ → List (List ℕ)
-lines_before text = without_last (lines_of (take limit text))
+lines_before text = without_last (text_lines (take limit text))
 
 -- The byte too many is a fault of its line, whatever else is wrong in it, where no earlier line has
 -- one.
@@ -36,5 +36,5 @@ too_long lines (Err fault) = Err fault
 
 unfoldable pub reading : (threads : Bool) → List ℕ → Result Script LineFault
 reading threads text =
-    if nat_le (length text) limit then with_lines threads 1 no_script (lines_of text)
+    if nat_le (length text) limit then with_lines threads 1 no_script (text_lines text)
     else too_long (length (lines_before text)) (with_lines threads 1 no_script (lines_before text))

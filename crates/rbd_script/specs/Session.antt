@@ -18,13 +18,13 @@ is_letter_or_digit b = is_letter b || (nat_le 48 b && nat_le b 57)
 abbrev pub is_session_name : List ℕ → Bool
 is_session_name token = is_letter (slice_index token 0) && nat_le (length token) 32 && list_all is_letter_or_digit token && not (is (codes "client") token)
 
-abbrev pub is_named : (token : List ℕ) → Declared → Bool
-is_named token d = pointwise nat_eq d.name token
+abbrev pub has_session_name : (token : List ℕ) → Declared → Bool
+has_session_name token d = pointwise nat_eq d.name token
 
 -- the name of one more session, of 32 at most
 unfoldable pub new_session_of : List Declared → List ℕ → Result (List ℕ) LineCause
 new_session_of sessions token =
-    if is_session_name token && not (list_any (is_named token) sessions) && nat_lt (length sessions) 32 then Ok token else Err BadName
+    if is_session_name token && not (list_any (has_session_name token) sessions) && nat_lt (length sessions) 32 then Ok token else Err BadName
 
 -- a value, or an unknown word
 abbrev pub known : {A : Type 0} → Option A → Result A LineCause
@@ -32,5 +32,5 @@ known (Some value) = Ok value
 known None = Err UnknownWord
 
 -- the number of a session that was declared
-unfoldable pub session_of : List Declared → List ℕ → Result ℕ LineCause
-session_of sessions token = known (position (is_named token) sessions)
+unfoldable pub session_of_token : List Declared → List ℕ → Result ℕ LineCause
+session_of_token sessions token = known (position (has_session_name token) sessions)

@@ -4,8 +4,8 @@ use Rattle.std.specs.Cmp.Lexicographic.{pointwise}
 use Rattle.std.specs.List.{filter, slice_split}
 
 -- The lines: each ends with a line feed, and what follows the last of these is a line too.
-abbrev pub lines_of : List ℕ → List (List ℕ)
-lines_of text = slice_split (λ b. b == 10) text
+abbrev pub text_lines : List ℕ → List (List ℕ)
+text_lines text = slice_split (λ b. b == 10) text
 
 -- all but the last of some things
 abbrev pub without_last : {X : Type 0} → List X → List X
@@ -13,13 +13,13 @@ without_last [] = []
 without_last (x ∷ []) = []
 without_last (x ∷ y ∷ xs) = x ∷ without_last (y ∷ xs)
 
-abbrev pub has_bytes : List ℕ → Bool
-has_bytes [] = false
-has_bytes (b ∷ bytes) = true
+abbrev pub has_any_byte : List ℕ → Bool
+has_any_byte [] = false
+has_any_byte (b ∷ bytes) = true
 
 -- the tokens of a line: what stands between spaces, as far as it isn't empty
 abbrev pub tokens_of : List ℕ → List (List ℕ)
-tokens_of line = filter has_bytes (slice_split (λ b. b == 32) line)
+tokens_of line = filter has_any_byte (slice_split (λ b. b == 32) line)
 
 -- whether a token is a word
 abbrev pub is : (word token : List ℕ) → Bool

@@ -210,9 +210,9 @@ all_kinds =
     ∷ []
 
 -- the kind of an operation
-unfoldable pub kind_of : List ℕ → Result OpKind LineCause
-kind_of token = by_word op_word all_kinds token
+unfoldable pub kind_of_token : List ℕ → Result OpKind LineCause
+kind_of_token token = by_word op_word all_kinds token
 
 -- `a` or `b`
-unfoldable pub site_of : List ℕ → Result SiteId LineCause
-site_of token = if is (codes "a") token then Ok A else if is (codes "b") token then Ok B else Err UnknownWord
+unfoldable pub site_of_token : List ℕ → Result SiteId LineCause
+site_of_token token = if is (codes "a") token then Ok A else if is (codes "b") token then Ok B else Err UnknownWord

@@ -1,5 +1,5 @@
 //! Commands of sessions.
-ghost use Rattle.rbd_script.specs.Command.{command_form, command_of as command_in, shape as shape_in, shape_parts};
+ghost use Rattle.rbd_script.specs.Command.{command_form, command_of_tokens as command_in, shape as shape_in, shape_parts};
 ghost use Rattle.rbd_script.specs.Fault.{Gives};
 ghost use Rattle.rbd_script.specs.Form.{form};
 ghost use Rattle.rbd_script.specs.Token.{tokens_of};
@@ -12,7 +12,7 @@ use crate::verb::{ImageVerb, Verb};
 use rbd_kinds::{Command, Shape};
 
 /// The command that the tokens ask for.
-#[tactic(auto, unfolding(crate::specs::Command::command_of))]
+#[tactic(auto, unfolding(crate::specs::Command::command_of_tokens))]
 pub fn command_of(mut tokens: Tokens<'_>) -> Result<Command, PartFault>
     ensures { Gives result (command_in (tokens_of tokens.entry.rest.now)) }
 {

@@ -3,7 +3,7 @@ ghost use Rattle.std.specs.Prelude.{◌≡◌, ℕ, List, Ok};
 ghost use Rattle.rbd_commands.specs.declared.command.Command.{Command};
 ghost use Rattle.rbd_script.specs.declared.script.Declared.{Declared};
 ghost use Rattle.rbd_script.specs.declared.script.Said.{Said};
-ghost use Rattle.rbd_script.specs.Command.{command_of};
+ghost use Rattle.rbd_script.specs.Command.{command_of_tokens};
 ghost use Rattle.rbd_script.specs.EventSpelling.{Declares, SpellsEvent};
 ghost use Rattle.rbd_script.specs.Line.{declaration_of};
 ghost use Rattle.rbd_script.specs.Schedule.{schedule_of};
@@ -11,8 +11,8 @@ ghost use Rattle.rbd_script.specs.Spelling.{IsInRange, spelling, Spells};
 
 /// A command in range is read of the tokens that spell it, and of no others.
 pub fn commands_are_spelled()
-    ensures read { (c : Command) → IsInRange c → command_of (spelling c) ≡ Ok c }
-    ensures spelled { (tokens : List (List ℕ)) (c : Command) → command_of tokens ≡ Ok c → Spells tokens c }
+    ensures read { (c : Command) → IsInRange c → command_of_tokens (spelling c) ≡ Ok c }
+    ensures spelled { (tokens : List (List ℕ)) (c : Command) → command_of_tokens tokens ≡ Ok c → Spells tokens c }
 {}
 
 /// A line of a schedule is read of the tokens that spell it, and of no others. A session is told by

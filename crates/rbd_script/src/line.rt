@@ -1,7 +1,7 @@
 //! One line of a script.
 ghost use Rattle.std.specs.Prelude.{◌≡◌, ◌∷◌, ◌<◌, ◌≤◌, length, OnOk};
 ghost use Rattle.rbd_script.specs.Fault.{Gives, Leaves};
-ghost use Rattle.rbd_script.specs.Line.{declaration_of as declaration_in, request_of as request_in, said_behind, with_line};
+ghost use Rattle.rbd_script.specs.Line.{declaration_of as declaration_in, request_of_tokens as request_in, said_behind, with_line};
 ghost use Rattle.rbd_script.specs.Token.{begins_with as begins_with_in, tokens_of};
 
 use crate::command::command_of;
@@ -90,7 +90,7 @@ fn said_by(
 }
 
 /// `NAME COMMAND`
-#[tactic(auto, unfolding(crate::specs::Line::request_of))]
+#[tactic(auto, unfolding(crate::specs::Line::request_of_tokens))]
 fn request_of(sessions: &Sessions, beside: bool, mut tokens: Tokens<'_>) -> Result<Said, PartFault>
     requires { length sessions.now ≤ 32 }
     ensures { Gives result (request_in sessions.now beside (tokens_of tokens.entry.rest.now)) }

@@ -2,7 +2,7 @@
 ghost use Rattle.std.specs.Prelude.{◌≡◌, [], IfSome, IfNone};
 ghost use Rattle.std.specs.List.{after_first, before_first, list_any};
 ghost use Rattle.rbd_script.specs.Fault.{Gives};
-ghost use Rattle.rbd_script.specs.Name.{is_at, name_of as name_in, snap_of as snap_in, target_of as target_in};
+ghost use Rattle.rbd_script.specs.Name.{is_at_sign, name_of_token as name_in, snap_of_token as snap_in, target_of as target_in};
 
 use crate::fault::{LineCause, PartFault};
 use crate::place::place_of;
@@ -10,7 +10,7 @@ use rbd_kinds::{AskedName, Bytes};
 use std::alloc::Global;
 
 /// The name that the token spells.
-#[tactic(auto, unfolding(crate::specs::Name::name_of))]
+#[tactic(auto, unfolding(crate::specs::Name::name_of_token))]
 pub fn name_of(alloc: Global, token: &[u8]) -> Result<AskedName, PartFault>
     ensures { Gives result (name_in token.now) }
 {
@@ -26,7 +26,7 @@ pub fn name_of(alloc: Global, token: &[u8]) -> Result<AskedName, PartFault>
 }
 
 /// The image and the snapshot of `IMAGE@SNAP`.
-#[tactic(auto, unfolding(crate::specs::Name::snap_of))]
+#[tactic(auto, unfolding(crate::specs::Name::snap_of_token))]
 pub fn snap_of(alloc: Global, token: &[u8]) -> Result<(AskedName, AskedName), PartFault>
     ensures { Gives result (snap_in token.now) }
 {
@@ -40,8 +40,8 @@ pub fn snap_of(alloc: Global, token: &[u8]) -> Result<(AskedName, AskedName), Pa
 
 /// What stands before the first `@`, and what behind it.
 fn halves(token: &[u8]) -> Option<(&[u8], &[u8])>
-    ensures found { IfSome result (λ t. (t.0.now ≡ before_first is_at token.now) × (t.1.now ≡ after_first is_at token.now)) }
-    ensures none { IfNone result (after_first is_at token.now ≡ []) }
+    ensures found { IfSome result (λ t. (t.0.now ≡ before_first is_at_sign token.now) × (t.1.now ≡ after_first is_at_sign token.now)) }
+    ensures none { IfNone result (after_first is_at_sign token.now ≡ []) }
 {
     let (image, behind) = token.split_at(place_of(b'@', token));
     match behind {
@@ -64,7 +64,7 @@ pub fn target_of(alloc: Global, token: &[u8]) -> Result<(AskedName, Option<Asked
 }
 
 fn has_at(token: &[u8]) -> bool
-    ensures { result ≡ list_any is_at token.now }
+    ensures { result ≡ list_any is_at_sign token.now }
 {
     token.iter().any(|&byte| byte == b'@')
 }

@@ -2,7 +2,7 @@
 ghost use Rattle.std.specs.Prelude.{◌≡◌, ◌*◌, length, IsTrue, OnOk, IfOk, IfErr};
 ghost use Rattle.std.specs.List.{list_all};
 ghost use Rattle.rbd_script.specs.Fault.{Gives};
-ghost use Rattle.rbd_script.specs.Hex.{are_pairs, byte_of as byte_in, bytes_of as bytes_in, bytes_of_pairs, digit_of, IsFaultOf, is_hex_digit, pair_of};
+ghost use Rattle.rbd_script.specs.Hex.{are_pairs, byte_of_digits as byte_in, bytes_of_digits as bytes_in, bytes_of_pairs, digit_of, IsFaultOf, is_hex_digit, pair_of};
 
 use crate::fault::{LineCause, PartFault};
 use rbd_kinds::{Bytes, Payload};
@@ -24,7 +24,7 @@ const VALUES: [u8; 256] = [
 ];
 
 /// The 1 to 65,536 bytes that the token spells, in memory that copies and slices of them share.
-#[tactic(auto, unfolding(crate::specs::Hex::bytes_of))]
+#[tactic(auto, unfolding(crate::specs::Hex::bytes_of_digits))]
 pub fn payload_of(alloc: Global, token: &[u8]) -> Result<Payload, PartFault>
     ensures { Gives result (bytes_in token.now) }
 {
@@ -74,7 +74,7 @@ fn read_pairs(token: &[u8], bytes: &mut [u8]) -> bool
 }
 
 /// The byte of one pair.
-#[tactic(auto, unfolding(crate::specs::Hex::byte_of))]
+#[tactic(auto, unfolding(crate::specs::Hex::byte_of_digits))]
 pub fn byte_of(token: &[u8]) -> Result<u8, PartFault>
     ensures { Gives result (byte_in token.now) }
 {

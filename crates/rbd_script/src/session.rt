@@ -2,7 +2,7 @@
 ghost use Rattle.std.specs.Prelude.{◌≡◌, ◌<◌, ◌≤◌, length, position, OnOk};
 ghost use Rattle.std.specs.List.{list_all, list_any};
 ghost use Rattle.rbd_script.specs.Fault.{Gives};
-ghost use Rattle.rbd_script.specs.Session.{is_letter_or_digit, is_named, is_session_name as is_session_name_in, new_session_of as new_session_in, session_of as session_in};
+ghost use Rattle.rbd_script.specs.Session.{is_letter_or_digit, has_session_name, is_session_name as is_session_name_in, new_session_of as new_session_in, session_of_token as session_in};
 
 use crate::fault::{LineCause, PartFault, known};
 use crate::script::Sessions;
@@ -14,7 +14,7 @@ use std::alloc::Global;
 const SESSION_LIMIT: usize = 32;
 
 /// The number of the session that was declared by the name.
-#[tactic(auto, unfolding(crate::specs::Session::session_of))]
+#[tactic(auto, unfolding(crate::specs::Session::session_of_token))]
 pub fn session_of(sessions: &Sessions, token: &[u8]) -> Result<SessionNo, PartFault>
     requires { length sessions.now ≤ 32 }
     ensures { Gives result (session_in sessions.now token.now) }
@@ -24,7 +24,7 @@ pub fn session_of(sessions: &Sessions, token: &[u8]) -> Result<SessionNo, PartFa
 }
 
 fn place_of_session(sessions: &Sessions, token: &[u8]) -> Option<usize>
-    ensures { result ≡ position (is_named token.now) sessions.now }
+    ensures { result ≡ position (has_session_name token.now) sessions.now }
 {
     sessions
         .as_slice()
@@ -49,7 +49,7 @@ pub fn new_session_of(alloc: Global, sessions: &Sessions, token: &[u8]) -> Resul
 }
 
 fn is_declared(sessions: &Sessions, token: &[u8]) -> bool
-    ensures { result ≡ list_any (is_named token.now) sessions.now }
+    ensures { result ≡ list_any (has_session_name token.now) sessions.now }
 {
     sessions
         .as_slice()

@@ -3,7 +3,7 @@ ghost use Rattle.std.specs.Prelude.{◌≡◌};
 ghost use Rattle.rbd_kinds.specs.Operation.{op_word};
 ghost use Rattle.rbd_script.specs.Fault.{Gives};
 ghost use Rattle.rbd_script.specs.Token.{is as is_in};
-ghost use Rattle.rbd_script.specs.Word.{all_kinds, kind_of as kind_in, site_of as site_in, with_word};
+ghost use Rattle.rbd_script.specs.Word.{all_kinds, kind_of_token as kind_in, site_of_token as site_in, with_word};
 
 use crate::fault::{LineCause, PartFault, known};
 use rbd_kinds::{OpKind, SiteId};
@@ -16,7 +16,7 @@ pub fn is(token: &[u8], word: &str) -> bool
 }
 
 /// The site of the token.
-#[tactic(auto, unfolding(crate::specs::Word::site_of))]
+#[tactic(auto, unfolding(crate::specs::Word::site_of_token))]
 pub fn site_of(token: &[u8]) -> Result<SiteId, PartFault>
     ensures { Gives result (site_in token.now) }
 {
@@ -30,7 +30,7 @@ pub fn site_of(token: &[u8]) -> Result<SiteId, PartFault>
 }
 
 /// The kind of operation that has the token as its word.
-#[tactic(auto, unfolding(crate::specs::Word::kind_of))]
+#[tactic(auto, unfolding(crate::specs::Word::kind_of_token))]
 pub fn kind_of(token: &[u8]) -> Result<OpKind, PartFault>
     ensures { Gives result (kind_in token.now) }
 {

@@ -1,6 +1,2 @@
-pub mod Advance
-pub mod Lines
-pub mod Session
-pub mod OnTrack
-pub mod Track
-pub mod Waits
+pub mod Close
+pub mod Meaning

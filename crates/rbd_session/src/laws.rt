@@ -1,112 +1,110 @@
-//! What follows for every session: each law is the contract of a function that does nothing.
-ghost use Rattle.std.specs.Prelude.{◌≡◌, ◌≢◌, ◌⊎◌, ℕ, Option, false, ◌∷◌, Some, None, IsTrue, IsFalse, List};
-ghost use Rattle.rbd_kinds.specs.declared.id.SiteId.{SiteId as Site};
-ghost use Rattle.rbd_course.specs.declared.stage.Stage.TheVariants.{Waiting};
-ghost use Rattle.rbd_kinds.specs.Sharing.{go_together, is_alone};
-ghost use Rattle.rbd_line.specs.Line.{Member, member_of, is_member, is_past, is_past_in, ahead, holds};
+//! What the plans of requests keep to, and what a close does: laws, each the contract of a function
+//! that does nothing.
+ghost use Rattle.std.specs.Prelude.{◌≡◌, ℕ, Bool, true, false, List, [], ◌∷◌, ◌++◌, None};
+ghost use Rattle.rbd_kinds.specs.declared.answer.Answer.{Answer};
+ghost use Rattle.rbd_kinds.specs.declared.answer.Answer.TheVariants.{Done as DoneSo};
+ghost use Rattle.rbd_commands.specs.declared.command.Command.{Command};
+ghost use Rattle.rbd_kinds.specs.declared.id.SiteId.{SiteId};
 ghost use Rattle.rbd_kinds.specs.declared.machine.Fed.{Fed};
+ghost use Rattle.rbd_kinds.specs.declared.notice.NoticeKind.{NoticeKind};
+ghost use Rattle.rbd_kinds.specs.declared.notice.NoticeKind.TheVariants.{ReleasedLock};
 ghost use Rattle.rbd_kinds.specs.declared.reply.Reply.{Reply};
-ghost use Rattle.rbd_session.specs.Advance.{track_of};
-ghost use Rattle.rbd_session.specs.Lines.{lines_of};
-ghost use Rattle.rbd_session.specs.Session.{SessionView, IsSoundSession, IsAtOwnLook, IsAlike, IsReadied, IsFed, held_in, running_at, kind_at, own_look_in, own_look_at};
-ghost use Rattle.rbd_session.specs.OnTrack.{LeavesOthers};
-ghost use Rattle.rbd_session.specs.Track.{ended_by};
-ghost use Rattle.rbd_session.specs.Waits.{waits};
-ghost use Rattle.rbd_kinds.specs.declared.image_at.ImageAt.{ImageAt};
-ghost use Rattle.rbd_session.specs.declared.running.Running.{Running};
+ghost use Rattle.rbd_machine.specs.Course.{beginning};
+ghost use Rattle.rbd_machine.specs.Orderly.{IsOrderlyFrom};
+ghost use Rattle.rbd_machine.specs.Lawful.{IsLawfulRequest};
+ghost use Rattle.rbd_machine.specs.Path.{Answered, IsBounded, IsWalk};
+ghost use Rattle.rbd_machine.specs.Plan.{Plan, Return, Goto, IsClosed, without_labels};
+ghost use Rattle.rbd_machine.specs.Refused.{AreGiven};
+ghost use Rattle.rbd_machine.specs.declared.seat.Seat.{Seat};
+ghost use Rattle.rbd_meaning.specs.Meant.{IsMeantBy};
+ghost use Rattle.rbd_lock.specs.Order.{EndsWith};
+ghost use Rattle.rbd_lock.specs.Steps.{lock_drop};
+ghost use Rattle.rbd_lock.specs.Waiting.{owned_by};
+ghost use Rattle.rbd_session.specs.Close.{is_close, close_plan, close, notify, quiesce, resume, tell, unwatch};
+ghost use Rattle.rbd_session.specs.Meaning.{answered_with, Ends, IsBehindLettingGo, IsDropBehind};
 
-use rbd_course::Request;
-
-/// While a request that is alone is past its look under the lock, no other request of the image is:
-/// nothing else of this client changes the image beside it.
-pub fn alone_is_alone<R: Request>()
-    ensures { (s : SessionView R) (site : Site) (image : ℕ) (one other : Member)
-        → IsSoundSession R.stands s
-        → member_of one.slot (lines_of s.lines site image) ≡ Some one → member_of other.slot (lines_of s.lines site image) ≡ Some other
-        → one.slot ≢ other.slot → IsTrue (is_alone one.sharing) → IsTrue (is_past one.stage) → IsFalse (is_past other.stage) }
+/// No plan of these four commands begins a part again.
+pub fn plans_go_to_no_label()
+    ensures { (home : SiteId) (command : Command) → IsClosed Goto (close_plan home command) }
 {}
 
-/// Two requests of an image that don't go together aren't past their looks under the lock at once,
-/// and the later one waits at its look under the lock for the end of the earlier: a discard for
-/// that of each flatten ahead of it, a flatten for that of each discard and flatten. Nobody asks
-/// for its operation.
-pub fn who_doesnt_go_together_waits<R: Request>()
-    ensures past { (s : SessionView R) (site : Site) (image : ℕ) (one other : Member)
-        → IsSoundSession R.stands s
-        → member_of one.slot (lines_of s.lines site image) ≡ Some one → member_of other.slot (lines_of s.lines site image) ≡ Some other
-        → one.slot ≢ other.slot → IsFalse (go_together one.sharing other.sharing)
-        → IsTrue (is_past one.stage) → IsFalse (is_past other.stage) }
-
-    ensures waits { (s : SessionView R) (slot : ℕ) (r : Running R) (p : ImageAt) (one own : Member)
-        → running_at slot s ≡ Some r → r.place ≡ Some p
-        → member_of slot (lines_of s.lines p.site p.image) ≡ Some own → own.stage ≡ Waiting
-        → member_of one.slot (lines_of s.lines p.site p.image) ≡ Some one
-        → IsTrue (is_member one.slot (ahead slot (lines_of s.lines p.site p.image)))
-        → IsFalse (go_together one.sharing own.sharing)
-        → kind_at R.stands slot s ≡ None }
+/// A `close` has four operations at most, a `quiesce` three, a `resume` one and a `tell` two.
+pub fn plans_are_short()
+    ensures close { (site : SiteId) (image : List ℕ) → IsBounded (close site image) 4 }
+    ensures quiesce { (site : SiteId) (image : List ℕ) → IsBounded (quiesce site image) 3 }
+    ensures resume { (site : SiteId) (image : List ℕ) → IsBounded (resume site image) 1 }
+    ensures tell { (site : SiteId) (image bytes : List ℕ) → IsBounded (tell site image bytes) 2 }
 {}
 
-/// A request whose next piece changes an object that one ahead of it in its line has a ticket for
-/// waits: nobody asks for its operation. So writes change each object in the order in which they
-/// joined.
-pub fn pieces_go_in_line<R: Request>()
-    ensures { (s : SessionView R) (slot object : ℕ) (r : Running R) (p : ImageAt) (one : Member)
-        → running_at slot s ≡ Some r → r.place ≡ Some p → r.turn ≡ Some object
-        → member_of one.slot (lines_of s.lines p.site p.image) ≡ Some one
-        → IsTrue (is_member one.slot (ahead slot (lines_of s.lines p.site p.image)))
-        → IsTrue (holds object one)
-        → kind_at R.stands slot s ≡ None }
+/// The requests keep to their line. A `close` and a `quiesce` join it as the first thing after
+/// their look-up was answered, and wait there; a `resume` and a `tell` wait for nothing. None takes
+/// turns at objects.
+pub fn requests_are_orderly()
+    ensures { (home : SiteId) (command : Command)
+        → IsOrderlyFrom None true beginning (without_labels (close_plan home command)) }
 {}
 
-/// The first request of a line never waits: each line goes on.
-pub fn first_goes_on<R: Request>()
-    ensures { (s : SessionView R) (site : Site) (image : ℕ) (m : Member) (members : List Member) (r : Running R)
-        → IsSoundSession R.stands s → lines_of s.lines site image ≡ m ∷ members → running_at m.slot s ≡ Some r
-        → waits m.slot (track_of r s.lines) ≡ false }
+/// The requests begin with no knowledge and ask only for what they may. So a `close` drops a lock
+/// only where it waited for it, alone, and looked at no header since.
+pub fn requests_are_lawful()
+    ensures { (home : SiteId) (command : Command) → IsLawfulRequest (without_labels (close_plan home command)) }
 {}
 
-/// Who is in a line runs, and is in no other line.
-pub fn members_run<R: Request>()
-    ensures { (s : SessionView R) (slot : ℕ) (site : Site) (image : ℕ) (m : Member)
-        → IsSoundSession R.stands s → member_of slot (lines_of s.lines site image) ≡ Some m
-        → (r : Running R) × (running_at slot s ≡ Some r) × (r.place ≡ Some (record { site = site; image = image })) }
+/// A `close` that found its image drops the lock. It tells the watchers exactly where the drop was
+/// done. It ends its watch where the drop was done and told of, or was answered `changed`.
+pub fn closes_let_go()
+    ensures { (site : SiteId) (image : List ℕ) (feds : List Fed) (steps : List Answered) (reply : Reply)
+        → IsWalk Goto (close site image) feds steps (Return reply) → Ends site image steps }
 {}
 
-/// Who stands at its look under the lock is in that image's line, waits there for it, and may go
-/// past it.
-pub fn own_looks_are_in_line<R: Request>()
-    ensures { (s : SessionView R) (slot : ℕ) (p : ImageAt) → own_look_at R.stands slot s ≡ Some p → IsAtOwnLook slot p s }
+/// From its drop on the session counts the lock as let go, whatever the drop was answered, and
+/// wherever the `close` stands or ends. Before the drop the lock counts as it did.
+pub fn closes_count_as_released()
+    ensures dropped { (site : SiteId) (name : List ℕ) (owned : Bool) (feds : List Fed) (before after : List Answered)
+        (image : ℕ) (a : Answer) (last : Plan)
+        → IsWalk Goto (close site name) feds (before ++ answered_with site (lock_drop image) a ∷ after) last
+        → owned_by owned (before ++ answered_with site (lock_drop image) a ∷ after) ≡ false }
+    ensures found { (site : SiteId) (name : List ℕ) (owned : Bool) (feds : List Fed) (first : Answered) (last : Plan)
+        → IsWalk Goto (close site name) feds (first ∷ []) last → owned_by owned (first ∷ []) ≡ owned }
+    ensures second { (site : SiteId) (name : List ℕ) (feds : List Fed) (first second : Answered)
+        (more : List Answered) (last : Plan)
+        → IsWalk Goto (close site name) feds (first ∷ second ∷ more) last → IsDropBehind site name first second }
 {}
 
-/// A feeding takes nobody past its look under the lock but the request that is fed, and that one
-/// only at its look under the lock. Whoever else is past its look under the lock behind it was past
-/// its look under the lock before.
-pub fn passing_comes_by_own_looks<R: Request>()
-    ensures { (s new : SessionView R) (slot : ℕ) (f : Fed) (reply : Option Reply)
-        → IsReadied R.stands R.is_ready slot f s → IsFed R.stands slot f reply s new
-        → LeavesOthers slot (lines_of s.lines) (lines_of new.lines)
-        → (k : ℕ) (site : Site) (image : ℕ) → IsTrue (is_past_in (member_of k (lines_of new.lines site image)))
-        → IsTrue (is_past_in (member_of k (lines_of s.lines site image)))
-        ⊎ ((k ≡ slot) × (own_look_at R.stands slot s ≡ Some (record { site = site; image = image }))) }
+/// Wherever a `close` stands or ends, the only notice that it sent is that the lock was let go, and
+/// it sent that directly behind a drop that was done. It ended its watch only directly behind that
+/// notice, once this was done, or behind a drop that was answered `changed`.
+pub fn closes_are_in_order()
+    ensures told { (site : SiteId) (name : List ℕ) (feds : List Fed) (before after : List Answered) (image : ℕ)
+        (kind : NoticeKind) (a : Answer) (last : Plan)
+        → IsWalk Goto (close site name) feds (before ++ answered_with site (notify image kind) a ∷ after) last
+        → (kind ≡ ReleasedLock) × EndsWith (answered_with site (lock_drop image) DoneSo) before }
+    ensures unwatched { (site : SiteId) (name : List ℕ) (feds : List Fed) (before after : List Answered) (image : ℕ)
+        (a : Answer) (last : Plan)
+        → IsWalk Goto (close site name) feds (before ++ answered_with site (unwatch image) a ∷ after) last
+        → IsBehindLettingGo site image before }
 {}
 
-/// What other slots do leaves a request at the look under the lock at which it stands, be it that
-/// it waits there. Where one of them is fed or given up, who could go on there still may. To make a
-/// request ready changes nothing of this.
-pub fn own_looks_stay<R: Request>()
-    ensures stands { (s new : SessionView R) (slot other : ℕ) → slot ≢ other
-        → held_in slot new.slots ≡ held_in slot s.slots → LeavesOthers other (lines_of s.lines) (lines_of new.lines)
-        → own_look_in R.stands slot new.lines (running_at slot new) ≡ own_look_in R.stands slot s.lines (running_at slot s) }
+/// A `quiesce`, a `resume` and a `tell` neither take a lock nor drop one by an operation of their
+/// own: wherever one stands or ends, the lock counts as before.
+pub fn others_leave_the_lock()
+    ensures quiesce { (site : SiteId) (name : List ℕ) (owned : Bool) (feds : List Fed)
+        (steps : List Answered) (last : Plan)
+        → IsWalk Goto (quiesce site name) feds steps last → owned_by owned steps ≡ owned }
+    ensures resume { (site : SiteId) (name : List ℕ) (owned : Bool) (feds : List Fed)
+        (steps : List Answered) (last : Plan)
+        → IsWalk Goto (resume site name) feds steps last → owned_by owned steps ≡ owned }
+    ensures tell { (site : SiteId) (name bytes : List ℕ) (owned : Bool) (feds : List Fed)
+        (steps : List Answered) (last : Plan)
+        → IsWalk Goto (tell site name bytes) feds steps last → owned_by owned steps ≡ owned }
+{}
 
-    ensures fed { (s new : SessionView R) (slot other : ℕ) (p : ImageAt) (f : Fed) (reply : Option Reply)
-        → IsSoundSession R.stands s → slot ≢ other → held_in slot new.slots ≡ held_in slot s.slots
-        → IsFed R.stands other f reply s new → LeavesOthers other (lines_of s.lines) (lines_of new.lines)
-        → own_look_at R.stands slot s ≡ Some p → own_look_at R.stands slot new ≡ Some p }
-
-    ensures given_up { (s new : SessionView R) (slot other : ℕ) (p : ImageAt) (r : Running R)
-        → IsSoundSession R.stands s → slot ≢ other → held_in slot new.slots ≡ held_in slot s.slots
-        → lines_of new.lines ≡ (ended_by other (track_of r s.lines)).lines
-        → own_look_at R.stands slot s ≡ Some p → own_look_at R.stands slot new ≡ Some p }
-
-    ensures readied { (s new : SessionView R) (slot : ℕ) → IsAlike R.stands s new → own_look_at R.stands slot new ≡ own_look_at R.stands slot s }
+/// Each reply is one that the command means after the operations that were done (`IsMeantBy` of
+/// `rbd_meaning`): a request that isn't refused was done, and a refused one was refused by its last
+/// answer and by none before. Only a `close` may be refused after its drop; the others have changed
+/// nothing then. It holds where each answer is one that its operation can give.
+pub fn replies_are_meant()
+    ensures { (seat : Seat) (command : Command) (feds : List Fed) (steps : List Answered) (reply : Reply)
+        → is_close command ≡ true → AreGiven steps
+        → IsWalk Goto (close_plan seat.home command) feds steps (Return reply) → IsMeantBy seat command steps reply }
 {}

@@ -1,93 +1,91 @@
-//! One client's requests, each in a slot, and who of them may go on.
+//! Requests that close an image, hold its changes back and let them go on, or tell its watchers
+//! something, as machines that want one thing at a time.
 //!
 //! ```text
-//! let mut session: Session<SessionRequest> = Session::new(alloc, c1, SiteId::A)?;
-//! let one = session.submit(alloc, 3, write)?;    // slot 1
-//! let two = session.submit(alloc, 4, snap)?;     // slot 2: a `snap create` of the same image
-//! session.kind(one)                              // site A, dir-find
-//! let fed = Fed::Answer(Answer::Id(7));
-//! session.ready(alloc, one, &fed)?;              // all memory that this answer needs
-//! session.feed(one, &fed)                        // None: it is in the line of image 7
-//! session.kind(one)                              // site A, header-get
-//! ..                                             // slot 2 joins behind it, and looks too
-//! session.kind(two)                              // None: it is alone, and slot 1 is ahead
+//! let mut request = CloseRequest::new(SiteId::A, close);  // of the image `disk`
+//! request.next(alloc)?              // dir-find disk
+//! request.feed(&id)                 // More: the answer was `id 1`
+//! request.wants()                   // to join the line of image 1, alone
+//! request.feed(&Fed::Passed)        // More
+//! request.wants()                   // to hold until the requests before it have ended
+//! request.feed(&Fed::Passed)        // More
+//! request.next(alloc)?              // lock-drop
+//! request.feed(&done)               // More
+//! request.next(alloc)?              // notify ReleasedLock
+//! request.feed(&done)               // More
+//! request.next(alloc)?              // unwatch
+//! request.feed(&done)               // Done(Reply::Done)
 //! ```
 //!
 //! # Rules
 //!
-//! A request that changes an image *joins* the image's line at the answer by which it found it,
-//! alone or beside others. It reads the header, waits for the lock, and reads the header again: that
-//! is its *look under the lock*. Until then it is asked anew, at each look at the slot, whether it
-//! may go on.
+//! | command | steps | refused |
+//! |---|---|---|
+//! | `close` | `dir-find`, alone in the line, `lock-drop`; where that is `done`, `notify` ReleasedLock; then `unwatch` | NoImage |
+//! | `quiesce` | to its look under the lock, alone | NoImage |
+//! | `resume` | `dir-find` | NoImage |
+//! | `tell` | `dir-find`, `notify` Custom | NoImage |
 //!
-//! | a request | may go past its look under the lock when |
-//! |---|---|
-//! | beside others (`write`, `fill`) | each one ahead of it is past its look under the lock, and none is alone |
-//! | a `discard` | the same, and no `flatten` is ahead of it (there is no such command yet) |
-//! | alone (`snap create`, `snap rm`) | nobody is ahead of it |
+//! - An operation that is answered `none` ends a request with NoImage, and one that is answered
+//!   `fenced` with Fenced.
+//! - **`close`** (Ceph: closing an image releases its exclusive lock, by librbd's `ReleaseRequest`,
+//!   and unregisters its watch; the order of the operations is own) takes no lock and makes no look
+//!   under the lock. It gives up what the session has, or may have: where its `lock-drop` is
+//!   answered `changed`, the lock is another's or nobody's, and then there is nothing to tell, but
+//!   the watch still ends. Whatever the `lock-drop` is answered, the session counts the lock as let
+//!   go from then on (`rbd_lock`), an asking as answered, and a quiesce as ended (own).
+//! - **`quiesce`** (Ceph: a client of librbd quiesces its writes for a snapshot; that a session
+//!   does so by a command, for its own requests alone, is own) goes the way of a change to its look
+//!   under the lock ([`Approach`](rbd_machine::Approach)), and refuses nothing by the header: a
+//!   secondary may be quiesced. The session counts the image as quiesced from that look on.
+//! - **`resume`** joins no line, since the requests in it wait for it. It ends the quiesce of its
+//!   own session alone, and is done without one, too (own).
+//! - **`tell`** needs neither lock nor line (Ceph: a notification on the header object, as librbd
+//!   sends them; what it says is the client's own). The notice goes to each watcher but the sender,
+//!   and may come late, never, or several times.
 //!
-//! - So nobody is past its look under the lock beside one that is alone and past its look under the
-//!   lock. Who has ended is in no line.
-//! - With its look under the lock answered a request beside others takes a ticket for each object
-//!   that it changes, ascending: those of its extent by the layout that this look told. It does the
-//!   piece of an object only while nobody ahead of it in the line has a ticket there. The ticket
-//!   goes at the end of the piece, which is where the request next wants a turn, or that its event
-//!   counts as applied; with the end of the request all its tickets go. So writes change each
-//!   object in the order in which they joined.
-//! - A look, a listing and a `create` join no line and never wait.
-//! - A request that is given up leaves its line wherever it stands, and all its tickets go. An
-//!   image is at rest while no request of it is past its look under the lock.
-//! - What a request wants beside operations it has at once: no image has a journal yet, so an
-//!   event's note and its being applied take no step, and a session counts as having every lock.
+//! # What a session makes of the waits
+//!
+//! A `close` and a `quiesce` want to join their line and then to hold (`Join`, `Hold`), as each
+//! change does, since a machine has no other words for a wait. What it takes until they are fed at
+//! their `Hold` is the session's rule, which goes by the command:
+//!
+//! | | `quiesce` | `close` |
+//! |---|---|---|
+//! | the earlier requests of the line | have ended | have ended |
+//! | the lock | is taken, where the session hasn't it | isn't taken |
+//! | a quiesce, or an asking for the lock | holds it back | doesn't hold it back |
+//! | later requests of the line | wait until it has ended | wait until it has ended |
+//! | a release | waits for it from its `lock-take` on | doesn't wait for it |
 //!
 //! # Contracts
 //!
-//! Contracts see a session as a record (`SessionView`): its instance and home, what each slot
-//! holds, and the line of each image, as its members in order (`rbd_line`). A request is seen as
-//! itself; where it stands is told by the `stands` of its type, which clauses take as an argument,
-//! as the session names no request ([`Request`](rbd_course::Request)). The definitions are read in
-//! this order.
-//!
 //! | file | what it says |
 //! |---|---|
-//! | `specs/Track.antt` | where a request stands in its line, and what each wait and each answer makes of that (`waited_by`, `answered_by`); `run`: up to its next operation |
-//! | `specs/Waits.antt` | when a slot waits |
-//! | `specs/Lines.antt` | the lines of all images, by image |
-//! | `specs/OnTrack.antt` | what holds of each request on its way |
-//! | `specs/Advance.antt` | what is ready before a feeding (`IsFedWell`), and what comes of it (`ComesTo`) |
-//! | `specs/Session.antt` | the record, what holds of each session (`IsSoundSession`), at whose look under the lock a slot stands (`own_look_at`), and the clauses of its calls |
+//! | `specs/Close.antt` | the plan of each command, and what is left of a request |
+//! | `specs/Meaning.antt` | what a close did, up to any end of it (`Ends`), and what stands behind what |
 //!
-//! [`laws`] says who is past its look under the lock beside whom and whose piece waits, and that
-//! the first of a line never does. It says who stands at its look under the lock too: nobody else
-//! goes past its look under the lock when it is fed, and what others do leaves it there.
+//! A request that is made has the plan of its command left, and each of its calls keeps to it
+//! ([`Machine`](rbd_machine::Machine)). [`laws`] says how many operations each plan has at most,
+//! that none begins a part again, that each keeps to its line (`rbd_machine`), that each is lawful
+//! from nothing known (`rbd_machine`), and what each reply means. Of a close it says, on every
+//! path: that its lock counts as let go from its drop on, that it tells of a drop exactly where
+//! that was done, and that its watch ends behind a drop that was done and told of, or that was
+//! `changed`. The others neither take a lock nor drop one by an operation of their own.
 //!
 //! # Cost
 //!
-//! `kind`, `next`, `own_look` and `ready` look up a slot and a line, and go through those ahead in
-//! this one line, at most 63; a turn is one look-up. `is_at_rest` goes through one line. `feed`
-//! goes to the next operation, and costs what it passes; `give_up` costs what the tickets do.
-//! `free` looks at one number, and `submit` goes from there to the next free slot. Memory is taken
-//! by `new`, `submit`, `next` and `ready` alone: `ready` takes a line for the next image, and room
-//! for the tickets.
+//! A request holds the parts of its command, without a copy. `dir-find` copies the name, and the
+//! `notify` of a `tell` its bytes, each time that it is asked for. Nothing else takes memory.
 //!
 //! # How it works
 //!
-//! Slots are a list of 65, of which the first is never held. Lines are a hash table by image, each
-//! a `Line` of `rbd_line`, which goes with its last member; one that is empty is kept ready. A
-//! request is fed in its slot: it is large, and isn't moved.
+//! The four commands are one machine: a [`CloseRequest`] holds the stage at which it stands, with
+//! what the stages behind it need. Where an image is found, it also holds what for.
 #![tactic(auto)]
 
-mod advance;
-mod feeding;
 pub mod laws;
-mod lines;
-mod own_look;
-mod prepare;
-mod running;
-mod session;
-mod slots;
-mod waits;
-mod wanted;
+mod operations;
+mod request;
 
-pub use running::{Occupant, Running};
-pub use session::Session;
+pub use request::CloseRequest;

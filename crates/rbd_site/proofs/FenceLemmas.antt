@@ -25,8 +25,8 @@ use Rattle.rbd_kinds.specs.declared.operation.Op.TheVariants as on
 use Rattle.rbd_kinds.specs.Header.{snap_named}
 use Rattle.rbd_kinds.specs.Instances.{same_instance}
 use Rattle.rbd_header.specs.Header.{is_full, snap_in}
-use Rattle.rbd_registry.specs.Directory.{Listing, id_of, is_full as is_full_directory, holds}
-use Rattle.rbd_object.specs.Mapped.{Mapped, looked}
+use Rattle.rbd_registry.specs.Directory.{Listing, id_of, is_full as is_full_directory, holds_id}
+use Rattle.rbd_object.specs.Mapped.{Mapped, versioned}
 use Rattle.rbd_object.specs.Versioned.{view}
 use Rattle.rbd_site.specs.ChildrenStep.{Entries, entry, children_answer}
 use Rattle.rbd_site.specs.DataStep.{blank_answer, finds, parts_read}
@@ -65,7 +65,7 @@ directory_serves d (dir.Add name) = go (id_of d name) (is_full_directory d)
     go (Some image) full = refl
     go None true = refl
     go None false = refl
-directory_serves d (dir.Remove image) = of_done (holds image d)
+directory_serves d (dir.Remove image) = of_done (holds_id image d)
 directory_serves d (dir.Rename from to) = go (id_of d from) (id_of d to)
   where
     go : (a b : Option ℕ) → is_refusal (name_changed a b) ≡ false
@@ -100,7 +100,7 @@ header_serves me (Some h) w (head.LockBreak owner) = of_two (is_owner owner h.ow
 header_serves me (Some h) w o = refl
 
 data_serves : (o : Mapped) (d : DataOp) → is_refusal (blank_answer o d) ≡ false
-data_serves o (data_op.Read snap parts) = go (view (looked o) snap)
+data_serves o (data_op.Read snap parts) = go (view (versioned o) snap)
   where
     go : (content : Option (List ℕ)) → is_refusal (parts_read parts content) ≡ false
     go None = refl

@@ -13,7 +13,7 @@ use Rattle.rbd_kinds.specs.declared.id.Instance.{Instance}
 use Rattle.rbd_kinds.specs.declared.layout.Layout.{Layout}
 use Rattle.rbd_kinds.specs.Header.{snap_named}
 use Rattle.rbd_kinds.specs.Form.{HasFewObjects, IsOverlapWithin, IsSnapInForm, IsHeaderInForm}
-use Rattle.rbd_header.specs.Header.{is_full, snap_in, snap_taken, marked, with_size, with_snap, with_status, without_snap}
+use Rattle.rbd_header.specs.Header.{is_full, snap_in, snap_taken, status_marked, with_size, with_snap, with_status, without_snap}
 use Rattle.rbd_header.proofs.Changed.{cut_within}
 use Rattle.rbd_site.specs.HeaderStep.{MayDoOnHeader, header_then, header_after, is_owner, where_made}
 use Rattle.rbd_kinds.specs.declared.operation.Op.{Op}
@@ -78,7 +78,7 @@ unlisted t h form =
       depth = form.depth;
     }
 
-marked_form : (t : ℕ) (status : SnapStatus) (layout : Layout) (s : SnapView) → IsSnapInForm layout s → IsSnapInForm layout (marked t status s)
+marked_form : (t : ℕ) (status : SnapStatus) (layout : Layout) (s : SnapView) → IsSnapInForm layout s → IsSnapInForm layout (status_marked t status s)
 marked_form t status layout s form = go (eqb s.id t)
   where
     go : (b : Bool) → IsSnapInForm layout (cond b (record s { status = status }) s)
@@ -91,7 +91,7 @@ statused t status h form = record {
   objects = form.objects;
   born = form.born;
   overlap = form.overlap;
-  snaps = each_mapped (IsSnapInForm h.layout) (marked t status) (marked_form t status h.layout) h.snaps form.snaps;
+  snaps = each_mapped (IsSnapInForm h.layout) (status_marked t status) (marked_form t status h.layout) h.snaps form.snaps;
   few = rw length-map form.few;
   rising = risen_marked t status h.snap_seq h.snaps form.rising;
   depth = form.depth;

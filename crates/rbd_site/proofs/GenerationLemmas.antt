@@ -16,7 +16,7 @@ use Rattle.rbd_kinds.specs.declared.operation.Op.TheVariants as on
 use Rattle.rbd_kinds.specs.declared.layout.Part.{Part}
 use Rattle.rbd_kinds.specs.Header.{snap_named}
 use Rattle.rbd_header.specs.Header.{is_full, snap_in, with_size, with_snap, with_status, without_snap, detached, with_role, in_step}
-use Rattle.rbd_object.specs.Mapped.{Mapped, looked}
+use Rattle.rbd_object.specs.Mapped.{Mapped, versioned}
 use Rattle.rbd_object.specs.Versioned.{view}
 use Rattle.rbd_site.specs.DataStep.{parts_read, where_object_done}
 use Rattle.rbd_site.specs.HeaderStep.{header_after, there_after, is_owner, where_made}
@@ -75,8 +75,8 @@ look_served r me (on.Header image (head.Notify kind)) look =
     with_header_same image (header_after me (r.headers image) (head.Notify kind)) (with_watchers image w r) (header_told me kind (r.headers image))
     ∙ with_watchers_same image w r (watchers_told me kind (r.headers image) (r.watchers image))
 look_served r me (on.Data image number (data_op.Read snap parts)) look =
-    with_object_same image number (where_object_done (parts_read parts (view (looked (or_blank (r.objects image number))) snap)) (or_blank (r.objects image number)) (r.objects image number)) r
-    (object_read parts (view (looked (or_blank (r.objects image number))) snap) (or_blank (r.objects image number)) (r.objects image number))
+    with_object_same image number (where_object_done (parts_read parts (view (versioned (or_blank (r.objects image number))) snap)) (or_blank (r.objects image number)) (r.objects image number)) r
+    (object_read parts (view (versioned (or_blank (r.objects image number))) snap) (or_blank (r.objects image number)) (r.objects image number))
 look_served r me (on.Map image (states.Get snap)) look = with_map_same image snap (r.maps image snap) r refl
 look_served r me op look = absurd (true≢false (sym look))
 

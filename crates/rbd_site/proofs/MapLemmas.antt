@@ -16,7 +16,7 @@ use Rattle.rbd_map.proofs.Packing.{are_states-padded, are_states-set, hold_state
 use Rattle.rbd_site.specs.declared.map_key.MapKey.{MapKey}
 use Rattle.rbd_site.specs.InForm.{IsMapInForm}
 use Rattle.rbd_site.specs.Maps.{map_in, map_key, map_key_cmp}
-use Rattle.rbd_site.specs.MapStep.{AreBits, MayDoOnMap, lengthened, map_after, states_told}
+use Rattle.rbd_site.specs.MapStep.{AreBits, MayDoOnMap, lengthened, map_after, states_answer}
 use Rattle.rbd_site.specs.Records.{Records, put_map, with_map}
 use Rattle.rbd_site.proofs.OneChange.{is_eq-nat_cmp, is_eq-then}
 
@@ -134,7 +134,7 @@ map_form_after old (Remove snap) form may states is = cc
 
 -- ---- what is told
 
-pub told_bits : (held : Option (List ℕ)) (bits : List ℕ) → ((states : List ℕ) → held ≡ Some states → IsMapInForm states) → states_told held ≡ answer.Bits bits → AreBits bits
+pub told_bits : (held : Option (List ℕ)) (bits : List ℕ) → ((states : List ℕ) → held ≡ Some states → IsMapInForm states) → states_answer held ≡ answer.Bits bits → AreBits bits
 told_bits None bits form is = absurd (cc)
 told_bits (Some states) bits form is =
     let same : bits_of states ≡ bits = cc in

@@ -5,7 +5,7 @@ use Rattle.std.specs.Prelude.{slice_get}
 use Rattle.rbd_kinds.specs.declared.header.SnapView.{SnapView}
 use Rattle.rbd_kinds.specs.declared.header.SnapStatus.{SnapStatus}
 use Rattle.rbd_kinds.specs.Form.{AreRising, RiseFrom}
-use Rattle.rbd_header.specs.Header.{marked}
+use Rattle.rbd_header.specs.Header.{status_marked}
 use Rattle.rbd_header.proofs.Changed.{marked_id}
 
 -- what holds of each snapshot of a list, by its place
@@ -62,11 +62,11 @@ rising_filtered p below most (s ∷ snaps) rising = go (p s) (rising_filtered p 
     go true rest = (rising.0, rest)
     go false rest = rising_from_less below s.id most (filter p snaps) (omega (arith, rising.0)) rest
 
-rising_marked : (t : ℕ) (status : SnapStatus) (below most : ℕ) (snaps : List SnapView) → RiseFrom below most snaps → RiseFrom below most (map (marked t status) snaps)
+rising_marked : (t : ℕ) (status : SnapStatus) (below most : ℕ) (snaps : List SnapView) → RiseFrom below most snaps → RiseFrom below most (map (status_marked t status) snaps)
 rising_marked t status below most [] rising = rising
 rising_marked t status below most (s ∷ snaps) rising = (
   omega (arith, rising.0, marked_id t status s),
-  subst (λ id. RiseFrom id most (map (marked t status) snaps)) (sym (marked_id t status s)) (rising_marked t status s.id most snaps rising.1),
+  subst (λ id. RiseFrom id most (map (status_marked t status) snaps)) (sym (marked_id t status s)) (rising_marked t status s.id most snaps rising.1),
 )
 
 -- the same of whole lists
@@ -87,6 +87,6 @@ risen_filtered p most (s ∷ snaps) rising = go (p s) (rising_filtered p s.id mo
     go true rest = rest
     go false rest = are_rising s.id most (filter p snaps) rest
 
-pub risen_marked : (t : ℕ) (status : SnapStatus) (most : ℕ) (snaps : List SnapView) → AreRising most snaps → AreRising most (map (marked t status) snaps)
+pub risen_marked : (t : ℕ) (status : SnapStatus) (most : ℕ) (snaps : List SnapView) → AreRising most snaps → AreRising most (map (status_marked t status) snaps)
 risen_marked t status most [] rising = tt
-risen_marked t status most (s ∷ snaps) rising = subst (λ id. RiseFrom id most (map (marked t status) snaps)) (sym (marked_id t status s)) (rising_marked t status s.id most snaps rising)
+risen_marked t status most (s ∷ snaps) rising = subst (λ id. RiseFrom id most (map (status_marked t status) snaps)) (sym (marked_id t status s)) (rising_marked t status s.id most snaps rising)

@@ -17,7 +17,7 @@ use Rattle.rbd_kinds.specs.declared.operation.Op.{Op}
 use Rattle.rbd_kinds.specs.declared.operation.Op.TheVariants as on
 use Rattle.rbd_kinds.specs.Header.{snap_named}
 use Rattle.rbd_header.specs.Header.{is_full, snap_in, with_snap, with_status, without_snap}
-use Rattle.rbd_registry.specs.Directory.{Listing, id_of, is_full as is_full_directory, added, freed, holds, renamed}
+use Rattle.rbd_registry.specs.Directory.{Listing, id_of, is_full as is_full_directory, added, freed, holds_id, renamed}
 use Rattle.rbd_object.specs.Mapped.{Mapped}
 use Rattle.std.specs.FinSet as finset
 use Rattle.rbd_kinds.specs.declared.children_op.ChildrenOp.{ChildrenOp}
@@ -27,10 +27,10 @@ use Rattle.rbd_site.specs.Found.{done_where}
 use Rattle.rbd_site.specs.DataStep.{blank_answer, data_change, where_object_done, data_after}
 use Rattle.rbd_site.specs.DirectoryStep.{directory_answer, directory_after, name_added, name_changed, where_added, where_done}
 use Rattle.rbd_site.specs.HeaderStep.{header_answer, header_after, is_owner, lock_taken, snap_added, where_made}
-use Rattle.rbd_site.specs.Laws.{is_block_add, is_change, is_on_children, is_on_directory, is_on_header, is_on_map, is_on_object}
+use Rattle.rbd_site.specs.Laws.{is_block_add, may_have_changed, is_on_children, is_on_directory, is_on_header, is_on_map, is_on_object}
 use Rattle.rbd_site.specs.InForm.{AreInForm}
 use Rattle.rbd_kinds.specs.Maps.{map_snap}
-use Rattle.rbd_site.specs.MapStep.{AreBits, map_after, map_answer, states_told}
+use Rattle.rbd_site.specs.MapStep.{AreBits, map_after, map_answer, states_answer}
 use Rattle.rbd_site.specs.Records.{Records, or_blank, put, with_children, with_directory, with_watchers}
 use Rattle.rbd_site.specs.Step.{is_fenced, answer_to, answer_served, after, after_served}
 use Rattle.rbd_site.specs.WatchStep.{watchers_after}
@@ -106,48 +106,48 @@ served_children r me op other = refl
 pub other_children : (r : Records) (me : Instance) (op : Op) → IsFalse (is_on_children op) → (after r me op).children ≡ r.children
 other_children r me op other = where_fenced (λ s. s.children ≡ r.children) r me op refl (served_children r me op other)
 
-pub refused_directory : (d : Listing) (op : DirectoryOp) → IsFalse (is_change (directory_answer d op)) → directory_after d op ≡ d
+pub refused_directory : (d : Listing) (op : DirectoryOp) → IsFalse (may_have_changed (directory_answer d op)) → directory_after d op ≡ d
 refused_directory d (dir.Add name) other = go (id_of d name) (is_full_directory d) other
   where
-    go : (held : Option ℕ) (full : Bool) → is_change (name_added held full (d.drawn + 1)) ≡ false → where_added (name_added held full (d.drawn + 1)) (added name d) d ≡ d
+    go : (held : Option ℕ) (full : Bool) → may_have_changed (name_added held full (d.drawn + 1)) ≡ false → where_added (name_added held full (d.drawn + 1)) (added name d) d ≡ d
     go (Some image) full other = refl
     go None true other = refl
     go None false other = cc
-refused_directory d (dir.Remove image) other = go (holds image d) other
+refused_directory d (dir.Remove image) other = go (holds_id image d) other
   where
-    go : (b : Bool) → is_change (done_where b) ≡ false → cond b (freed image d) d ≡ d
+    go : (b : Bool) → may_have_changed (done_where b) ≡ false → cond b (freed image d) d ≡ d
     go true other = cc
     go false other = refl
 refused_directory d (dir.Rename from to) other = go (id_of d from) (id_of d to) other
   where
-    go : (a b : Option ℕ) → is_change (name_changed a b) ≡ false → where_done (name_changed a b) (renamed (id_of d from) from to d) d ≡ d
+    go : (a b : Option ℕ) → may_have_changed (name_changed a b) ≡ false → where_done (name_changed a b) (renamed (id_of d from) from to d) d ≡ d
     go None b other = refl
     go (Some image) None other = cc
     go (Some image) (Some held) other = refl
 refused_directory d op other = refl
 
-pub refused_children : (entries : Entries) (op : ChildrenOp) → IsFalse (is_change (children_answer entries op)) → children_after entries op ≡ entries
+pub refused_children : (entries : Entries) (op : ChildrenOp) → IsFalse (may_have_changed (children_answer entries op)) → children_after entries op ≡ entries
 refused_children entries (child.Add parent snap child) other = cc
 refused_children entries (child.Remove parent snap child) other = go (finset.contains entries (entry parent snap child)) other
   where
-    go : (b : Bool) → is_change (done_where b) ≡ false → cond b (finset.remove entries (entry parent snap child)) entries ≡ entries
+    go : (b : Bool) → may_have_changed (done_where b) ≡ false → cond b (finset.remove entries (entry parent snap child)) entries ≡ entries
     go true other = cc
     go false other = refl
 refused_children entries (child.List parent snap) other = refl
 
 -- what wasn't done left the header
-not_done : (done : Bool) (refusal : Answer) (changed old : HeaderView) → is_change (cond done answer.Done refusal) ≡ false → Some (cond done changed old) ≡ Some old
+not_done : (done : Bool) (refusal : Answer) (changed old : HeaderView) → may_have_changed (cond done answer.Done refusal) ≡ false → Some (cond done changed old) ≡ Some old
 not_done true refusal changed old other = cc
 not_done false refusal changed old other = refl
 
-pub refused_header : (me : Instance) (o : Option HeaderView) (w : List Instance) (op : HeaderOp) → IsFalse (is_change (header_answer me o w op)) → header_after me o op ≡ o
+pub refused_header : (me : Instance) (o : Option HeaderView) (w : List Instance) (op : HeaderOp) → IsFalse (may_have_changed (header_answer me o w op)) → header_after me o op ≡ o
 refused_header me None w (head.Create view) other = cc
 refused_header me None w op other = refl
 refused_header me (Some h) w (head.Create view) other = refl
 refused_header me (Some h) w head.Get other = refl
 refused_header me (Some h) w (head.SnapAdd name) other = go (is_some (snap_named h.snaps name)) (is_full h) other
   where
-    go : (listed full : Bool) → is_change (snap_added listed full (h.snap_seq + 1)) ≡ false → Some (where_made listed full (with_snap name h) h) ≡ Some h
+    go : (listed full : Bool) → may_have_changed (snap_added listed full (h.snap_seq + 1)) ≡ false → Some (where_made listed full (with_snap name h) h) ≡ Some h
     go true full other = refl
     go false true other = refl
     go false false other = cc
@@ -155,7 +155,7 @@ refused_header me (Some h) w (head.SnapRemove snap) other = not_done (is_some (s
 refused_header me (Some h) w (head.SnapStatus snap status) other = not_done (is_some (snap_in h.snaps snap)) answer.Absent (with_status snap status h) h other
 refused_header me (Some h) w head.LockTake other = ap (λ owner. Some (record h { owner = owner })) (go h.owner other)
   where
-    go : (owner : Option Instance) → is_change (lock_taken me owner) ≡ false → cond (is_some owner) owner (Some me) ≡ owner
+    go : (owner : Option Instance) → may_have_changed (lock_taken me owner) ≡ false → cond (is_some owner) owner (Some me) ≡ owner
     go None other = cc
     go (Some owner) other = refl
 refused_header me (Some h) w head.LockDrop other = not_done (is_owner me h.owner) answer.Changed (record h { owner = None }) h other
@@ -163,21 +163,21 @@ refused_header me (Some h) w (head.LockBreak owner) other = not_done (is_owner o
 refused_header me (Some h) w head.WatchersGet other = refl
 refused_header me (Some h) w op other = cc
 
-refused_watchers : (me : Instance) (o : Option HeaderView) (w : List Instance) (op : HeaderOp) → IsFalse (is_change (header_answer me o w op)) → watchers_after me o w op ≡ w
+refused_watchers : (me : Instance) (o : Option HeaderView) (w : List Instance) (op : HeaderOp) → IsFalse (may_have_changed (header_answer me o w op)) → watchers_after me o w op ≡ w
 refused_watchers me None w op other = refl
 refused_watchers me (Some h) w head.Watch other = cc
 refused_watchers me (Some h) w head.Unwatch other = cc
 refused_watchers me (Some h) w head.Remove other = cc
 refused_watchers me (Some h) w op other = refl
 
-pub refused_object : (o : Option Mapped) (op : DataOp) → IsFalse (is_change (blank_answer (or_blank o) op)) → data_after o op ≡ o
+pub refused_object : (o : Option Mapped) (op : DataOp) → IsFalse (may_have_changed (blank_answer (or_blank o) op)) → data_after o op ≡ o
 refused_object o op other = go (blank_answer (or_blank o) op) other
   where
-    go : (a : Answer) → is_change a ≡ false → where_object_done a (data_change (or_blank o) op) o ≡ o
+    go : (a : Answer) → may_have_changed a ≡ false → where_object_done a (data_change (or_blank o) op) o ≡ o
     go answer.Done other = cc
     go a other = refl
 
-pub refused_map : (held : Option (List ℕ)) (op : MapOp) → IsFalse (is_change (map_answer held op)) → map_after held op ≡ held
+pub refused_map : (held : Option (List ℕ)) (op : MapOp) → IsFalse (may_have_changed (map_answer held op)) → map_after held op ≡ held
 refused_map held (states.Resize count) other = cc
 refused_map held (states.Get snap) other = refl
 refused_map held (states.Put snap bits) other = cc
@@ -186,7 +186,7 @@ refused_map (Some s) (states.Set snap object state) other = cc
 refused_map None (states.Remove snap) other = refl
 refused_map (Some s) (states.Remove snap) other = cc
 
-served_refused : (r : Records) (me : Instance) (op : Op) → IsFalse (is_change (answer_served r me op)) → after_served r me op ≡ r
+served_refused : (r : Records) (me : Instance) (op : Op) → IsFalse (may_have_changed (answer_served r me op)) → after_served r me op ≡ r
 served_refused r me (on.Directory op) other = ap (λ d. with_directory d r) (refused_directory r.directory op other)
 served_refused r me (on.Children op) other = ap (λ entries. with_children entries r) (refused_children r.children op other)
 served_refused r me (on.BlockAdd i) other = cc
@@ -200,10 +200,10 @@ served_refused r me (on.Map image op) other =
     with_map_same image (map_snap op) (map_after (r.maps image (map_snap op)) op) r (refused_map (r.maps image (map_snap op)) op other)
 served_refused r me (on.Journal image op) other = refl
 
-pub refused : (r : Records) (me : Instance) (op : Op) → IsFalse (is_change (answer_to r me op)) → after r me op ≡ r
+pub refused : (r : Records) (me : Instance) (op : Op) → IsFalse (may_have_changed (answer_to r me op)) → after r me op ≡ r
 refused r me op = go (is_fenced r me)
   where
-    go : (b : Bool) → is_change (cond b answer.Fenced (answer_served r me op)) ≡ false → cond b r (after_served r me op) ≡ r
+    go : (b : Bool) → may_have_changed (cond b answer.Fenced (answer_served r me op)) ≡ false → cond b r (after_served r me op) ≡ r
     go true other = refl
     go false other = served_refused r me op other
 
@@ -212,6 +212,6 @@ pub told_map : (r : Records) (me : Instance) (image most : ℕ) (view : Option �
     → answer_to r me (on.Map image (states.Get view)) ≡ answer.Bits bits → AreBits bits
 told_map r me image most view bits form = go (is_fenced r me)
   where
-    go : (b : Bool) → cond b answer.Fenced (states_told (r.maps image view)) ≡ answer.Bits bits → AreBits bits
+    go : (b : Bool) → cond b answer.Fenced (states_answer (r.maps image view)) ≡ answer.Bits bits → AreBits bits
     go true told = absurd (cc)
     go false told = told_bits (r.maps image view) bits (form.maps image view) told

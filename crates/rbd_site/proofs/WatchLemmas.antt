@@ -1,4 +1,5 @@
--- Watchers after an operation: nobody watches a header that isn't there, and nobody watches one twice.
+-- Watchers after an operation: nobody watches a header that isn't there, and nobody watches one
+-- twice.
 use Rattle.std.proofs.Common.{◌≡◌, ℕ, Bool, true, false, cond, eqb, not, List, [], ◌∷◌, ◌++◌, Option, Some, None, is_some, unwrap_or, refl, sym, ap, ◌∙◌, true≢false}
 use Rattle.std.specs.BTreeMap.{BTreeMap, get, is_at}
 use Rattle.std.specs.Prelude.{IfSome, nat_le}

@@ -5,14 +5,14 @@ use Rattle.rbd_kinds.specs.declared.answer.Answer.{Answer}
 use Rattle.rbd_kinds.specs.declared.answer.Answer.TheVariants as answer
 use Rattle.rbd_kinds.specs.declared.children_op.ChildrenOp.{ChildrenOp}
 use Rattle.rbd_kinds.specs.declared.children_op.ChildrenOp.TheVariants.{Add, Remove, List as ListOf}
-use Rattle.rbd_registry.specs.Children.{Entry, entry_cmp, children_in}
+use Rattle.rbd_registry.specs.Children.{ChildEntry, entry_cmp, children_in}
 use Rattle.rbd_site.specs.Found.{done_where}
 
 -- the entries, each of a child with its parent's snapshot
 abbrev pub Entries : Type 0
 Entries = finset.FinSet entry_cmp
 
-abbrev pub entry : (parent snap child : ℕ) → Entry
+abbrev pub entry : (parent snap child : ℕ) → ChildEntry
 entry parent snap child = record { parent = parent; snap = snap; child = child }
 
 abbrev pub children_answer : Entries → ChildrenOp → Answer

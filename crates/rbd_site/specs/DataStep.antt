@@ -8,7 +8,7 @@ use Rattle.rbd_kinds.specs.declared.data_op.DataOp.TheVariants.{Read, Write, Wri
 use Rattle.rbd_kinds.specs.declared.layout.Part.{Part}
 use Rattle.rbd_kinds.specs.Parts.{parts_len}
 use Rattle.rbd_parts.specs.Parts.{AreWithin, parts_of, parts_written, parts_zeroed}
-use Rattle.rbd_object.specs.Mapped.{Mapped, looked, mapped_change, mapped_copy_up}
+use Rattle.rbd_object.specs.Mapped.{Mapped, versioned, mapped_change, mapped_copy_up}
 use Rattle.rbd_object.specs.Versioned.{view}
 use Rattle.rbd_parts.specs.declared.parts.TheConstants.{LARGEST_OBJECT}
 use Rattle.rbd_site.specs.Records.{or_blank}
@@ -16,12 +16,12 @@ use Rattle.rbd_site.specs.Found.{done_where}
 
 -- The operations that are built, and their conditions: parts within the largest object, with as
 -- many bytes as they have.
-pub record MayWrite (parts : List Part) (bytes : List ℕ) : Type 0 where
+pub record MayWriteParts (parts : List Part) (bytes : List ℕ) : Type 0 where
   pub within : AreWithin parts
   pub long : length bytes ≡ parts_len parts
 
 abbrev pub MayDoOnData : DataOp → Type 0
-MayDoOnData (Write context must parts bytes) = MayWrite parts bytes
+MayDoOnData (Write context must parts bytes) = MayWriteParts parts bytes
 MayDoOnData (WriteFull context bytes) = length bytes ≤ LARGEST_OBJECT
 MayDoOnData op = Unit {0}
 
@@ -34,7 +34,7 @@ abbrev pub finds : (must : Bool) → Mapped → Bool
 finds must o = not must || is_some o.head
 
 abbrev pub blank_answer : Mapped → DataOp → Answer
-blank_answer o (Read snap parts) = parts_read parts (view (looked o) snap)
+blank_answer o (Read snap parts) = parts_read parts (view (versioned o) snap)
 blank_answer o (Write context must parts bytes) = done_where (finds must o)
 blank_answer o (WriteFull context bytes) = answer.Done
 blank_answer o (Zero context must parts) = done_where (finds must o)

@@ -5,7 +5,7 @@ use Rattle.rbd_kinds.specs.declared.answer.Answer.{Answer}
 use Rattle.rbd_kinds.specs.declared.answer.Answer.TheVariants as answer
 use Rattle.rbd_kinds.specs.declared.directory_op.DirectoryOp.{DirectoryOp}
 use Rattle.rbd_kinds.specs.declared.directory_op.DirectoryOp.TheVariants.{Find, Add, Remove, Rename, List as ListAll}
-use Rattle.rbd_registry.specs.Directory.{Listing, id_of, is_full, added, freed, holds, renamed}
+use Rattle.rbd_registry.specs.Directory.{Listing, id_of, is_full, added, freed, holds_id, renamed}
 use Rattle.rbd_site.specs.Found.{done_where}
 
 abbrev pub image_found : Option ℕ → Answer
@@ -24,7 +24,7 @@ name_changed (Some image) (Some other) = answer.Exists
 abbrev pub directory_answer : Listing → DirectoryOp → Answer
 directory_answer d (Find name) = image_found (id_of d name)
 directory_answer d (Add name) = name_added (id_of d name) (is_full d) (d.drawn + 1)
-directory_answer d (Remove image) = done_where (holds image d)
+directory_answer d (Remove image) = done_where (holds_id image d)
 directory_answer d (Rename from to) = name_changed (id_of d from) (id_of d to)
 directory_answer d ListAll = answer.Names (finmap.keys d.names)
 
@@ -40,6 +40,6 @@ where_done _ changed old = old
 abbrev pub directory_after : Listing → DirectoryOp → Listing
 directory_after d (Find name) = d
 directory_after d (Add name) = where_added (directory_answer d (Add name)) (added name d) d
-directory_after d (Remove image) = if holds image d then freed image d else d
+directory_after d (Remove image) = if holds_id image d then freed image d else d
 directory_after d (Rename from to) = where_done (directory_answer d (Rename from to)) (renamed (id_of d from) from to d) d
 directory_after d ListAll = d

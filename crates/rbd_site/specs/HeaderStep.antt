@@ -34,7 +34,7 @@ is_owner i (Some owner) = same_instance owner i
 abbrev pub lock_left : Instance → (owner : Option Instance) → Answer
 lock_left i owner = if is_owner i owner then answer.Done else answer.Changed
 
--- where the header is there, with its watchers
+-- the answer where the header is there, with its watchers
 abbrev pub there_answer : Instance → HeaderView → (watchers : List Instance) → HeaderOp → Answer
 there_answer me h watchers (Create view) = answer.Exists
 there_answer me h watchers Get = answer.Header h
@@ -52,7 +52,7 @@ abbrev pub IsToldAlone : HeaderOp → Type 0
 IsToldAlone WatchersGet = ⊥
 IsToldAlone op = Unit {0}
 
--- where it isn't
+-- the answer where the header isn't there
 abbrev pub missing_answer : HeaderOp → Answer
 missing_answer (Create view) = answer.Done
 missing_answer op = answer.Absent

@@ -12,8 +12,8 @@ pub record IsMapInForm (states : List ℕ) : Type 0 where
   pub are : AreStates states
   pub few : length states ≤ 2 ^ 20
 
--- Each header is in form, and was changed at most so many times. Nobody watches one that isn't there,
--- and nobody watches one twice. Each map is in form.
+-- Each header is in form, and was changed at most so many times. Nobody watches a header that isn't
+-- there, and nobody watches one twice. Each map is in form.
 pub record AreInForm (r : Records) (most : ℕ) : Type 0 where
   pub form : (image : ℕ) (h : HeaderView) → r.headers image ≡ Some h → IsHeaderInForm h
   pub generation : (image : ℕ) (h : HeaderView) → r.headers image ≡ Some h → h.generation ≤ most

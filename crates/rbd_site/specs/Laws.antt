@@ -38,11 +38,11 @@ is_block_add (on.BlockAdd instance) = true
 is_block_add op = false
 
 -- the answers with which something may have changed
-abbrev pub is_change : Answer → Bool
-is_change answer.Done = true
-is_change (answer.Id image) = true
-is_change (answer.Snap snap) = true
-is_change a = false
+abbrev pub may_have_changed : Answer → Bool
+may_have_changed answer.Done = true
+may_have_changed (answer.Id image) = true
+may_have_changed (answer.Snap snap) = true
+may_have_changed a = false
 
 -- an operation that changes no record
 abbrev pub is_look : Op → Bool

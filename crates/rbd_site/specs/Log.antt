@@ -58,8 +58,8 @@ AreAnswered r [] = Unit {0}
 AreAnswered r (d ∷ log) = IsAnswer r d.instance d.op d.answer × AreAnswered (after_op r d.instance d.op) log
 
 -- the line of an operation of an instance, that of a trim, and that of a watch's end
-abbrev pub line_of : (number : ℕ) → Instance → Op → Answer → Done
-line_of number me op a = record { number = number; instance = Some me; op = done.Op op; answer = a }
+abbrev pub log_line : (number : ℕ) → Instance → Op → Answer → Done
+log_line number me op a = record { number = number; instance = Some me; op = done.Op op; answer = a }
 
 abbrev pub trim_line : (number image object : ℕ) → Done
 trim_line number image object = record { number = number; instance = None; op = done.Trim image object; answer = answer.Done }
@@ -68,9 +68,9 @@ abbrev pub expire_line : (number image : ℕ) → Instance → Done
 expire_line number image i = record { number = number; instance = None; op = done.Expire image i; answer = answer.Done }
 
 -- the log after an expiry, which is logged where there is a watch to end
-abbrev pub watch_ended : (number image : ℕ) → Option Instance → List Done → List Done
-watch_ended number image None log = log
-watch_ended number image (Some i) log = log ++ expire_line number image i ∷ []
+abbrev pub log_with_expiry : (number image : ℕ) → Option Instance → List Done → List Done
+log_with_expiry number image None log = log
+log_with_expiry number image (Some i) log = log ++ expire_line number image i ∷ []
 
 -- numbers from 1 on
 abbrev pub AreNumbered : (next : ℕ) → List Done → Type 0

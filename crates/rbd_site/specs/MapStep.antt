@@ -26,13 +26,13 @@ MayDoOnMap map (Put snap bits) = AreBits bits
 MayDoOnMap map (Set snap object state) = MaySetState map object state
 MayDoOnMap map (Remove snap) = Unit {0}
 
-abbrev pub states_told : (map : Option (List ℕ)) → Answer
-states_told None = answer.Absent
-states_told (Some states) = answer.Bits (bits_of states)
+abbrev pub states_answer : (map : Option (List ℕ)) → Answer
+states_answer None = answer.Absent
+states_answer (Some states) = answer.Bits (bits_of states)
 
 abbrev pub map_answer : (map : Option (List ℕ)) → MapOp → Answer
 map_answer map (Resize count) = answer.Done
-map_answer map (Get snap) = states_told map
+map_answer map (Get snap) = states_answer map
 map_answer map (Put snap bits) = answer.Done
 map_answer map (Set snap object state) = done_where (is_some map)
 map_answer map (Remove snap) = done_where (is_some map)

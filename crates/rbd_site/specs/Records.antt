@@ -1,5 +1,5 @@
--- What a site keeps: its directory, the children of its snapshots, its blocklist, the header of each
--- image with who watches it, its object maps, and the data objects of each image by number.
+-- What a site keeps: its directory, the children of its snapshots, its blocklist, the header of
+-- each image with who watches it, its object maps, and the data objects of each image by number.
 use Rattle.std.specs.Prelude.{ℕ, ◌==◌, nat_eq, if◌then◌else◌, List, [], Option, Some, None}
 use Rattle.std.specs.Option.{option_eq}
 use Rattle.rbd_kinds.specs.declared.header.HeaderView.{HeaderView}

@@ -1,6 +1,6 @@
 -- One operation on one object of a site: its condition, its answer, the records after it, and the
--- notices that it posts. An instance that is in the blocklist is fenced: none of its operations does
--- anything.
+-- notices that it posts. An instance that is in the blocklist is fenced: none of its operations
+-- does anything.
 use Rattle.std.specs.Prelude.{Bool, if◌then◌else◌, List, IsFalse}
 use Rattle.std.specs.FinSet as finset
 use Rattle.rbd_kinds.specs.declared.answer.Answer.{Answer}
@@ -63,7 +63,7 @@ mail_served site r me _ mail = mail
 
 -- ---- an operation of any instance
 
--- That of a fenced instance has no condition.
+-- An operation of a fenced instance has no condition.
 abbrev pub MayDo : Records → Instance → Op → Type 0
 MayDo r me op = IsFalse (is_fenced r me) → MayServe r op
 

@@ -1,4 +1,5 @@
--- Who watches an image's header, and whom a notice goes to. A header that isn't there has no watchers.
+-- Who watches an image's header, and whom a notice goes to. A header that isn't there has no
+-- watchers.
 use Rattle.std.specs.Prelude.{ℕ, ◌+◌, List, [], ◌++◌, length, Option, Some, None}
 use Rattle.rbd_kinds.specs.declared.header.HeaderView.{HeaderView}
 use Rattle.rbd_kinds.specs.declared.header_op.HeaderOp.{HeaderOp}
@@ -9,8 +10,8 @@ use Rattle.rbd_kinds.specs.declared.notice.Notice.{Notice}
 use Rattle.rbd_watch.specs.Posting.{notices}
 use Rattle.rbd_watch.specs.Watching.{registered, without}
 
--- the watchers after an operation of an instance on a header that is there: a header that is removed
--- takes them with it
+-- the watchers after an operation of an instance on a header that is there: a header that is
+-- removed takes them with it
 abbrev pub there_watched : Instance → (watchers : List Instance) → HeaderOp → List Instance
 there_watched me watchers Watch = registered me watchers
 there_watched me watchers Unwatch = without me watchers

@@ -9,10 +9,10 @@ ghost use Rattle.rbd_kinds.specs.declared.map_op.MapOp.TheVariants as map_op;
 ghost use Rattle.rbd_kinds.specs.declared.notice.Notice.{Notice};
 ghost use Rattle.rbd_kinds.specs.declared.operation.Op.{Op};
 ghost use Rattle.rbd_kinds.specs.declared.operation.Op.TheVariants as op_on;
-ghost use Rattle.rbd_object.specs.Mapped.{looked};
+ghost use Rattle.rbd_object.specs.Mapped.{versioned};
 ghost use Rattle.rbd_object.specs.Versioned.{view};
 ghost use Rattle.rbd_site.specs.InForm.{AreInForm};
-ghost use Rattle.rbd_site.specs.Laws.{is_block_add, is_change, is_look, is_on_children, is_on_directory, is_on_header, is_on_lock, is_on_map, is_on_object};
+ghost use Rattle.rbd_site.specs.Laws.{is_block_add, may_have_changed, is_look, is_on_children, is_on_directory, is_on_header, is_on_lock, is_on_map, is_on_object};
 ghost use Rattle.rbd_site.specs.Log.{expired, trimmed};
 ghost use Rattle.rbd_site.specs.MapStep.{AreBits};
 ghost use Rattle.rbd_site.specs.Records.{Records, no_records, object_at};
@@ -55,7 +55,8 @@ pub fn fenced_instances_do_nothing()
     ensures others { (r : Records) (me : Instance) (op : Op) → answer_to r me op ≡ answer.Fenced → IsTrue (is_fenced r me) }
 {}
 
-/// Who is listed is listed for good, and only an operation that lists an instance lists it.
+/// An instance that is listed in the blocklist stays listed, and only an operation that lists an
+/// instance lists it.
 pub fn the_fence_stays()
     ensures listed { (r : Records) (me i : Instance) → IsFalse (is_fenced r me) → IsTrue (is_fenced (after r me (op_on.BlockAdd i)) i) }
 
@@ -65,9 +66,9 @@ pub fn the_fence_stays()
         → other ≢ i → is_fenced (after r me (op_on.BlockAdd i)) other ≡ is_fenced r other }
 {}
 
-/// An operation that isn't answered done, with an id or with a snapshot changes nothing.
+/// An operation changes something only if it is answered done, with an id, or with a snapshot.
 pub fn other_answers_change_nothing()
-    ensures { (r : Records) (me : Instance) (op : Op) → IsFalse (is_change (answer_to r me op)) → after r me op ≡ r }
+    ensures { (r : Records) (me : Instance) (op : Op) → IsFalse (may_have_changed (answer_to r me op)) → after r me op ≡ r }
 {}
 
 /// A look changes nothing.
@@ -75,9 +76,9 @@ pub fn looks_change_nothing()
     ensures { (r : Records) (me : Instance) (op : Op) → IsTrue (is_look op) → after r me op ≡ r }
 {}
 
-/// As long as a header is there its generation never falls, and an operation that leaves it leaves
-/// the header, but for its lock. So two looks with one generation say that the header was one all
-/// the time between, but for its owner.
+/// As long as an image has a header, its generation never falls, and an operation that leaves the
+/// generation leaves all of the header but its lock. So between two looks with one generation the
+/// header was the same all the time, but for its owner.
 pub fn changes_raise_the_generation()
     ensures lasts { (r : Records) (me : Instance) (op : Op) (image : ℕ) (old new : HeaderView)
         → r.headers image ≡ Some old → (after r me op).headers image ≡ Some new → old.generation ≤ new.generation }
@@ -91,12 +92,12 @@ pub fn changes_raise_the_generation()
         → new ≡ record old { owner = new.owner } }
 {}
 
-/// No operation changes what a snapshot shows that an object has a number for: only a trim for
-/// which it isn't live takes it away.
+/// No operation changes what an object shows at a snapshot whose number is at most the object's.
+/// Only a trim for which the snapshot isn't live takes that away.
 pub fn operations_leave_snapshots()
     ensures { (r : Records) (me : Instance) (op : Op) (image number snap : ℕ)
         → snap ≤ (object_at r image number).seq
-        → view (looked (object_at (after r me op) image number)) (Some snap) ≡ view (looked (object_at r image number)) (Some snap) }
+        → view (versioned (object_at (after r me op) image number)) (Some snap) ≡ view (versioned (object_at r image number)) (Some snap) }
 {}
 
 /// Headers and maps are in form at first, and each operation that may be done, each trim and each
@@ -113,8 +114,8 @@ pub fn headers_stay_in_form()
     ensures expiry { (r : Records) (image most : ℕ) (i : Instance) → AreInForm r most → AreInForm (expired image i r) (most + 1) }
 {}
 
-/// What a look at an object map tells holds no state 3, and is of at most 2^20 objects. So it may
-/// be put as the map of a snapshot.
+/// What a look at an object map tells holds no state 3 and is of at most 2^20 objects. So it may be
+/// put as the map of a snapshot.
 pub fn what_a_map_tells_may_be_put()
     ensures { (r : Records) (me : Instance) (image most : ℕ) (view : Option ℕ) (bits : List ℕ)
         → AreInForm r most → answer_to r me (op_on.Map image (map_op.Get view)) ≡ answer.Bits bits → AreBits bits }

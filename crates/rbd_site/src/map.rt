@@ -4,7 +4,7 @@ ghost use Rattle.rbd_kinds.specs.States.{HoldStates};
 ghost use Rattle.rbd_map.specs.States.{states_of};
 ghost use Rattle.rbd_site.specs.Maps.{map_in};
 ghost use Rattle.rbd_site.specs.Records.{put_map};
-ghost use Rattle.rbd_site.specs.MapStep.{MayDoOnMap, MaySetState, lengthened, map_answer, map_after, states_told};
+ghost use Rattle.rbd_site.specs.MapStep.{MayDoOnMap, MaySetState, lengthened, map_answer, map_after, states_answer};
 
 use crate::found::done_where;
 use crate::map_key::MapKey;
@@ -66,7 +66,7 @@ pub fn change(
 
 /// The states of a map, if it is there. They are copied once: copies of the answer share them.
 fn states(maps: &BTreeMap<MapKey, ObjectMap>, key: MapKey) -> Result<Answer, NoMemory>
-    ensures { IfOk result (λ answer. answer ≡ states_told (map_in maps.now key.image key.snap)) }
+    ensures { IfOk result (λ answer. answer ≡ states_answer (map_in maps.now key.image key.snap)) }
 {
     match maps.get(&key) {
         Some(map) => Ok(Answer::Bits(map.bits()?.share()?)),

@@ -4,7 +4,7 @@ ghost use Rattle.std.specs.Vec.{vec_capacity, vec_len};
 ghost use Rattle.rbd_kinds.specs.declared.header.HeaderView.{HeaderView as HeaderShown};
 ghost use Rattle.rbd_site.specs.InForm.{AreInForm};
 ghost use Rattle.rbd_watch.specs.Watching.{oldest_of};
-ghost use Rattle.rbd_site.specs.Log.{records_of, line_of, trim_line, trimmed, watch_ended, expired_by, AreAnswered, AreNumbered};
+ghost use Rattle.rbd_site.specs.Log.{records_of, log_line, trim_line, trimmed, log_with_expiry, expired_by, AreAnswered, AreNumbered};
 ghost use Rattle.rbd_site.specs.Maps.{kept};
 ghost use Rattle.rbd_site.specs.Records.{no_records};
 ghost use Rattle.rbd_site.specs.Step.{MayDo, answer_to, after, mail_after};
@@ -99,7 +99,7 @@ impl Site {
         requires { MayDo (records_of self.old) instance op }
         ensures answer { IfOk result (λ answer. answer ≡ answer_to (records_of self.old) instance op) }
         ensures ok { let number = length self.old.log + 1 in
-            IfOk result (λ answer. self.new ≡ record self.old { log = self.old.log ++ line_of number instance op answer ∷ [] }) }
+            IfOk result (λ answer. self.new ≡ record self.old { log = self.old.log ++ log_line number instance op answer ∷ [] }) }
         ensures records { OnOk result (records_of self.new ≡ after (records_of self.old) instance op) }
         ensures mail { OnOk result (mail.new ≡ mail_after self.old.id (records_of self.old) instance op mail.old) }
         ensures form { AreInForm (records_of self.new) (length self.new.log) }
@@ -129,7 +129,7 @@ impl Site {
         requires may { MayDo (records_of self.old) instance op }
         requires answer { answer.now ≡ answer_to (records_of self.old) instance op }
         ensures ok { let number = length self.old.log + 1 in
-            OnOk result (self.new ≡ record self.old { log = self.old.log ++ line_of number instance op answer.now ∷ [] }) }
+            OnOk result (self.new ≡ record self.old { log = self.old.log ++ log_line number instance op answer.now ∷ [] }) }
         ensures records { OnOk result (records_of self.new ≡ after (records_of self.old) instance op) }
         ensures mail { OnOk result (mail.new ≡ mail_after self.old.id (records_of self.old) instance op mail.old) }
         ensures form { AreInForm (records_of self.new) (length self.new.log) }
@@ -206,7 +206,7 @@ impl Site {
     pub fn expire(&mut self, image: ImageId, session: SessionNo) -> Result<bool, NoMemory>
         ensures found { IfOk result (λ found. found ≡ is_some (oldest_of session ((records_of self.old).watchers image))) }
         ensures ok { let oldest = oldest_of session ((records_of self.old).watchers image) in
-            OnOk result (self.new ≡ record self.old { log = watch_ended (length self.old.log + 1) image oldest self.old.log }) }
+            OnOk result (self.new ≡ record self.old { log = log_with_expiry (length self.old.log + 1) image oldest self.old.log }) }
         ensures records { let oldest = oldest_of session ((records_of self.old).watchers image) in
             OnOk result (records_of self.new ≡ expired_by image oldest (records_of self.old)) }
         ensures err { OnErr result (self.new ≡ self.old) }

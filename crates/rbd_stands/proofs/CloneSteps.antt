@@ -16,7 +16,7 @@ use Rattle.rbd_kinds.specs.declared.id.Instance.{Instance}
 use Rattle.rbd_kinds.specs.declared.operation.Op.TheVariants as op
 use Rattle.rbd_kinds.specs.Striping.{object_of, offset_of}
 use Rattle.rbd_header.specs.Header.{snap_in}
-use Rattle.rbd_object.specs.Mapped.{Mapped, looked, mapped_blank, mapped_copy_up}
+use Rattle.rbd_object.specs.Mapped.{Mapped, versioned, mapped_blank, mapped_copy_up}
 use Rattle.rbd_object.specs.Versioned.{IsTidy, view}
 use Rattle.rbd_flat.specs.declared.effect.Effect.{Effect}
 use Rattle.rbd_flat.specs.declared.effect.Effect.TheVariants as effect
@@ -54,15 +54,15 @@ module _ (below : Snapshots) (linked : Links) (h : HeaderView) (objects : ℕ �
   head_now = ap (λ (o : Mapped). Some (unwrap_or o.head bytes)) blank
 
   -- each snapshot that is listed shows the head, and showed nothing
-  view_now : (t : ℕ) → 0 < t → view (looked now) (Some t) ≡ Some bytes
+  view_now : (t : ℕ) → 0 < t → view (versioned now) (Some t) ≡ Some bytes
   view_now t later =
-      ap (λ (o : Mapped). view (looked (mapped_copy_up bytes o)) (Some t)) blank
-      ∙ ap (λ b. cond b (Some bytes) ((looked mapped_blank).kept t)) (lt-ltb 0 t later)
+      ap (λ (o : Mapped). view (versioned (mapped_copy_up bytes o)) (Some t)) blank
+      ∙ ap (λ b. cond b (Some bytes) ((versioned mapped_blank).kept t)) (lt-ltb 0 t later)
 
-  view_was : (t : ℕ) → 0 < t → view (looked (objects n)) (Some t) ≡ None
+  view_was : (t : ℕ) → 0 < t → view (versioned (objects n)) (Some t) ≡ None
   view_was t later =
-      ap (λ (o : Mapped). view (looked o) (Some t)) blank
-      ∙ ap (λ b. cond b None ((looked mapped_blank).kept t)) (lt-ltb 0 t later)
+      ap (λ (o : Mapped). view (versioned o) (Some t)) blank
+      ∙ ap (λ b. cond b None ((versioned mapped_blank).kept t)) (lt-ltb 0 t later)
 
   head_bytes : (x : ℕ) → x < h.size → (m : ℕ) → object_of h.layout x ≡ m → get_or i.bytes x 0 ≡ shown below h.parent (put objects n now m).head (offset_of h.layout x) x
   head_bytes x within = put_both (λ m o. object_of h.layout x ≡ m → get_or i.bytes x 0 ≡ shown below h.parent o.head (offset_of h.layout x) x) objects n now
@@ -74,16 +74,16 @@ module _ (below : Snapshots) (linked : Links) (h : HeaderView) (objects : ℕ �
       (λ m other same. stands.bytes.head x within ∙ ap (λ k. shown below h.parent (objects k).head (offset_of h.layout x) x) same)
 
   snap_bytes : (t : ℕ) (s : SnapView) → snap_in h.snaps t ≡ Some s → (bs : List ℕ) (x : ℕ)
-      → get_or bs x 0 ≡ shown below s.parent (view (looked (objects (object_of h.layout x))) (Some t)) (offset_of h.layout x) x
-      → (m : ℕ) → object_of h.layout x ≡ m → get_or bs x 0 ≡ shown below s.parent (view (looked (put objects n now m)) (Some t)) (offset_of h.layout x) x
-  snap_bytes t s is bs x was = put_both (λ m o. object_of h.layout x ≡ m → get_or bs x 0 ≡ shown below s.parent (view (looked o) (Some t)) (offset_of h.layout x) x) objects n now
+      → get_or bs x 0 ≡ shown below s.parent (view (versioned (objects (object_of h.layout x))) (Some t)) (offset_of h.layout x) x
+      → (m : ℕ) → object_of h.layout x ≡ m → get_or bs x 0 ≡ shown below s.parent (view (versioned (put objects n now m)) (Some t)) (offset_of h.layout x) x
+  snap_bytes t s is bs x was = put_both (λ m o. object_of h.layout x ≡ m → get_or bs x 0 ≡ shown below s.parent (view (versioned o) (Some t)) (offset_of h.layout x) x) objects n now
       (λ same. was
-      ∙ ap (λ k. shown below s.parent (view (looked (objects k)) (Some t)) (offset_of h.layout x) x) same
+      ∙ ap (λ k. shown below s.parent (view (versioned (objects k)) (Some t)) (offset_of h.layout x) x) same
       ∙ ap (λ content. shown below s.parent content (offset_of h.layout x) x) (view_was t (stands.numbered.snap t s is).0)
       ∙ stands.alike.snap t s is x (subst (IsInside h) (sym same) inside) (ap (λ k. (objects k).head) same ∙ absent)
       ∙ sym (gathered x same)
       ∙ sym (ap (λ content. shown below s.parent content (offset_of h.layout x) x) (view_now t (stands.numbered.snap t s is).0)))
-      (λ m other same. was ∙ ap (λ k. shown below s.parent (view (looked (objects k)) (Some t)) (offset_of h.layout x) x) same)
+      (λ m other same. was ∙ ap (λ k. shown below s.parent (view (versioned (objects k)) (Some t)) (offset_of h.layout x) x) same)
 
   -- no head that is there is absent
   not_absent : {P : Type 0} → now.head ≡ None → P
@@ -112,7 +112,7 @@ module _ (below : Snapshots) (linked : Links) (h : HeaderView) (objects : ℕ �
           (λ m other at gone same. stands.alike.snap t s is x (subst (IsInside h) (sym same) at) (ap (λ k. (objects k).head) same ∙ gone))
           (object_of h.layout x) in_it none refl;
     };
-    tidy = put_both (λ m o. IsTidy (looked o)) objects n now (record { above = (stands.tidy n).above }) (λ m other. stands.tidy m);
+    tidy = put_both (λ m o. IsTidy (versioned o)) objects n now (record { above = (stands.tidy n).above }) (λ m other. stands.tidy m);
     seen = put_both (λ m o. o.seq ≤ h.snap_seq) objects n now (stands.seen n) (λ m other. stands.seen m);
     numbered = stands.numbered;
     laid = stands.laid;
@@ -180,7 +180,7 @@ module _ (below : Snapshots) (linked : Links) (h : HeaderView) (link : ParentLin
     clear = λ x past. ap (λ (o : Mapped). get_or (unwrap_or o.head []) (offset_of h.layout x) 0) (blank (object_of h.layout x));
     untouched = λ n inside absent. blank n;
     alike = record { head = λ x inside absent. refl; snap = λ t u listed. none_listed t u listed };
-    tidy = λ n. subst (λ (o : Mapped). IsTidy (looked o)) (sym (blank n)) (record { above = λ snap above. finmap.get-empty nat_cmp snap });
+    tidy = λ n. subst (λ (o : Mapped). IsTidy (versioned o)) (sym (blank n)) (record { above = λ snap above. finmap.get-empty nat_cmp snap });
     seen = λ n. let e : (objects n).seq ≡ 0 = ap (λ o. o.seq) (blank n) in omega arith;
     numbered = record { head = tt; snap = λ t u listed. none_listed t u listed };
     laid = made.new.form.layout;

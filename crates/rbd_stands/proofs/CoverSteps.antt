@@ -19,7 +19,7 @@ use Rattle.rbd_kinds.specs.Header.{snap_named}
 use Rattle.rbd_map.specs.Covers.{Covers}
 use Rattle.rbd_map.specs.States.{states_of}
 use Rattle.rbd_header.specs.Header.{is_full, snap_in, with_size, with_snap, with_status, without_snap}
-use Rattle.rbd_object.specs.Mapped.{Mapped, looked, mapped_blank, mapped_change, mapped_copy_up}
+use Rattle.rbd_object.specs.Mapped.{Mapped, versioned, mapped_blank, mapped_change, mapped_copy_up}
 use Rattle.rbd_parts.specs.Parts.{parts_written, parts_zeroed}
 use Rattle.rbd_object.specs.Versioned.{IsTidy, view}
 use Rattle.rbd_object.proofs.MappedLemmas.{looked-mapped_change}
@@ -108,15 +108,15 @@ map_covered h maps objects (map_op.Remove snap) v shape is at may keeps covered 
 
 -- where an object exists at a view afterwards, its state was raised or it existed there before
 abbrev pub IsRaisedOrWas : (map : Option (List ℕ)) (number : ℕ) (old new : Mapped) → Option ℕ → Type 0
-IsRaisedOrWas map number old new v = is_some (view (looked new) v) ≡ true → IsRaised map number ⊎ (is_some (view (looked old) v) ≡ true)
+IsRaisedOrWas map number old new v = is_some (view (versioned new) v) ≡ true → IsRaised map number ⊎ (is_some (view (versioned old) v) ≡ true)
 
-module _ (h : HeaderView) (maps : Maps) (number : ℕ) (o : Mapped) (tidy : IsTidy (looked o)) (numbered : (t : ℕ) (s : SnapView) → snap_in h.snaps t ≡ Some s → t ≤ h.snap_seq) where
+module _ (h : HeaderView) (maps : Maps) (number : ℕ) (o : Mapped) (tidy : IsTidy (versioned o)) (numbered : (t : ℕ) (s : SnapView) → snap_in h.snaps t ≡ Some s → t ≤ h.snap_seq) where
   -- a listed snapshot keeps its view
   snap_kept : (c : SnapContext) → IsContextOf h c → (new : Option (List ℕ)) (t : ℕ) (s : SnapView) → snap_in h.snaps t ≡ Some s
-      → view (looked (mapped_change c new o)) (Some t) ≡ view (looked o) (Some t)
+      → view (versioned (mapped_change c new o)) (Some t) ≡ view (versioned o) (Some t)
   snap_kept c context new t s is =
       ap (λ x. view x (Some t)) (looked-mapped_change c new o)
-      ∙ view-change t c new (looked o) tidy (let k = numbered t s is in omega (arith, k, context.seq)) (context.lists t s is)
+      ∙ view-change t c new (versioned o) tidy (let k = numbered t s is in omega (arith, k, context.seq)) (context.lists t s is)
 
   changed : (c : SnapContext) → IsContextOf h c → (new : Option (List ℕ)) → IsRaisedOrWas (maps None) number o (mapped_change c new o) None
       → EachView h (λ v shape. IsRaisedOrWas (maps v) number o (mapped_change c new o) v)
@@ -127,9 +127,9 @@ module _ (h : HeaderView) (maps : Maps) (number : ℕ) (o : Mapped) (tidy : IsTi
   zeroed f (Some bytes) there = refl
 
   -- what a copy-up finds is there as before
-  copied_view : (bytes b : List ℕ) (v : Option ℕ) → o.head ≡ Some b → view (looked (mapped_copy_up bytes o)) v ≡ view (looked o) v
+  copied_view : (bytes b : List ℕ) (v : Option ℕ) → o.head ≡ Some b → view (versioned (mapped_copy_up bytes o)) v ≡ view (versioned o) v
   copied_view bytes b v is =
-      ap (λ (head : Option (List ℕ)). view (record { head = head; seq = o.seq; kept = (looked o).kept }) v) (ap (λ (head : Option (List ℕ)). Some (unwrap_or head bytes)) is ∙ sym is)
+      ap (λ (head : Option (List ℕ)). view (record { head = head; seq = o.seq; kept = (versioned o).kept }) v) (ap (λ (head : Option (List ℕ)). Some (unwrap_or head bytes)) is ∙ sym is)
 
   copied : (bytes : List ℕ) → (o.head ≡ None → EachView h (λ v shape. IsRaised (maps v) number))
       → EachView h (λ v shape. IsRaisedOrWas (maps v) number o (mapped_copy_up bytes o) v)
@@ -154,7 +154,7 @@ module _ (h : HeaderView) (maps : Maps) (number : ℕ) (o : Mapped) (tidy : IsTi
 -- ---- a header is changed
 
 -- nothing was done to an object: it exists at no view
-pub blank_exists : (v : Option ℕ) → is_some (view (looked mapped_blank) v) ≡ false
+pub blank_exists : (v : Option ℕ) → is_some (view (versioned mapped_blank) v) ≡ false
 blank_exists None = refl
 blank_exists (Some t) = ap (λ (kept : Option (List ℕ)). is_some (cond (ltb 0 t) None kept)) (finmap.get-empty nat_cmp t) ∙ both (ltb 0 t)
   where
@@ -165,7 +165,7 @@ blank_exists (Some t) = ap (λ (kept : Option (List ℕ)). is_some (cond (ltb 0 
 module _ (h : HeaderView) (maps : Maps) (objects : ℕ → Mapped) (seen : (n : ℕ) → (objects n).seq ≤ h.snap_seq) (all : AreCovered h maps objects) where
   -- the next snapshot's view of an object is the head
   new_view : (n : ℕ) → exists_at objects (Some (h.snap_seq + 1)) n ≡ exists_at objects None n
-  new_view n = ap (λ b. is_some (cond b (objects n).head ((looked (objects n)).kept (h.snap_seq + 1)))) (lt-ltb (objects n).seq (h.snap_seq + 1) (let e = seen n in omega arith))
+  new_view n = ap (λ b. is_some (cond b (objects n).head ((versioned (objects n)).kept (h.snap_seq + 1)))) (lt-ltb (objects n).seq (h.snap_seq + 1) (let e = seen n in omega arith))
 
   renamed_exists : (held : Option (List ℕ)) → IsCovered held (exists_at objects None) → IsCovered held (exists_at objects (Some (h.snap_seq + 1)))
   renamed_exists held covers = covered_later held (exists_at objects None) (exists_at objects (Some (h.snap_seq + 1))) covers (λ n there. inr (sym (new_view n) ∙ there))
@@ -215,5 +215,5 @@ module _ (h : HeaderView) (maps : Maps) (objects : ℕ → Mapped) (seen : (n : 
 pub made_covered : (maps : Maps) (objects : ℕ → Mapped) (me : Instance) (o : HeaderOp) → KeepsHeaderCover None maps objects o → (g : HeaderView) → header_after me None o ≡ Some g → AreCovered g maps objects
 made_covered maps objects me (header_op.Create made) blank g is =
     to_views g (λ v. IsCovered (maps v) (exists_at objects v))
-    (λ v shape at. covers_none (maps v) (exists_at objects v) (λ n. ap (λ o. is_some (view (looked o) v)) (blank n) ∙ blank_exists v))
+    (λ v shape at. covers_none (maps v) (exists_at objects v) (λ n. ap (λ o. is_some (view (versioned o) v)) (blank n) ∙ blank_exists v))
 made_covered maps objects me o blank g is = absurd (none-some g is)

@@ -19,20 +19,19 @@ use Rattle.rbd_layout.proofs.Places.{first_below, held_at_start}
 use Rattle.rbd_layout.proofs.Derived.{parts_cover}
 use Rattle.rbd_object.specs.Mapped.{Mapped, mapped_change}
 use Rattle.rbd_flat.specs.declared.effect.Effect.TheVariants as effect
-use Rattle.rbd_flat.specs.Flat.{Flat, FlatImage, image_at, snap_of, painted, places_of, with_image, changed}
+use Rattle.rbd_flat.specs.Flat.{Flat, FlatImage, image_at, snap_of, painted, places_of, with_image, changed_image}
 use Rattle.rbd_flat.specs.Flat as flat
 use Rattle.rbd_flat.specs.Laws.{snap_byte, covered, painted_at, painted_byte}
 use Rattle.rbd_flat.proofs.Images.{with_image_at}
 use Rattle.rbd_flat.proofs.Painted.{length_painted, painted_extents, painted_place, painted_at_zeros}
 use Rattle.rbd_parts.specs.Parts.{parts_written, parts_zeroed}
-use Rattle.rbd_site.specs.DataStep.{MayWrite, data_answer, data_after, data_change, where_object_done}
+use Rattle.rbd_site.specs.DataStep.{MayWriteParts, data_answer, data_after, data_change, where_object_done}
 use Rattle.rbd_site.specs.Records.{Records, put, or_blank, object_at, with_object}
 use Rattle.rbd_site.specs.Step.{answer_to, answer_served, after, after_served}
 use Rattle.rbd_stands.specs.Shown.{Snapshots, IsInOverlap, snapshots_of, inherited, shown, Links, links_of}
-use Rattle.rbd_stands.specs.Image.{ImageStands}
+use Rattle.rbd_stands.specs.Image.{ImageStands, IsInside}
 use Rattle.rbd_stands.specs.Site.{StandsFor, Pending}
-use Rattle.rbd_stands.specs.Image.{IsInside}
-use Rattle.rbd_stands.specs.Condition.{IsContextOf, ArePartsBelow, IsCopiedUp, IsChanged, AreWhole, IsZeroPast, extents_of}
+use Rattle.rbd_stands.specs.Condition.{IsContextOf, ArePartsBelow, IsCopiedUp, ChangesObject, AreWhole, IsZeroPast, extents_of}
 use Rattle.rbd_stands.proofs.ObjectSteps.{object_changed}
 use Rattle.rbd_stands.proofs.Painting.{parts_at, painted_beside, beside_elsewhere, beside_past, zeros_at, any_covered}
 use Rattle.rbd_stands.proofs.Whole.{whole_places, in_whole}
@@ -77,14 +76,14 @@ snaps_stay f image repaint = fun_ext (λ i. fun_ext (λ t.
 names_stay : (f : Flat) (image : ℕ) (change : FlatImage → FlatImage) → (with_image f image change).names ≡ f.names
 names_stay f image change = go (image_at f image)
   where
-    go : (o : Option FlatImage) → (changed change image o f).names ≡ f.names
+    go : (o : Option FlatImage) → (changed_image change image o f).names ≡ f.names
     go None = refl
     go (Some i) = refl
 
 links_stay : (f : Flat) (image : ℕ) (change : FlatImage → FlatImage) → (with_image f image change).links ≡ f.links
 links_stay f image change = go (image_at f image)
   where
-    go : (o : Option FlatImage) → (changed change image o f).links ≡ f.links
+    go : (o : Option FlatImage) → (changed_image change image o f).links ≡ f.links
     go None = refl
     go (Some i) = refl
 
@@ -93,7 +92,7 @@ elsewhere f image change j other = with_image_at f image change j ∙ ap (λ b. 
 
 pub head_stands : (pending : List Pending) (r : Records) (f : Flat) (image number : ℕ) (h : HeaderView) (context : SnapContext) (new : Option (List ℕ)) (repaint : List ℕ → List ℕ)
     → StandsFor pending r f → r.headers image ≡ Some h → IsContextOf h context
-    → ((i : FlatImage) → image_at f image ≡ Some i → ImageStands (snapshots_of f) (links_of f image) h (object_at r image) i → IsChanged (snapshots_of f) h number new i.bytes (repaint i.bytes))
+    → ((i : FlatImage) → image_at f image ≡ Some i → ImageStands (snapshots_of f) (links_of f image) h (object_at r image) i → ChangesObject (snapshots_of f) h number new i.bytes (repaint i.bytes))
     → StandsFor pending (with_object image number (Some (mapped_change context new (object_at r image number))) r) (repainted f image repaint)
 head_stands pending r f image number h context new repaint stands is of isChanged =
     let g = repainted f image repaint in
@@ -114,18 +113,18 @@ head_stands pending r f image number h context new repaint stands is of isChange
 
 pub any_head_stands : (pending : List Pending) (r : Records) (f : Flat) (image number : ℕ) (h : HeaderView) (context : SnapContext) (new : Option (List ℕ)) (i : FlatImage) (bytes : List ℕ)
     → StandsFor pending r f → r.headers image ≡ Some h → image_at f image ≡ Some i → IsContextOf h context
-    → IsChanged (snapshots_of f) h number new i.bytes bytes
+    → ChangesObject (snapshots_of f) h number new i.bytes bytes
     → StandsFor pending (with_object image number (Some (mapped_change context new (object_at r image number))) r) (repainted f image (λ old. bytes))
 any_head_stands pending r f image number h context new i bytes stands is at of isChanged =
     head_stands pending r f image number h context new (λ old. bytes) stands is of
-    (λ j found st. subst (λ (k : FlatImage). IsChanged (snapshots_of f) h number new k.bytes bytes) (same_Some i j (sym at ∙ found)) isChanged)
+    (λ j found st. subst (λ (k : FlatImage). ChangesObject (snapshots_of f) h number new k.bytes bytes) (same_Some i j (sym at ∙ found)) isChanged)
 
 -- the same, of an operation that was done
 pub data_stands : (pending : List Pending) (r : Records) (f : Flat) (me : Instance) (image number : ℕ) (h : HeaderView) (context : SnapContext) (new : Option (List ℕ)) (repaint : List ℕ → List ℕ) (o : DataOp)
     → StandsFor pending r f → r.headers image ≡ Some h → IsContextOf h context
     → answer_served r me (op.Data image number o) ≡ answer.Done
     → data_change (object_at r image number) o ≡ mapped_change context new (object_at r image number)
-    → ((i : FlatImage) → image_at f image ≡ Some i → ImageStands (snapshots_of f) (links_of f image) h (object_at r image) i → IsChanged (snapshots_of f) h number new i.bytes (repaint i.bytes))
+    → ((i : FlatImage) → image_at f image ≡ Some i → ImageStands (snapshots_of f) (links_of f image) h (object_at r image) i → ChangesObject (snapshots_of f) h number new i.bytes (repaint i.bytes))
     → StandsFor pending (after_served r me (op.Data image number o)) (repainted f image repaint)
 data_stands pending r f me image number h context new repaint o stands is of done made isChanged =
     subst (λ (object : Option Mapped). StandsFor pending (with_object image number object r) (repainted f image repaint))
@@ -166,12 +165,12 @@ module _ (below : Snapshots) (linked : Links) (h : HeaderView) (objects : ℕ �
   abbrev written : List ℕ → List ℕ
   written bytes = parts_written parts bytes old_head
 
-  written_at : (bytes : List ℕ) → MayWrite parts bytes → All (IsPart h.layout n) parts → (x : ℕ) → object_of h.layout x ≡ n
+  written_at : (bytes : List ℕ) → MayWriteParts parts bytes → All (IsPart h.layout n) parts → (x : ℕ) → object_of h.layout x ≡ n
       → get_or (written bytes) (offset_of h.layout x) 0 ≡ painted_at (extents_of parts) bytes (get_or old_head (offset_of h.layout x) 0) x
   written_at bytes may lie x same = parts_at h.layout stands.laid n parts lie bytes old_head may.long x same
 
-  pub write_is_change : (bytes : List ℕ) → MayWrite parts bytes → ArePartsBelow h h.size n parts → IsCopiedUp h n (objects n)
-      → IsChanged below h n (Some (written bytes)) i.bytes (painted (places_of (extents_of parts)) bytes i.bytes)
+  pub write_is_change : (bytes : List ℕ) → MayWriteParts parts bytes → ArePartsBelow h h.size n parts → IsCopiedUp h n (objects n)
+      → ChangesObject below h n (Some (written bytes)) i.bytes (painted (places_of (extents_of parts)) bytes i.bytes)
   write_is_change bytes may lie up =
       let are : All (IsPart h.layout n) parts = (λ k d less. (lie k d less).part) in
       record {
@@ -204,7 +203,7 @@ module _ (below : Snapshots) (linked : Links) (h : HeaderView) (objects : ℕ �
   still_there (Some bytes) some = refl
 
   pub zero_is_change : All (IsPart h.layout n) parts → IsCopiedUp h n (objects n)
-      → IsChanged below h n (option_map (parts_zeroed parts) (objects n).head) i.bytes (painted (places_of (extents_of parts)) [] i.bytes)
+      → ChangesObject below h n (option_map (parts_zeroed parts) (objects n).head) i.bytes (painted (places_of (extents_of parts)) [] i.bytes)
   zero_is_change lie up = record {
     long = length_painted (places_of (extents_of parts)) [] i.bytes;
     here = λ x within same. zeros_now x within ∙ ap (cond (covered (extents_of parts) x) 0) (old_at up x within same) ∙ sym (zeroed_shown (objects n).head up lie x same);
@@ -223,7 +222,7 @@ module _ (below : Snapshots) (linked : Links) (h : HeaderView) (objects : ℕ �
   cleared : AreWhole h n parts → (x : ℕ) → x < h.size → object_of h.layout x ≡ n → get_or (painted (places_of (extents_of parts)) [] i.bytes) x 0 ≡ 0
   cleared are x within same = zeros_now x within ∙ ap (λ b. cond b 0 (get_or i.bytes x 0)) (whole_covered are x within same)
 
-  pub empty_is_change : AreWhole h n parts → IsChanged below h n (Some []) i.bytes (painted (places_of (extents_of parts)) [] i.bytes)
+  pub empty_is_change : AreWhole h n parts → ChangesObject below h n (Some []) i.bytes (painted (places_of (extents_of parts)) [] i.bytes)
   empty_is_change are = record {
     long = length_painted (places_of (extents_of parts)) [] i.bytes;
     here = cleared are;
@@ -232,7 +231,7 @@ module _ (below : Snapshots) (linked : Links) (h : HeaderView) (objects : ℕ �
     there = λ inside. refl;
   }
 
-  pub remove_is_change : AreWhole h n parts → (IsInside h n → ⊥) → IsChanged below h n None i.bytes (painted (places_of (extents_of parts)) [] i.bytes)
+  pub remove_is_change : AreWhole h n parts → (IsInside h n → ⊥) → ChangesObject below h n None i.bytes (painted (places_of (extents_of parts)) [] i.bytes)
   remove_is_change are outside = record {
     long = length_painted (places_of (extents_of parts)) [] i.bytes;
     here = λ x within same. cleared are x within same
@@ -250,7 +249,7 @@ module _ (below : Snapshots) (linked : Links) (h : HeaderView) (objects : ℕ �
       ∙ ap (λ places. painted_byte places bytes (get_or i.bytes x 0) x) (whole_places h.layout stands.laid n h.size parts are)
       ∙ in_whole h.layout stands.laid n 0 h.size 0 (held_at_start h.layout n) bytes (get_or i.bytes x 0) x same (omega arith) (omega arith)
 
-  pub replace_is_change : (bytes : List ℕ) → AreWhole h n parts → IsZeroPast h n bytes → IsChanged below h n (Some bytes) i.bytes (painted (places_of (extents_of parts)) bytes i.bytes)
+  pub replace_is_change : (bytes : List ℕ) → AreWhole h n parts → IsZeroPast h n bytes → ChangesObject below h n (Some bytes) i.bytes (painted (places_of (extents_of parts)) bytes i.bytes)
   replace_is_change bytes are past_zero = record {
     long = length_painted (places_of (extents_of parts)) bytes i.bytes;
     here = replaced_at bytes are;
@@ -262,7 +261,7 @@ module _ (below : Snapshots) (linked : Links) (h : HeaderView) (objects : ℕ �
 -- ---- each operation
 
 write_served : (pending : List Pending) (r : Records) (f : Flat) (me : Instance) (image number : ℕ) (h : HeaderView) (context : SnapContext) (must : Bool) (parts : List Part) (bytes : List ℕ)
-    → StandsFor pending r f → r.headers image ≡ Some h → IsContextOf h context → MayWrite parts bytes
+    → StandsFor pending r f → r.headers image ≡ Some h → IsContextOf h context → MayWriteParts parts bytes
     → ArePartsBelow h h.size number parts → IsCopiedUp h number (object_at r image number)
     → answer_served r me (op.Data image number (data_op.Write context must parts bytes)) ≡ answer.Done
     → StandsFor pending (after_served r me (op.Data image number (data_op.Write context must parts bytes))) (flat.after f (effect.Piece image (extents_of parts) bytes))
@@ -271,7 +270,7 @@ write_served pending r f me image number h context must parts bytes stands is of
     (λ i at st. write_is_change (snapshots_of f) (links_of f image) h (object_at r image) i st number parts bytes may lie up)
 
 pub write_stands : (pending : List Pending) (r : Records) (f : Flat) (me : Instance) (image number : ℕ) (h : HeaderView) (context : SnapContext) (must : Bool) (parts : List Part) (bytes : List ℕ)
-    → StandsFor pending r f → r.headers image ≡ Some h → IsContextOf h context → MayWrite parts bytes
+    → StandsFor pending r f → r.headers image ≡ Some h → IsContextOf h context → MayWriteParts parts bytes
     → ArePartsBelow h h.size number parts → IsCopiedUp h number (object_at r image number)
     → answer_to r me (op.Data image number (data_op.Write context must parts bytes)) ≡ answer.Done
     → StandsFor pending (after r me (op.Data image number (data_op.Write context must parts bytes))) (flat.after f (effect.Piece image (extents_of parts) bytes))

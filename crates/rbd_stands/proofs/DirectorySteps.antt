@@ -11,7 +11,7 @@ use Rattle.rbd_kinds.specs.declared.answer.Answer.TheVariants as answer
 use Rattle.rbd_kinds.specs.declared.directory_op.DirectoryOp.TheVariants as directory_op
 use Rattle.rbd_kinds.specs.declared.id.Instance.{Instance}
 use Rattle.rbd_kinds.specs.declared.operation.Op.TheVariants as op
-use Rattle.rbd_registry.specs.Directory.{Listing, id_of, is_full, added, freed, holds, renamed}
+use Rattle.rbd_registry.specs.Directory.{Listing, id_of, is_full, added, freed, holds_id, renamed}
 use Rattle.rbd_flat.specs.declared.effect.Effect.TheVariants as effect
 use Rattle.rbd_flat.specs.Flat.{Flat}
 use Rattle.rbd_flat.specs.Flat as flat
@@ -132,7 +132,7 @@ free_served : (pending : List Pending) (r : Records) (f : Flat) (me : Instance) 
     → StandsFor pending (after_served r me (op.Directory (directory_op.Remove image))) (flat.after f (effect.NameFree image))
 free_served pending r f me image stands e =
     let g : Flat = flat.after f (effect.NameFree image) in
-    subst (λ (b : Bool). StandsFor pending (with_directory (cond b (freed image r.directory) r.directory) r) g) (sym (was_there (holds image r.directory) e))
+    subst (λ (b : Bool). StandsFor pending (with_directory (cond b (freed image r.directory) r.directory) r) g) (sym (was_there (holds_id image r.directory) e))
     (other_names pending r f (freed image r.directory) g.names stands refl
     (ap (λ (m : finmap.FinMap (slice_cmp nat_cmp) ℕ). finmap.from_entries (filter (λ e. not (eqb e.1 image)) (finmap.entries m))) stands.names))
 

@@ -18,7 +18,7 @@ use Rattle.rbd_kinds.specs.declared.id.Instance.{Instance}
 use Rattle.rbd_kinds.specs.declared.operation.Op.{Op}
 use Rattle.rbd_kinds.specs.declared.operation.Op.TheVariants as op
 use Rattle.rbd_header.specs.Header.{snap_in, with_size, with_status, with_role, detached}
-use Rattle.rbd_registry.specs.Directory.{Listing, id_of, added, renamed, freed, holds}
+use Rattle.rbd_registry.specs.Directory.{Listing, id_of, added, renamed, freed, holds_id}
 use Rattle.rbd_flat.specs.declared.effect.Effect.{Effect}
 use Rattle.rbd_flat.specs.declared.effect.Effect.TheVariants as effect
 use Rattle.rbd_flat.specs.Flat.{Flat, FlatSnap, image_at, snap_of, resized}
@@ -267,7 +267,7 @@ drawn_freed false image d = omega arith
 directory_drawn : (d : Listing) (o : DirectoryOp) → d.drawn ≤ (directory_after d o).drawn
 directory_drawn d (directory_op.Find name) = omega arith
 directory_drawn d (directory_op.Add name) = drawn_added (directory_answer d (directory_op.Add name)) (added name d) d (omega arith)
-directory_drawn d (directory_op.Remove image) = drawn_freed (holds image d) image d
+directory_drawn d (directory_op.Remove image) = drawn_freed (holds_id image d) image d
 directory_drawn d (directory_op.Rename from to) = drawn_done (directory_answer d (directory_op.Rename from to)) (id_of d from) from to d
 directory_drawn d directory_op.List = omega arith
 

@@ -18,9 +18,9 @@ use Rattle.rbd_layout.proofs.Listed.{parts_listed}
 use Rattle.rbd_layout.proofs.Places.{byte_of_place}
 use Rattle.rbd_layout.proofs.Unique.{parts_alike}
 use Rattle.rbd_flat.specs.declared.effect.Effect.TheVariants as effect
-use Rattle.rbd_site.specs.DataStep.{MayWrite}
+use Rattle.rbd_site.specs.DataStep.{MayWriteParts}
 use Rattle.rbd_stands.specs.Condition.{ArePartsBelow, AreWhole, IsPartBelow, extent_of, extents_of}
-use Rattle.rbd_stands.specs.Effect.{bytes_below, effect_of_data, extents_below, joined, places_below, whole_object}
+use Rattle.rbd_stands.specs.Effect.{bytes_below, effect_of_data, extents_below, joined_extents, places_below, whole_object}
 
 -- ---- a part's places
 
@@ -61,12 +61,12 @@ one_part l at (suc len) =
     more : suc len + 1 ≡ suc (suc len)
     more = omega arith
 
-joined_range : (l : Layout) (at len : ℕ) → 0 < len → joined l (range_with_len at len) ≡ record { at = at; len = len } ∷ []
+joined_range : (l : Layout) (at len : ℕ) → 0 < len → joined_extents l (range_with_len at len) ≡ record { at = at; len = len } ∷ []
 joined_range l at zero some = absurd (omega arith)
 joined_range l at (suc len) some = ap extents_of (one_part l at len)
 
-part_extent : (l : Layout) → IsLayout l → (size n : ℕ) (p : Part) → IsPart l n p → p.at + p.len ≤ size → joined l (places_below l size n p) ≡ extent_of p ∷ []
-part_extent l laid size n p is below = ap (joined l) (below_range l laid size n p is below) ∙ joined_range l p.at p.len is.some
+part_extent : (l : Layout) → IsLayout l → (size n : ℕ) (p : Part) → IsPart l n p → p.at + p.len ≤ size → joined_extents l (places_below l size n p) ≡ extent_of p ∷ []
+part_extent l laid size n p is below = ap (joined_extents l) (below_range l laid size n p is below) ∙ joined_range l p.at p.len is.some
 
 parts_extents : (h : HeaderView) → IsLayout h.layout → (n : ℕ) (parts : List Part) → ArePartsBelow h h.size n parts → extents_below h.layout h.size n parts ≡ extents_of parts
 parts_extents h laid n [] are = refl
@@ -96,7 +96,7 @@ whole_extents h laid n parts are =
 
 -- ---- effects
 
-pub write_effect : (h : HeaderView) (image number : ℕ) (context : SnapContext) (must : Bool) (parts : List Part) (bytes : List ℕ) → IsLayout h.layout → ArePartsBelow h h.size number parts → MayWrite parts bytes
+pub write_effect : (h : HeaderView) (image number : ℕ) (context : SnapContext) (must : Bool) (parts : List Part) (bytes : List ℕ) → IsLayout h.layout → ArePartsBelow h h.size number parts → MayWriteParts parts bytes
     → effect_of_data image number h (data_op.Write context must parts bytes) ≡ Some (effect.Piece image (extents_of parts) bytes)
 write_effect h image number context must parts bytes laid are may =
     (λ i. Some (effect.Piece image (parts_extents h laid number parts are i) (parts_bytes h laid number parts bytes are may.long i)))

@@ -4,7 +4,7 @@ use Rattle.rbd_kinds.specs.declared.header.HeaderView.{HeaderView}
 use Rattle.rbd_kinds.specs.declared.header.ParentLink.{ParentLink}
 use Rattle.rbd_kinds.specs.declared.header.SnapStatus.TheVariants.{Unprotected}
 use Rattle.rbd_kinds.specs.Striping.{object_of, offset_of}
-use Rattle.rbd_object.specs.Mapped.{Mapped, looked}
+use Rattle.rbd_object.specs.Mapped.{Mapped, versioned}
 use Rattle.rbd_object.specs.Versioned.{view}
 use Rattle.rbd_flat.specs.Flat.{FlatImage, FlatSnap}
 use Rattle.rbd_flat.specs.Laws.{snap_byte}
@@ -68,9 +68,9 @@ image_kept below after linked h objects i keeps stands = record {
     snap = λ t s is. parent_kept below after linked s.parent (keeps.snap t s is) (stands.parents.snap t s is);
   };
   bytes = record {
-    head = λ x within. stands.bytes.head x within ∙ sym (shown_kept below after linked h.parent keeps.head stands.parents.head (view (looked (objects (object_of h.layout x))) None) (offset_of h.layout x) x);
+    head = λ x within. stands.bytes.head x within ∙ sym (shown_kept below after linked h.parent keeps.head stands.parents.head (view (versioned (objects (object_of h.layout x))) None) (offset_of h.layout x) x);
     snap = λ t s is x within. stands.bytes.snap t s is x within
-        ∙ sym (shown_kept below after linked s.parent (keeps.snap t s is) (stands.parents.snap t s is) (view (looked (objects (object_of h.layout x))) (Some t)) (offset_of h.layout x) x);
+        ∙ sym (shown_kept below after linked s.parent (keeps.snap t s is) (stands.parents.snap t s is) (view (versioned (objects (object_of h.layout x))) (Some t)) (offset_of h.layout x) x);
   };
 }
 

@@ -7,7 +7,7 @@ use Rattle.rbd_kinds.specs.declared.header.SnapStatus.TheVariants.{Unprotected}
 use Rattle.rbd_kinds.specs.declared.header.SnapView.{SnapView}
 use Rattle.rbd_kinds.specs.Striping.{object_of, offset_of}
 use Rattle.rbd_header.specs.Header.{snap_in, with_snap, snap_taken, without_snap}
-use Rattle.rbd_object.specs.Mapped.{Mapped, looked}
+use Rattle.rbd_object.specs.Mapped.{Mapped, versioned}
 use Rattle.rbd_object.specs.Versioned.{view}
 use Rattle.rbd_flat.specs.Flat.{FlatImage, FlatSnap}
 use Rattle.rbd_stands.specs.View.{flat_bytes}
@@ -41,8 +41,8 @@ module _ (below : Snapshots) (linked : Links) (name : List ℕ) (h : HeaderView)
       (flat_last i.snaps taken (h.snap_seq + 1) (flat_missing h.snaps i.snaps stands.same (h.snap_seq + 1) (unlisted (snap_in h.snaps (h.snap_seq + 1)) refl)) refl)
 
   -- the next snapshot's view of an object is the head
-  new_view : (n : ℕ) → view (looked (objects n)) (Some (h.snap_seq + 1)) ≡ (objects n).head
-  new_view n = ap (λ b. cond b (objects n).head ((looked (objects n)).kept (h.snap_seq + 1))) (lt-ltb (objects n).seq (h.snap_seq + 1) (let e = stands.seen n in omega arith))
+  new_view : (n : ℕ) → view (versioned (objects n)) (Some (h.snap_seq + 1)) ≡ (objects n).head
+  new_view n = ap (λ b. cond b (objects n).head ((versioned (objects n)).kept (h.snap_seq + 1))) (lt-ltb (objects n).seq (h.snap_seq + 1) (let e = stands.seen n in omega arith))
 
   pub snap_added : ImageStands below linked (with_snap name h) objects with_flat_snap
   snap_added = record {

@@ -18,7 +18,7 @@ use Rattle.rbd_kinds.specs.Form.{IsNewHeader}
 use Rattle.rbd_kinds.specs.Header.{snap_named}
 use Rattle.rbd_kinds.specs.Striping.{object_of, offset_of, byte_at}
 use Rattle.rbd_header.specs.Header.{snap_in, is_full, with_snap, without_snap}
-use Rattle.rbd_object.specs.Mapped.{Mapped, looked, mapped_blank}
+use Rattle.rbd_object.specs.Mapped.{Mapped, versioned, mapped_blank}
 use Rattle.rbd_object.specs.Versioned.{IsTidy, view}
 use Rattle.rbd_flat.specs.declared.effect.Effect.{Effect}
 use Rattle.rbd_flat.specs.declared.effect.Effect.TheVariants as effect
@@ -75,7 +75,7 @@ module _ (below : Snapshots) (linked : Links) (h : HeaderView) (objects : ℕ �
   none_listed : {P : Type 0} (t : ℕ) (s : SnapView) → snap_in h.snaps t ≡ Some s → P
   none_listed t s is = absurd (none-some s (sym (ap (λ snaps. snap_in snaps t) new.snaps) ∙ is))
 
-  blank_tidy : IsTidy (looked mapped_blank)
+  blank_tidy : IsTidy (versioned mapped_blank)
   blank_tidy = record { above = λ snap above. finmap.get-empty nat_cmp snap }
 
   pub image_made : ImageStands below linked h objects zeros
@@ -93,7 +93,7 @@ module _ (below : Snapshots) (linked : Links) (h : HeaderView) (objects : ℕ �
     untouched = λ n inside absent. absurd (subst (λ parent. IsInOverlap parent (byte_at h.layout n 0)) alone inside);
     alike = record { head = λ x inside absent. refl; snap = λ t s is. none_listed t s is };
     clear = λ x past. ap (λ (o : Mapped). get_or (unwrap_or o.head []) (offset_of h.layout x) 0) (blank (object_of h.layout x));
-    tidy = λ n. subst (λ (o : Mapped). IsTidy (looked o)) (sym (blank n)) blank_tidy;
+    tidy = λ n. subst (λ (o : Mapped). IsTidy (versioned o)) (sym (blank n)) blank_tidy;
     seen = λ n. let e : (objects n).seq ≡ 0 = ap (λ o. o.seq) (blank n) in omega arith;
     numbered = record { head = tt; snap = λ t s is. none_listed t s is };
     laid = new.form.layout;

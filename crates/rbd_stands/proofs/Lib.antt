@@ -26,3 +26,6 @@ pub mod WritePieces
 pub mod ReadPieces
 pub mod Locks
 pub mod LogSteps
+pub mod HeldLemmas
+pub mod ExtentLemmas
+pub mod ByteLemmas

@@ -19,7 +19,7 @@ use Rattle.rbd_site.specs.HeaderStep.{header_answer, header_after, header_then, 
 use Rattle.rbd_site.specs.Log.{IsAnswer, after_op}
 use Rattle.rbd_site.specs.Records.{Records}
 use Rattle.rbd_site.specs.Step.{after, after_served, answer_served, answer_to}
-use Rattle.rbd_stands.specs.Owned.{HasLock, IsDone}
+use Rattle.rbd_stands.specs.Owned.{HasLock, IsDoneBy}
 use Rattle.rbd_stands.proofs.Served.{where_either}
 
 -- ---- instances
@@ -137,7 +137,7 @@ module _ (r : Records) (image : ℕ) (who me : Instance) (lock : HasLock image m
 pub record IsLoss (image : ℕ) (me : Instance) (d : Done) : Type 0 where
   pub who : Instance
   pub o : HeaderOp
-  pub line : IsDone d who (on.Header image o)
+  pub line : IsDoneBy d who (on.Header image o)
   pub ends : EndsLock who me o
 
 pub line_keeps : (r : Records) (image : ℕ) (me : Instance) (d : Done) → IsAnswer r d.instance d.op d.answer → HasLock image me r

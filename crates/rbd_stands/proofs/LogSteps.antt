@@ -28,7 +28,7 @@ use Rattle.rbd_site.specs.Step.{after, answer_to, is_fenced}
 use Rattle.rbd_site.proofs.FenceLemmas.{fence_stays, lists_no_other}
 use Rattle.rbd_site.proofs.StepLemmas.{other_blocklist}
 use Rattle.rbd_stands.specs.Effect.{effect_of}
-use Rattle.rbd_stands.specs.Owned.{AreOwned, DoesNothing, HasLock, IsDone, IsDoneBySome, IsLetGo, IsNothing, IsOwnedLine, IsOwnedStep, IsOwner, IsTakenAway, SomeLine, changes_image, was_done}
+use Rattle.rbd_stands.specs.Owned.{AreOwned, DoesNothing, HasLock, IsDoneBy, IsDoneBySome, IsLetGo, IsNothing, IsOwnedLine, IsOwnedStep, IsOwner, IsTakenAway, SomeLine, changes_image, was_done}
 use Rattle.rbd_stands.proofs.Locks.{EndsLock, IsLoss, line_keeps}
 use Rattle.rbd_stands.proofs.NoEffect.{fenced_none}
 use Rattle.rbd_stands.proofs.Served.{fenced_after, fenced_answer, free_answer}
@@ -126,9 +126,9 @@ not_by_fenced r d me answered fenced mine done = let e = sym (line_nothing r d m
 taken_away : (r : Records) (image : ℕ) (me : Instance) (d : Done) → IsAnswer r d.instance d.op d.answer → is_fenced r me ≡ true → IsLoss image me d → IsTakenAway image me d
 taken_away r image me d answered fenced loss = go loss.o loss.line loss.ends
   where
-    go : (o : HeaderOp) → IsDone d loss.who (on.Header image o) → EndsLock loss.who me o → IsTakenAway image me d
+    go : (o : HeaderOp) → IsDoneBy d loss.who (on.Header image o) → EndsLock loss.who me o → IsTakenAway image me d
     go header.LockDrop line ends = absurd (not_by_fenced r d me answered fenced (line.by ∙ ap Some ends) line.answered)
-    go (header.LockBreak owner) line ends = inl (record { who = loss.who; line = subst (λ o. IsDone d loss.who (on.Header image (header.LockBreak o))) ends line })
+    go (header.LockBreak owner) line ends = inl (record { who = loss.who; line = subst (λ o. IsDoneBy d loss.who (on.Header image (header.LockBreak o))) ends line })
     go header.Remove line ends = inr (record { who = loss.who; line = line })
     go o line ends = absurd ends
 
@@ -198,7 +198,7 @@ was_added log me answered listed = elim (added_since no_records log me answered 
 abbrev Claims : (r : Records) (log : List Done) (image : ℕ) → Instance → Type 0
 Claims r log image me = SomeLine (IsLetGo image me) log ⊎ IsTrue (is_fenced (after_all r log) me)
 
-step_of : (r : Records) (d : Done) (who : Instance) (op : Op) → IsOwnedLine r d.instance d.op d.answer → IsDone d who op → IsOwnedStep r who op answer.Done
+step_of : (r : Records) (d : Done) (who : Instance) (op : Op) → IsOwnedLine r d.instance d.op d.answer → IsDoneBy d who op → IsOwnedStep r who op answer.Done
 step_of r d who op owned line =
     subst (IsOwnedStep r who op) line.answered
     (subst (λ x. IsOwnedLine r (Some who) x d.answer) line.what (subst (λ i. IsOwnedLine r i d.op d.answer) line.by owned))
@@ -206,8 +206,8 @@ step_of r d who op owned line =
 loss_claims : (r : Records) (d : Done) (log : List Done) (image : ℕ) (me : Instance) → IsOwnedLine r d.instance d.op d.answer → HasLock image me r → IsLoss image me d → Claims r (d ∷ log) image me
 loss_claims r d log image me owned lock loss = go loss.o loss.line loss.ends
   where
-    go : (o : HeaderOp) → IsDone d loss.who (on.Header image o) → EndsLock loss.who me o → Claims r (d ∷ log) image me
-    go header.LockDrop line ends = inl (inl (inl (subst (λ i. IsDone d i (on.Header image header.LockDrop)) ends line)))
+    go : (o : HeaderOp) → IsDoneBy d loss.who (on.Header image o) → EndsLock loss.who me o → Claims r (d ∷ log) image me
+    go header.LockDrop line ends = inl (inl (inl (subst (λ i. IsDoneBy d i (on.Header image header.LockDrop)) ends line)))
     go (header.LockBreak owner) line ends =
         let broken = (step_of r d loss.who (on.Header image (header.LockBreak owner)) owned line).broken image owner refl refl in
         inr (still_listed r (d ∷ log) me (subst (λ i. is_fenced r i ≡ true) ends broken))
@@ -215,7 +215,7 @@ loss_claims r d log image me owned lock loss = go loss.o loss.line loss.ends
         let step = step_of r d loss.who (on.Header image header.Remove) owned line in
         let by_owner : IsOwner (r.headers image) loss.who = step.change image (ap (λ b. b && true) (eq-eqb image image refl)) refl in
         let mine : loss.who ≡ me = same_Some loss.who me (sym (subst (λ h. IsOwner h loss.who) lock.there by_owner) ∙ lock.owner) in
-        inl (inl (inr (subst (λ i. IsDone d i (on.Header image header.Remove)) mine line)))
+        inl (inl (inr (subst (λ i. IsDoneBy d i (on.Header image header.Remove)) mine line)))
     go o line ends = absurd ends
 
 pub lock_claim : (r : Records) (log : List Done) (image : ℕ) (me : Instance) → AreAnswered r log → AreOwned r log → HasLock image me r

@@ -5,7 +5,7 @@ use Rattle.std.proofs.lemmas.Option.{none-some, same_Some}
 use Rattle.rbd_kinds.specs.declared.header.SnapView.{SnapView}
 use Rattle.rbd_kinds.specs.declared.header.SnapStatus.{SnapStatus}
 use Rattle.rbd_kinds.proofs.Plain.{cond_same}
-use Rattle.rbd_header.specs.Header.{snap_in, marked}
+use Rattle.rbd_header.specs.Header.{snap_in, status_marked}
 use Rattle.rbd_header.proofs.Changed.{marked_id}
 use Rattle.rbd_flat.specs.Flat.{FlatSnap}
 use Rattle.rbd_flat.specs.Flat as flat
@@ -173,14 +173,14 @@ apart g true x y = refl
 apart g false x y = refl
 
 pub lines_marked : (t : ℕ) (status : SnapStatus) (hs : List SnapView) (fs : List FlatSnap) → map line_of_snap hs ≡ map line_of_flat fs
-    → map line_of_snap (map (marked t status) hs) ≡ map line_of_flat (map (flat.with_status t status) fs)
+    → map line_of_snap (map (status_marked t status) hs) ≡ map line_of_flat (map (flat.with_status t status) fs)
 unfolding line_marked
 lines_marked t status hs fs same =
-    map_map line_of_snap (marked t status) (line_marked t status) (λ s. apart line_of_snap (eqb s.id t) (record s { status = status }) s) hs
+    map_map line_of_snap (status_marked t status) (line_marked t status) (λ s. apart line_of_snap (eqb s.id t) (record s { status = status }) s) hs
     ∙ ap (map (line_marked t status)) same
     ∙ sym (map_map line_of_flat (flat.with_status t status) (line_marked t status) (λ s. apart line_of_flat (eqb s.id t) (record s { status = status }) s) fs)
 
-pub marked_shape : (t : ℕ) (status : SnapStatus) (s : SnapView) → shape_of_snap (marked t status s) ≡ shape_of_snap s
+pub marked_shape : (t : ℕ) (status : SnapStatus) (s : SnapView) → shape_of_snap (status_marked t status s) ≡ shape_of_snap s
 marked_shape t status s = apart shape_of_snap (eqb s.id t) (record s { status = status }) s ∙ cond_same (eqb s.id t) (shape_of_snap s)
 
 flat_marked_id : (t : ℕ) (status : SnapStatus) (s : FlatSnap) → (flat.with_status t status s).id ≡ s.id
@@ -189,12 +189,12 @@ flat_marked_id t status s = apart (λ (u : FlatSnap). u.id) (eqb s.id t) (record
 flat_marked_bytes : (t : ℕ) (status : SnapStatus) (s : FlatSnap) → (flat.with_status t status s).bytes ≡ s.bytes
 flat_marked_bytes t status s = apart (λ (u : FlatSnap). u.bytes) (eqb s.id t) (record s { status = status }) s ∙ cond_same (eqb s.id t) s.bytes
 
-pub header_marked : (t : ℕ) (status : SnapStatus) (snaps : List SnapView) (u : ℕ) → snap_in (map (marked t status) snaps) u ≡ option_map (marked t status) (snap_in snaps u)
+pub header_marked : (t : ℕ) (status : SnapStatus) (snaps : List SnapView) (u : ℕ) → snap_in (map (status_marked t status) snaps) u ≡ option_map (status_marked t status) (snap_in snaps u)
 header_marked t status [] u = refl
 header_marked t status (s ∷ snaps) u =
-    ap (λ id. cond (eqb id u) (Some (marked t status s)) (snap_in (map (marked t status) snaps) u)) (marked_id t status s)
-    ∙ ap (cond (eqb s.id u) (Some (marked t status s))) (header_marked t status snaps u)
-    ∙ sym (map_cond (marked t status) (eqb s.id u) s (snap_in snaps u))
+    ap (λ id. cond (eqb id u) (Some (status_marked t status s)) (snap_in (map (status_marked t status) snaps) u)) (marked_id t status s)
+    ∙ ap (cond (eqb s.id u) (Some (status_marked t status s))) (header_marked t status snaps u)
+    ∙ sym (map_cond (status_marked t status) (eqb s.id u) s (snap_in snaps u))
 
 flat_marked : (t : ℕ) (status : SnapStatus) (snaps : List FlatSnap) (u : ℕ) → flat.snap_in (map (flat.with_status t status) snaps) u ≡ option_map (flat.with_status t status) (flat.snap_in snaps u)
 flat_marked t status [] u = refl

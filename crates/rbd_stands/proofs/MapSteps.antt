@@ -13,7 +13,7 @@ use Rattle.rbd_kinds.specs.declared.operation.Op.{Op}
 use Rattle.rbd_kinds.specs.declared.operation.Op.TheVariants as op
 use Rattle.rbd_kinds.specs.Striping.{object_of, offset_of}
 use Rattle.rbd_object.specs.Kept.{is_listed}
-use Rattle.rbd_object.specs.Mapped.{Mapped, looked, mapped_trim}
+use Rattle.rbd_object.specs.Mapped.{Mapped, versioned, mapped_trim}
 use Rattle.rbd_object.specs.Versioned.{view}
 use Rattle.rbd_flat.specs.Flat.{Flat, image_at}
 use Rattle.rbd_site.specs.DataStep.{data_answer, data_after, data_change, where_object_done}
@@ -68,7 +68,7 @@ object_covered r image number object covers raised i h is = to_views h (λ v. Is
     (λ n there. go v shape at n (eqb i image) refl there))
   where
     at_number : (v : Option ℕ) (shape : Shape) → shape_of h v ≡ Some shape → (n : ℕ) → r.headers image ≡ Some h → (t : Bool) → eqb n number ≡ t
-        → is_some (view (looked (or_blank (cond t object (r.objects image n)))) v) ≡ true
+        → is_some (view (versioned (or_blank (cond t object (r.objects image n)))) v) ≡ true
         → IsRaised (r.maps image v) n ⊎ (exists_at (object_at r image) v n ≡ true)
     at_number v shape at n there false e exists = inr exists
     at_number v shape at n there true e exists =
@@ -76,7 +76,7 @@ object_covered r image number object covers raised i h is = to_views h (λ v. Is
         (from_views h (λ v. IsRaisedOrWas (r.maps image v) number (object_at r image number) (or_blank object) v) (raised h there) v shape at exists)
 
     go : (v : Option ℕ) (shape : Shape) → shape_of h v ≡ Some shape → (n : ℕ) → (t : Bool) → eqb i image ≡ t
-        → is_some (view (looked (or_blank (cond t (put (r.objects image) number object) (r.objects i) n))) v) ≡ true
+        → is_some (view (versioned (or_blank (cond t (put (r.objects image) number object) (r.objects i) n))) v) ≡ true
         → IsRaised (r.maps i v) n ⊎ (exists_at (object_at r i) v n ≡ true)
     go v shape at n false e exists = inr exists
     go v shape at n true e exists =

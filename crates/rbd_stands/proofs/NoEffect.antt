@@ -17,7 +17,7 @@ use Rattle.rbd_kinds.specs.declared.map_op.MapOp.TheVariants as map_op
 use Rattle.rbd_kinds.specs.declared.operation.Op.{Op}
 use Rattle.rbd_kinds.specs.declared.operation.Op.TheVariants as op
 use Rattle.rbd_site.specs.declared.done.DoneOp.TheVariants as done
-use Rattle.rbd_site.specs.Laws.{is_change, is_look}
+use Rattle.rbd_site.specs.Laws.{may_have_changed, is_look}
 use Rattle.rbd_site.specs.Records.{Records}
 use Rattle.rbd_stands.specs.Effect.{effect_of, effect_of_op, header_of}
 use Rattle.rbd_stands.specs.Unseen.{is_unseen}
@@ -42,7 +42,7 @@ look_none r o a look = look_at (header_of r o) o a look
 
 -- ---- what wasn't done
 
-refused_at : (header : Option HeaderView) (o : Op) (a : Answer) → is_change a ≡ false → effect_of_op header o a ≡ None
+refused_at : (header : Option HeaderView) (o : Op) (a : Answer) → may_have_changed a ≡ false → effect_of_op header o a ≡ None
 refused_at header o answer.Done no_change = absurd (true≢false no_change)
 refused_at header o (answer.Id image) no_change = absurd (true≢false no_change)
 refused_at header o (answer.Snap snap) no_change = absurd (true≢false no_change)
@@ -67,7 +67,7 @@ refused_at None (op.Data image number o) a no_change = refl
 refused_at (Some h) (op.Data image number o) a no_change = refl
 refused_at header o a no_change = refl
 
-pub refused_none : (r : Records) (o : Op) (a : Answer) → IsFalse (is_change a) → effect_of r (done.Op o) a ≡ None
+pub refused_none : (r : Records) (o : Op) (a : Answer) → IsFalse (may_have_changed a) → effect_of r (done.Op o) a ≡ None
 refused_none r o a no_change = refused_at (header_of r o) o a no_change
 
 pub fenced_none : (r : Records) (o : Op) → effect_of r (done.Op o) answer.Fenced ≡ None

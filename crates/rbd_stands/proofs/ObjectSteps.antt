@@ -7,7 +7,7 @@ use Rattle.rbd_kinds.specs.declared.header.SnapContext.{SnapContext}
 use Rattle.rbd_kinds.specs.declared.header.SnapView.{SnapView}
 use Rattle.rbd_kinds.specs.Striping.{object_of, offset_of}
 use Rattle.rbd_header.specs.Header.{snap_in}
-use Rattle.rbd_object.specs.Mapped.{Mapped, looked, mapped_change, mapped_blank}
+use Rattle.rbd_object.specs.Mapped.{Mapped, versioned, mapped_change, mapped_blank}
 use Rattle.rbd_object.specs.Versioned.{IsTidy, view}
 use Rattle.rbd_object.proofs.MappedLemmas.{looked-mapped_change}
 use Rattle.rbd_object.proofs.StepLemmas.{view-change}
@@ -15,7 +15,7 @@ use Rattle.rbd_flat.specs.Flat.{FlatImage}
 use Rattle.rbd_site.specs.Records.{put}
 use Rattle.rbd_stands.specs.Shown.{Snapshots, shown, Links, inherited}
 use Rattle.rbd_stands.specs.Image.{ImageStands, IsInside}
-use Rattle.rbd_stands.specs.Condition.{IsContextOf, IsChanged}
+use Rattle.rbd_stands.specs.Condition.{IsContextOf, ChangesObject}
 use Rattle.rbd_object.proofs.SoundLemmas.{tidy_change}
 
 -- ---- a function with another value at one place
@@ -36,15 +36,15 @@ put_both P f n a here there m = go (cases_eq m n)
 -- ---- a change under the header's context
 
 module _ (below : Snapshots) (linked : Links) (h : HeaderView) (objects : ℕ → Mapped) (i : FlatImage) (stands : ImageStands below linked h objects i) (c : SnapContext) (context : IsContextOf h c)
-    (n : ℕ) (new : Option (List ℕ)) (bytes : List ℕ) (changed : IsChanged below h n new i.bytes bytes) where
+    (n : ℕ) (new : Option (List ℕ)) (bytes : List ℕ) (changed : ChangesObject below h n new i.bytes bytes) where
   abbrev now : ℕ → Mapped
   now = put objects n (mapped_change c new (objects n))
 
   -- a listed snapshot keeps its view of the object
-  view_kept : (t : ℕ) (s : SnapView) → snap_in h.snaps t ≡ Some s → (m : ℕ) → view (looked (now m)) (Some t) ≡ view (looked (objects m)) (Some t)
-  view_kept t s is = put_both (λ m o. view (looked o) (Some t) ≡ view (looked (objects m)) (Some t)) objects n (mapped_change c new (objects n))
+  view_kept : (t : ℕ) (s : SnapView) → snap_in h.snaps t ≡ Some s → (m : ℕ) → view (versioned (now m)) (Some t) ≡ view (versioned (objects m)) (Some t)
+  view_kept t s is = put_both (λ m o. view (versioned o) (Some t) ≡ view (versioned (objects m)) (Some t)) objects n (mapped_change c new (objects n))
       (ap (λ o. view o (Some t)) (looked-mapped_change c new (objects n))
-      ∙ view-change t c new (looked (objects n)) (stands.tidy n) (let k = stands.numbered.snap t s is in omega (arith, k.1, context.seq)) (context.lists t s is))
+      ∙ view-change t c new (versioned (objects n)) (stands.tidy n) (let k = stands.numbered.snap t s is in omega (arith, k.1, context.seq)) (context.lists t s is))
       (λ m other. refl)
 
   head_bytes : (x : ℕ) → x < h.size → (m : ℕ) → object_of h.layout x ≡ m → get_or bytes x 0 ≡ shown below h.parent (now m).head (offset_of h.layout x) x
@@ -79,8 +79,8 @@ module _ (below : Snapshots) (linked : Links) (h : HeaderView) (objects : ℕ �
         (λ same. changed.clear x past same)
         (λ m other same. ap (λ k. get_or (unwrap_or (objects k).head []) (offset_of h.layout x) 0) (sym same) ∙ stands.clear x past)
         (object_of h.layout x) refl;
-    tidy = put_both (λ m o. IsTidy (looked o)) objects n (mapped_change c new (objects n))
-        (subst IsTidy (sym (looked-mapped_change c new (objects n))) (tidy_change c new (looked (objects n)) (stands.tidy n)))
+    tidy = put_both (λ m o. IsTidy (versioned o)) objects n (mapped_change c new (objects n))
+        (subst IsTidy (sym (looked-mapped_change c new (objects n))) (tidy_change c new (versioned (objects n)) (stands.tidy n)))
         (λ m other. stands.tidy m);
     seen = put_both (λ m o. o.seq ≤ h.snap_seq) objects n (mapped_change c new (objects n))
         (let e = stands.seen n in omega (arith, context.seq))

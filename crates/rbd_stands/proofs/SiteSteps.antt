@@ -8,7 +8,7 @@ use Rattle.rbd_kinds.specs.declared.header.ParentLink.{ParentLink}
 use Rattle.rbd_kinds.specs.declared.id.Instance.{Instance}
 use Rattle.rbd_object.specs.Mapped.{Mapped}
 use Rattle.rbd_flat.specs.declared.effect.Effect.{Effect}
-use Rattle.rbd_flat.specs.Flat.{Flat, FlatImage, FlatSnap, image_at, with_image}
+use Rattle.rbd_flat.specs.Flat.{Flat, FlatImage, FlatSnap, image_at, with_image, link_cmp}
 use Rattle.rbd_flat.specs.Laws.{image_of}
 use Rattle.rbd_flat.specs.Flat as flat
 use Rattle.rbd_flat.proofs.Images.{with_image_at}
@@ -20,7 +20,6 @@ use Rattle.rbd_stands.specs.Image.{ImageStands}
 use Rattle.std.specs.FinSet as finset
 use Rattle.std.specs.List.{slice_get}
 use Rattle.rbd_registry.specs.Children.{entry_cmp}
-use Rattle.rbd_flat.specs.Flat.{link_cmp}
 use Rattle.rbd_stands.specs.Site.{IsAwaited, StandsAt, StandsFor, IsUntouched, Pending}
 use Rattle.rbd_stands.proofs.Frame.{KeepsParent, image_kept, await_kept}
 use Rattle.rbd_stands.proofs.ObjectSteps.{put_there, put_elsewhere}

@@ -1,5 +1,6 @@
--- Steps that have no effect: on the lock and on who watches, those of a fenced instance, the listing
--- of one, late ones on objects of an image that is gone, the end of a watch, and the store's trim.
+-- Steps that have no effect: on the lock and on who watches, those of a fenced instance, the
+-- listing of one, late ones on objects of an image that is gone, the end of a watch, and the
+-- store's trim.
 use Rattle.std.proofs.Common.{◌≡◌, ℕ, ◌+◌, ◌<◌, ◌≤◌, Bool, true, false, cond, eqb, ◌||◌, List, [], ◌∷◌, map, get_or, Option, Some, None, option_map, is_some, unwrap_or, ltb, refl, sym, ◌∙◌, ap, subst, arith}
 use Rattle.std.specs.Prelude.{IsTrue}
 use Rattle.std.proofs.lemmas.Bool.{true≢false}
@@ -19,7 +20,7 @@ use Rattle.rbd_kinds.specs.declared.operation.Op.TheVariants as op
 use Rattle.rbd_kinds.specs.Striping.{object_of, offset_of}
 use Rattle.rbd_header.specs.Header.{snap_in}
 use Rattle.rbd_object.specs.Kept.{is_listed}
-use Rattle.rbd_object.specs.Mapped.{Mapped, looked, mapped_blank, mapped_trim}
+use Rattle.rbd_object.specs.Mapped.{Mapped, versioned, mapped_blank, mapped_trim}
 use Rattle.rbd_object.specs.Versioned.{IsTidy, view}
 use Rattle.rbd_object.proofs.MappedLemmas.{looked-mapped_trim}
 use Rattle.rbd_object.proofs.KeptLemmas.{get-live}
@@ -172,10 +173,10 @@ pub context_from : (h : HeaderView) (context : SnapContext) → context.seq ≡ 
     → ((snap : ℕ) → is_listed (live_in (Some h)) snap ≡ true → is_listed context.snaps snap ≡ true) → IsContextOf h context
 context_from h context seq each = record { seq = seq; lists = λ t s is. each t (listed_by_id h.snaps t s is) }
 
-pub view_trimmed : (live : List ℕ) (t : ℕ) (o : Mapped) → is_listed live t ≡ true → view (looked (mapped_trim live o)) (Some t) ≡ view (looked o) (Some t)
+pub view_trimmed : (live : List ℕ) (t : ℕ) (o : Mapped) → is_listed live t ≡ true → view (versioned (mapped_trim live o)) (Some t) ≡ view (versioned o) (Some t)
 view_trimmed live t o listed =
     ap (λ v. view v (Some t)) (looked-mapped_trim live o)
-    ∙ ap (λ b. cond (ltb o.seq t) o.head (cond b ((looked o).kept t) None)) listed
+    ∙ ap (λ b. cond (ltb o.seq t) o.head (cond b ((versioned o).kept t) None)) listed
 
 pub blank_trimmed : (live : List ℕ) → mapped_trim live mapped_blank ≡ mapped_blank
 blank_trimmed live = ap (λ (kept : FinMap nat_cmp (List ℕ)). record mapped_blank { kept = kept })
@@ -193,8 +194,8 @@ module _ (below : Snapshots) (linked : Links) (h : HeaderView) (objects : ℕ �
   head_kept : (m : ℕ) → (put objects n now m).head ≡ (objects m).head
   head_kept = put_both (λ m o. o.head ≡ (objects m).head) objects n now refl (λ m other. refl)
 
-  view_kept : (t : ℕ) (s : SnapView) → snap_in h.snaps t ≡ Some s → (m : ℕ) → view (looked (put objects n now m)) (Some t) ≡ view (looked (objects m)) (Some t)
-  view_kept t s is = put_both (λ m o. view (looked o) (Some t) ≡ view (looked (objects m)) (Some t)) objects n now
+  view_kept : (t : ℕ) (s : SnapView) → snap_in h.snaps t ≡ Some s → (m : ℕ) → view (versioned (put objects n now m)) (Some t) ≡ view (versioned (objects m)) (Some t)
+  view_kept t s is = put_both (λ m o. view (versioned o) (Some t) ≡ view (versioned (objects m)) (Some t)) objects n now
       (view_trimmed (live_in (Some h)) t (objects n) (listed_by_id h.snaps t s is)) (λ m other. refl)
 
   pub object_trimmed : ImageStands below linked h (put objects n now) i
@@ -218,8 +219,8 @@ module _ (below : Snapshots) (linked : Links) (h : HeaderView) (objects : ℕ �
       snap = λ t s is x inside absent. stands.alike.snap t s is x inside (sym (head_kept (object_of h.layout x)) ∙ absent);
     };
     clear = λ x past. ap (λ (head : Option (List ℕ)). get_or (unwrap_or head []) (offset_of h.layout x) 0) (head_kept (object_of h.layout x)) ∙ stands.clear x past;
-    tidy = put_both (λ m o. IsTidy (looked o)) objects n now
-        (subst IsTidy (sym (looked-mapped_trim (live_in (Some h)) (objects n))) (tidy_trim (live_in (Some h)) (looked (objects n)) (stands.tidy n)))
+    tidy = put_both (λ m o. IsTidy (versioned o)) objects n now
+        (subst IsTidy (sym (looked-mapped_trim (live_in (Some h)) (objects n))) (tidy_trim (live_in (Some h)) (versioned (objects n)) (stands.tidy n)))
         (λ m other. stands.tidy m);
     seen = put_both (λ m o. o.seq ≤ h.snap_seq) objects n now (stands.seen n) (λ m other. stands.seen m);
     numbered = stands.numbered;

@@ -20,7 +20,7 @@ use Rattle.rbd_kinds.specs.Header.{snap_named}
 use Rattle.rbd_kinds.specs.Striping.{object_of, offset_of}
 use Rattle.rbd_header.specs.Header.{snap_in}
 use Rattle.rbd_parts.specs.Contents.{window}
-use Rattle.rbd_object.specs.Mapped.{Mapped, looked}
+use Rattle.rbd_object.specs.Mapped.{Mapped, versioned}
 use Rattle.rbd_object.specs.Versioned.{view}
 use Rattle.rbd_parts.proofs.ContentsLemmas.{length-window, get_or-window}
 use Rattle.rbd_flat.specs.Flat.{Flat, FlatImage, FlatSnap, image_at}
@@ -37,7 +37,7 @@ use Rattle.rbd_stands.specs.Shown.{Snapshots, IsInOverlap, snapshots_of, inherit
 use Rattle.rbd_stands.specs.Image.{ImageStands, SnapLine, line_of_snap, line_of_flat}
 use Rattle.rbd_stands.specs.Site.{StandsAt, StandsFor, Pending}
 use Rattle.rbd_stands.specs.Condition.{IsPartBelow, ArePartsBelow}
-use Rattle.rbd_stands.specs.Reading.{IsToldBy, Tells, IsAt, AreFlatBytes, AreInherited, flat_snap_named, bytes_at_parts}
+use Rattle.rbd_stands.specs.Reading.{IsToldBy, TellsFlatImage, IsAt, AreFlatBytes, AreInherited, flat_snap_named, bytes_at_parts}
 use Rattle.rbd_stands.proofs.Lookups.{map_cond, a_value, line_at, flat_there, flat_missing}
 use Rattle.rbd_stands.proofs.SiteSteps.{here}
 use Rattle.rbd_stands.proofs.Served.{free_answer, where_served}
@@ -79,22 +79,22 @@ module _ (below : Snapshots) (linked : Links) (h : HeaderView) (objects : ℕ �
   }
 
 header_served : (pending : List Pending) (r : Records) (f : Flat) (me : Instance) (image : ℕ) (h : HeaderView) → StandsFor pending r f
-    → answer_served r me (op.Header image header_op.Get) ≡ answer.Header h → Tells h (image_at f image)
+    → answer_served r me (op.Header image header_op.Get) ≡ answer.Header h → TellsFlatImage h (image_at f image)
 header_served pending r f me image h stands answered = go (r.headers image) refl
   where
-    go : (header : Option HeaderView) → r.headers image ≡ header → Tells h (image_at f image)
+    go : (header : Option HeaderView) → r.headers image ≡ header → TellsFlatImage h (image_at f image)
     go None is = absurd (let e = sym (ap (λ (p : Option HeaderView). header_answer me p (r.watchers image) header_op.Get) is) ∙ answered in cc)
     go (Some k) is =
         let e : answer.Header k ≡ answer.Header h = sym (ap (λ (p : Option HeaderView). header_answer me p (r.watchers image) header_op.Get) is) ∙ answered in
         let same : k ≡ h = cc in
         let was = here (snapshots_of f) (links_of f image) (r.headers image) (object_at r image) (image_at f image) k is (stands.images image) in
-        subst (λ j. Tells j (image_at f image)) same
-        (subst (Tells k) (sym was.is) (told (snapshots_of f) (links_of f image) k (object_at r image) was.image was.stands))
+        subst (λ j. TellsFlatImage j (image_at f image)) same
+        (subst (TellsFlatImage k) (sym was.is) (told (snapshots_of f) (links_of f image) k (object_at r image) was.image was.stands))
 
 pub header_told : (pending : List Pending) (r : Records) (f : Flat) (me : Instance) (image : ℕ) (h : HeaderView) → StandsFor pending r f
-    → answer_to r me (op.Header image header_op.Get) ≡ answer.Header h → Tells h (image_at f image)
+    → answer_to r me (op.Header image header_op.Get) ≡ answer.Header h → TellsFlatImage h (image_at f image)
 header_told pending r f me image h stands =
-    where_served (λ (s : Records). Tells h (image_at f image)) r me (op.Header image header_op.Get) (answer.Header h) refl
+    where_served (λ (s : Records). TellsFlatImage h (image_at f image)) r me (op.Header image header_op.Get) (answer.Header h) refl
     (header_served pending r f me image h stands)
 
 absence_at : (below : Snapshots) (linked : Links) (me : Instance) (header : Option HeaderView) (watchers : List Instance) (objects : ℕ → Mapped) (o : Option FlatImage) → StandsAt below linked header objects o
@@ -116,7 +116,7 @@ absence_of_header pending r f me image stands free =
 record Viewed (below : Snapshots) (h : HeaderView) (objects : ℕ → Mapped) (i : FlatImage) (v : Option ℕ) (shape : Shape) : Type 0 where
   pub shown_bytes : List ℕ
   pub is : image_view i v ≡ Some shown_bytes
-  pub shows : (x : ℕ) → x < shape.size → get_or shown_bytes x 0 ≡ shown below shape.parent (view (looked (objects (object_of h.layout x))) v) (offset_of h.layout x) x
+  pub shows : (x : ℕ) → x < shape.size → get_or shown_bytes x 0 ≡ shown below shape.parent (view (versioned (objects (object_of h.layout x))) v) (offset_of h.layout x) x
 
 viewed : (below : Snapshots) (linked : Links) (h : HeaderView) (objects : ℕ → Mapped) (i : FlatImage) (v : Option ℕ) (shape : Shape) → ImageStands below linked h objects i → shape_of h v ≡ Some shape
     → Viewed below h objects i v shape
@@ -163,13 +163,13 @@ bytes_served : (pending : List Pending) (r : Records) (f : Flat) (me : Instance)
 bytes_served pending r f me image number h v shape parts bytes stands is seen lie answered =
     let was = here (snapshots_of f) (links_of f image) (r.headers image) (object_at r image) (image_at f image) h is (stands.images image) in
     let at = viewed (snapshots_of f) (links_of f image) h (object_at r image) was.image v shape was.stands seen in
-    let read = read_bytes parts (view (looked (object_at r image number)) v) bytes answered in
+    let read = read_bytes parts (view (versioned (object_at r image number)) v) bytes answered in
     record {
       flat = at.shown_bytes;
       is = ap (λ o. view_at o v) was.is ∙ at.is;
       same = sym read.2 ∙ parts_same h shape.size number read.0 at.shown_bytes (λ x within same.
           at.shows x within
-          ∙ ap (λ m. shown (snapshots_of f) shape.parent (view (looked (object_at r image m)) v) (offset_of h.layout x) x) same
+          ∙ ap (λ m. shown (snapshots_of f) shape.parent (view (versioned (object_at r image m)) v) (offset_of h.layout x) x) same
           ∙ ap (λ content. shown (snapshots_of f) shape.parent content (offset_of h.layout x) x) read.1) parts lie;
     }
 
@@ -195,7 +195,7 @@ absence_served : (pending : List Pending) (r : Records) (f : Flat) (me : Instanc
 absence_served pending r f me image number h v shape parts stands is seen lie answered =
     let was = here (snapshots_of f) (links_of f image) (r.headers image) (object_at r image) (image_at f image) h is (stands.images image) in
     let at = viewed (snapshots_of f) (links_of f image) h (object_at r image) was.image v shape was.stands seen in
-    let none = read_none parts (view (looked (object_at r image number)) v) answered in
+    let none = read_none parts (view (versioned (object_at r image number)) v) answered in
     let from : (x : ℕ) → IsAt parts x → get_or at.shown_bytes x 0 ≡ inherited (snapshots_of f) shape.parent x =
     λ x place.
     let p = place.1 in
@@ -203,7 +203,7 @@ absence_served pending r f me image number h v shape parts stands is seen lie an
     let back : p.at + (x - p.at) ≡ x = (let low = place.4.0 in omega arith) in
     let same : object_of h.layout x ≡ number = ap (object_of h.layout) (sym back) ∙ (lies.part.lies (x - p.at) (let high = place.4.1 in let low = place.4.0 in omega arith)).0 in
     at.shows x (let high = place.4.1 in let b = lies.below in omega arith)
-    ∙ ap (λ m. shown (snapshots_of f) shape.parent (view (looked (object_at r image m)) v) (offset_of h.layout x) x) same
+    ∙ ap (λ m. shown (snapshots_of f) shape.parent (view (versioned (object_at r image m)) v) (offset_of h.layout x) x) same
     ∙ ap (λ content. shown (snapshots_of f) shape.parent content (offset_of h.layout x) x) none in
     record {
       flat = at.shown_bytes;

@@ -5,7 +5,7 @@ use Rattle.std.proofs.lemmas.Option.{none-some}
 use Rattle.rbd_kinds.specs.declared.header.HeaderView.{HeaderView}
 use Rattle.rbd_kinds.specs.declared.header.SnapStatus.{SnapStatus}
 use Rattle.rbd_kinds.specs.declared.header.SnapView.{SnapView}
-use Rattle.rbd_header.specs.Header.{snap_in, with_snap, snap_taken, without_snap, with_status, marked}
+use Rattle.rbd_header.specs.Header.{snap_in, with_snap, snap_taken, without_snap, with_status, status_marked}
 use Rattle.rbd_header.proofs.Changed.{removed_is_unlisted}
 use Rattle.rbd_stands.specs.View.{Shape, EachView, shape_of_head, shape_of_snap}
 use Rattle.rbd_stands.proofs.Lookups.{a_value, older_or_last, header_left, header_marked, marked_shape}
@@ -49,6 +49,6 @@ pub each_marked : {P Q : Option ℕ → Shape → Type 0} (t : ℕ) (status : Sn
 each_marked {P} {Q} t status h head old all = record {
   head = head all.head;
   snap = λ u s is.
-      let was = a_value (marked t status) (snap_in h.snaps u) s (sym (header_marked t status h.snaps u) ∙ is) in
+      let was = a_value (status_marked t status) (snap_in h.snaps u) s (sym (header_marked t status h.snaps u) ∙ is) in
       subst (Q (Some u)) (sym (marked_shape t status was.0) ∙ ap shape_of_snap was.2) (old u was.0 was.1 (all.snap u was.0 was.1));
 }

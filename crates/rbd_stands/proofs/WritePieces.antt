@@ -20,7 +20,7 @@ use Rattle.rbd_layout.proofs.Derived.{pieces_cover}
 use Rattle.rbd_parts.specs.Contents.{window}
 use Rattle.rbd_parts.specs.Parts.{bytes_for}
 use Rattle.rbd_flat.specs.declared.effect.Effect.TheVariants as effect
-use Rattle.rbd_flat.specs.Flat.{Flat, FlatImage, image_at, painted, places_of, changed, with_image, after, after_all}
+use Rattle.rbd_flat.specs.Flat.{Flat, FlatImage, image_at, painted, places_of, changed_image, with_image, after, after_all}
 use Rattle.rbd_flat.specs.Laws.{covers, painted_at}
 use Rattle.rbd_flat.proofs.Images.{get_insert}
 use Rattle.rbd_flat.proofs.Painted.{length_painted, painted_extents}
@@ -41,21 +41,21 @@ insert_again m k v w = finmap.same_map nat_cmp_total exact_unsigned _ _ (λ q.
     ∙ sym (get_insert m k w q))
 
 changed_again : (g h : FlatImage → FlatImage) (k : ℕ) (o : Option FlatImage) (f : Flat) → image_at f k ≡ o
-    → with_image (changed g k o f) k h ≡ changed (λ i. h (g i)) k o f
-changed_again g h k None f is = ap (λ o. changed h k o f) is
+    → with_image (changed_image g k o f) k h ≡ changed_image (λ i. h (g i)) k o f
+changed_again g h k None f is = ap (λ o. changed_image h k o f) is
 changed_again g h k (Some i) f is =
-    ap (λ o. changed h k o (record f { images = finmap.insert f.images k (g i) }))
+    ap (λ o. changed_image h k o (record f { images = finmap.insert f.images k (g i) }))
     (get_insert f.images k (g i) k ∙ ap (λ b. cond b (Some (g i)) (finmap.get f.images k)) (eq-eqb k k refl))
     ∙ ap (λ (m : finmap.FinMap nat_cmp FlatImage). record f { images = m }) (insert_again f.images k (g i) (h (g i)))
 
 with_image_again : (f : Flat) (k : ℕ) (g h : FlatImage → FlatImage) → with_image (with_image f k g) k h ≡ with_image f k (λ i. h (g i))
 with_image_again f k g h = changed_again g h k (image_at f k) f refl
 
-changed_alike : (g h : FlatImage → FlatImage) (k : ℕ) (o : Option FlatImage) (f : Flat) → ((i : FlatImage) → g i ≡ h i) → changed g k o f ≡ changed h k o f
+changed_alike : (g h : FlatImage → FlatImage) (k : ℕ) (o : Option FlatImage) (f : Flat) → ((i : FlatImage) → g i ≡ h i) → changed_image g k o f ≡ changed_image h k o f
 changed_alike g h k None f same = refl
 changed_alike g h k (Some i) f same = ap (λ (j : FlatImage). record f { images = finmap.insert f.images k j }) (same i)
 
-changed_by_nothing : (k : ℕ) (o : Option FlatImage) (f : Flat) → image_at f k ≡ o → changed (λ i. i) k o f ≡ f
+changed_by_nothing : (k : ℕ) (o : Option FlatImage) (f : Flat) → image_at f k ≡ o → changed_image (λ i. i) k o f ≡ f
 changed_by_nothing k None f is = refl
 changed_by_nothing k (Some i) f is = ap (λ (m : finmap.FinMap nat_cmp FlatImage). record f { images = m }) (finmap.same_map nat_cmp_total exact_unsigned _ _ (λ q.
     get_insert f.images k i q ∙ here q (eqb q k) refl))

@@ -75,7 +75,7 @@ pub record IsZeroedFrom (h : HeaderView) (size : ℕ) (objects : ℕ → Mapped)
 -- The flat bytes after an object's head became `new`: at its places what it shows now, elsewhere
 -- the old ones. Inside the overlap a head doesn't become absent, since the parent's bytes would
 -- show again.
-pub record IsChanged (below : Snapshots) (h : HeaderView) (n : ℕ) (new : Option (List ℕ)) (old bytes : List ℕ) : Type 0 where
+pub record ChangesObject (below : Snapshots) (h : HeaderView) (n : ℕ) (new : Option (List ℕ)) (old bytes : List ℕ) : Type 0 where
   pub long : length bytes ≡ length old
   pub here : (x : ℕ) → x < h.size → object_of h.layout x ≡ n → slice_index bytes x ≡ shown below h.parent new (offset_of h.layout x) x
   pub elsewhere : (x : ℕ) → x < h.size → object_of h.layout x ≢ n → slice_index bytes x ≡ slice_index old x

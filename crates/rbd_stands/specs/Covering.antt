@@ -1,6 +1,6 @@
--- When the object maps of a site cover its objects: state 0 means that an object is absent. And what
--- operations have to meet, so that they still do (Ceph: the order in which RBD sets an object map's
--- state and changes the object).
+-- When the object maps of a site cover its objects: state 0 means that an object is absent. And
+-- what operations have to meet, so that they still do (Ceph: the order in which RBD sets an object
+-- map's state and changes the object).
 use Rattle.std.specs.Prelude.{◌≡◌, ◌≢◌, ℕ, ◌+◌, ◌*◌, Bool, IsFalse, List, length, slice_index, Option, Some, None, is_some}
 use Rattle.rbd_kinds.specs.declared.data_op.DataOp.{DataOp}
 use Rattle.rbd_kinds.specs.declared.data_op.DataOp.TheVariants as data_op
@@ -13,7 +13,7 @@ use Rattle.rbd_kinds.specs.declared.operation.Op.{Op}
 use Rattle.rbd_kinds.specs.declared.operation.Op.TheVariants as op
 use Rattle.rbd_map.specs.Covers.{Covers}
 use Rattle.rbd_map.specs.States.{states_of}
-use Rattle.rbd_object.specs.Mapped.{Mapped, looked, mapped_blank}
+use Rattle.rbd_object.specs.Mapped.{Mapped, versioned, mapped_blank}
 use Rattle.rbd_object.specs.Versioned.{view}
 use Rattle.rbd_site.specs.Records.{Records, object_at}
 use Rattle.rbd_stands.specs.Condition.{IsContextOf}
@@ -25,7 +25,7 @@ Maps = (view : Option ℕ) → Option (List ℕ)
 
 -- whether an object exists at a view
 abbrev pub exists_at : (objects : ℕ → Mapped) → Option ℕ → (number : ℕ) → Bool
-exists_at objects v number = is_some (view (looked (objects number)) v)
+exists_at objects v number = is_some (view (versioned (objects number)) v)
 
 -- a map that isn't there says nothing
 abbrev pub IsCovered : (map : Option (List ℕ)) → (exists : ℕ → Bool) → Type 0
@@ -36,7 +36,7 @@ IsCovered (Some states) exists = Covers states exists
 abbrev pub AreCovered : HeaderView → Maps → (objects : ℕ → Mapped) → Type 0
 AreCovered h maps objects = EachView h (λ v shape. IsCovered (maps v) (exists_at objects v))
 
--- of each image that has a header
+-- so it is of each image that has a header
 abbrev pub MapsCover : Records → Type 0
 MapsCover r = (image : ℕ) (h : HeaderView) → r.headers image ≡ Some h → AreCovered h (r.maps image) (object_at r image)
 
@@ -47,8 +47,9 @@ abbrev pub IsRaised : (map : Option (List ℕ)) → (number : ℕ) → Type 0
 IsRaised None number = Unit {0}
 IsRaised (Some states) number = slice_index states number ≢ 0
 
--- A change is under the header's context, so that it leaves the snapshots. It is after the head's
--- state was raised, where it may make the head exist, and a copy-up after that of each view.
+-- A change of an object is done under the header's context, so that it leaves the snapshots. Where
+-- it may make the head exist, the head's state was raised before; and before a copy-up, the state
+-- at each view.
 abbrev pub KeepsDataCover : HeaderView → Maps → (number : ℕ) → Mapped → DataOp → Type 0
 KeepsDataCover h maps number o (data_op.Read snap parts) = Unit {0}
 KeepsDataCover h maps number o (data_op.Write context must parts bytes) = IsContextOf h context × IsRaised (maps None) number
@@ -58,8 +59,8 @@ KeepsDataCover h maps number o (data_op.Empty context) = IsContextOf h context �
 KeepsDataCover h maps number o (data_op.Remove context) = IsContextOf h context
 KeepsDataCover h maps number o (data_op.CopyUp bytes) = o.head ≡ None → EachView h (λ v shape. IsRaised (maps v) number)
 
--- A header is made where nothing was done to the objects. A snapshot is taken after its map was put,
--- which covers what the head has then.
+-- A header is made where nothing was done to the objects. A snapshot is taken after its map was
+-- put, which covers what the head has then.
 abbrev pub KeepsHeaderCover : (header : Option HeaderView) → Maps → (objects : ℕ → Mapped) → HeaderOp → Type 0
 KeepsHeaderCover None maps objects (header_op.Create view) = (number : ℕ) → objects number ≡ mapped_blank
 KeepsHeaderCover None maps objects o = Unit {0}

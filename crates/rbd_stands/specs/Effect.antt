@@ -35,15 +35,15 @@ abbrev pub places_below : Layout → (size number : ℕ) → Part → List ℕ
 places_below l size number p = filter (λ x. nat_lt x size) (map (byte_at l number) (range_with_len p.offset p.len))
 
 -- places of one object that ascend, as extents: those that touch are joined
-abbrev pub joined : Layout → List ℕ → List Extent
-joined l places = extents_of (parts_at l places)
+abbrev pub joined_extents : Layout → List ℕ → List Extent
+joined_extents l places = extents_of (parts_at l places)
 
 -- the image bytes of parts of an object, and those of the whole object, below a size
 abbrev pub extents_below : Layout → (size number : ℕ) → List Part → List Extent
-extents_below l size number parts = flat_map (λ p. joined l (places_below l size number p)) parts
+extents_below l size number parts = flat_map (λ p. joined_extents l (places_below l size number p)) parts
 
 abbrev pub whole_object : Layout → (size number : ℕ) → List Extent
-whole_object l size number = joined l (places_in l (record { at = 0; len = size }) number)
+whole_object l size number = joined_extents l (places_in l (record { at = 0; len = size }) number)
 
 -- the bytes that go to places below a size, where each part has as many as its length
 abbrev pub bytes_below : Layout → (size number : ℕ) → List Part → (bytes : List ℕ) → List ℕ
@@ -52,7 +52,7 @@ bytes_below l size number (p ∷ parts) bytes = take (length (places_below l siz
 
 -- ---- effects
 
--- of a header as it is made: one with a parent is a clone's
+-- the effect of making a header: one with a parent is a clone's
 abbrev pub effect_of_making : (image size : ℕ) → Role → Option ParentLink → Effect
 effect_of_making image size role None = effect.Create image size role
 effect_of_making image size role (Some link) = effect.Clone image link.image link.snap
@@ -62,7 +62,7 @@ abbrev pub effect_of_naming : (image : ℕ) → Option GlobalName → Option Eff
 effect_of_naming image None = Some (effect.Role image Primary)
 effect_of_naming image (Some name) = None
 
--- of a change of an object of an image that has this header
+-- the effect of a change of an object of an image that has this header
 abbrev pub effect_of_data : (image number : ℕ) → HeaderView → DataOp → Option Effect
 effect_of_data image number h (data_op.Write context must parts bytes) =
     Some (effect.Piece image (extents_below h.layout h.size number parts) (bytes_below h.layout h.size number parts bytes))
@@ -72,8 +72,8 @@ effect_of_data image number h (data_op.Empty context) = Some (effect.Zero image 
 effect_of_data image number h (data_op.Remove context) = Some (effect.Zero image (whole_object h.layout h.size number))
 effect_of_data image number h o = None
 
--- Of an operation and its answer. What isn't answered done, with an id or with a snapshot has none;
--- nor has a change of an object whose image has no header.
+-- The effect of an operation and its answer. There is none where the answer isn't done, an id or a
+-- snapshot, nor where the object's image has no header.
 abbrev pub effect_of_op : Option HeaderView → Op → Answer → Option Effect
 effect_of_op header (op.Directory (directory_op.Add name)) (answer.Id image) = Some (effect.Name name image)
 effect_of_op header (op.Directory (directory_op.Remove image)) answer.Done = Some (effect.NameFree image)
@@ -97,7 +97,7 @@ header_of r (op.Header image o) = r.headers image
 header_of r (op.Data image number o) = r.headers image
 header_of r o = None
 
--- Of a line of a log, behind these records. A step of the store has none.
+-- The effect of a line of a log, after these records. A step of the store has none.
 abbrev pub effect_of : Records → DoneOp → Answer → Option Effect
 effect_of r (done.Op o) a = effect_of_op (header_of r o) o a
 effect_of r o a = None

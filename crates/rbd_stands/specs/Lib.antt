@@ -9,3 +9,4 @@ pub mod Unseen
 pub mod Reading
 pub mod Writing
 pub mod Owned
+pub mod Kept

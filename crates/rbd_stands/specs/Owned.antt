@@ -83,7 +83,7 @@ pub record IsOwnedStep (r : Records) (me : Instance) (op : Op) (a : Answer) : Ty
   pub change : (image : ℕ) → IsTrue (changes_image image op) → IsTrue (was_done a) → IsOwner (r.headers image) me
   pub broken : (image : ℕ) (owner : Instance) → op ≡ on.Header image (header.LockBreak owner) → a ≡ answer.Done → IsTrue (is_fenced r owner)
 
--- a step of the store is nobody's
+-- a line of a log is an owned step; a step of the store is nobody's
 abbrev pub IsOwnedLine : Records → Option Instance → DoneOp → Answer → Type 0
 IsOwnedLine r (Some me) (done.Op op) a = IsOwnedStep r me op a
 IsOwnedLine r None op a = Unit {0}
@@ -95,21 +95,21 @@ AreOwned r (d ∷ log) = IsOwnedLine r d.instance d.op d.answer × AreOwned (aft
 
 -- ---- what a log says
 
--- it holds of a line
+-- something holds of a line
 abbrev pub SomeLine : (P : Done → Type 0) → List Done → Type 0
 SomeLine P [] = ⊥
 SomeLine P (d ∷ log) = P d ⊎ SomeLine P log
 
 -- the line is this operation of this instance, and it was done
-pub record IsDone (d : Done) (me : Instance) (op : Op) : Type 0 where
+pub record IsDoneBy (d : Done) (me : Instance) (op : Op) : Type 0 where
   pub by : d.instance ≡ Some me
   pub what : d.op ≡ done.Op op
   pub answered : d.answer ≡ answer.Done
 
--- somebody's
+-- the line is this operation of some instance, and it was done
 pub record IsDoneBySome (d : Done) (op : Op) : Type 0 where
   pub who : Instance
-  pub line : IsDone d who op
+  pub line : IsDoneBy d who op
 
 -- the instance has the lock of the image
 pub record HasLock (image : ℕ) (me : Instance) (r : Records) : Type 0 where
@@ -117,11 +117,11 @@ pub record HasLock (image : ℕ) (me : Instance) (r : Records) : Type 0 where
   pub there : r.headers image ≡ Some header
   pub owner : header.owner ≡ Some me
 
--- it let go of the lock: it dropped it, or removed the header with it
+-- the instance let go of the lock: it dropped the lock, or removed the header with it
 abbrev pub IsLetGo : (image : ℕ) → Instance → Done → Type 0
-IsLetGo image me d = IsDone d me (on.Header image header.LockDrop) ⊎ IsDone d me (on.Header image header.Remove)
+IsLetGo image me d = IsDoneBy d me (on.Header image header.LockDrop) ⊎ IsDoneBy d me (on.Header image header.Remove)
 
--- somebody took it away: broke it, or removed the header with it
+-- somebody took the lock away: broke it, or removed the header with it
 abbrev pub IsTakenAway : (image : ℕ) → Instance → Done → Type 0
 IsTakenAway image me d = IsDoneBySome d (on.Header image (header.LockBreak me)) ⊎ IsDoneBySome d (on.Header image header.Remove)
 
@@ -131,7 +131,7 @@ pub record IsNothing (r : Records) (d : Done) : Type 0 where
   pub records : after_op r d.instance d.op ≡ r
   pub effect : effect_of r d.op d.answer ≡ None
 
--- each line of an instance
+-- each line of an instance did nothing
 abbrev pub DoesNothing : Instance → Records → List Done → Type 0
 DoesNothing me r [] = Unit {0}
 DoesNothing me r (d ∷ log) = (d.instance ≡ Some me → IsNothing r d) × DoesNothing me (after_op r d.instance d.op) log

@@ -28,9 +28,9 @@ pub record IsToldBy (h : HeaderView) (i : FlatImage) : Type 0 where
   pub by_id : (t : ℕ) → option_map line_of_flat (flat_snap_in i.snaps t) ≡ option_map line_of_snap (snap_in h.snaps t)
   pub snap_sizes : (t : ℕ) → option_map (λ s. length s.bytes) (flat_snap_in i.snaps t) ≡ option_map (λ s. s.size) (snap_in h.snaps t)
 
-abbrev pub Tells : HeaderView → Option FlatImage → Type 0
-Tells h None = ⊥
-Tells h (Some i) = IsToldBy h i
+abbrev pub TellsFlatImage : HeaderView → Option FlatImage → Type 0
+TellsFlatImage h None = ⊥
+TellsFlatImage h (Some i) = IsToldBy h i
 
 -- the flat bytes at the parts, one part after another
 abbrev pub bytes_at_parts : List Part → (bytes : List ℕ) → List ℕ

@@ -10,8 +10,8 @@ use Rattle.rbd_site.specs.Records.{Records, object_at}
 use Rattle.rbd_stands.specs.Shown.{Snapshots, Links, links_of, snapshots_of}
 use Rattle.rbd_stands.specs.Image.{ImageStands}
 
--- The header and the flat image of an id are both there or both not. Where there is no header,
--- objects may lie about that a removed image left.
+-- An id has both a header and a flat image, or neither. Without a header, objects may be left over
+-- of an image that was removed.
 abbrev pub StandsAt : Snapshots → Links → Option HeaderView → (objects : ℕ → Mapped) → Option FlatImage → Type 0
 StandsAt below linked None objects None = Unit {0}
 StandsAt below linked None objects (Some i) = ⊥
@@ -41,14 +41,14 @@ pub record IsAwaited (below : Snapshots) (linked : Links) (link : ParentLink) : 
   pub child : IsTrue (linked link.image link.snap)
 
 -- the flat site's links are the entries of the list of children
-abbrev pub AreLinked : Records → Flat → Type 0
-AreLinked r f = (parent snap child : ℕ) → finset.contains r.children (record { parent = parent; snap = snap; child = child }) ≡ links_of f child parent snap
+abbrev pub AreChildrenLinked : Records → Flat → Type 0
+AreChildrenLinked r f = (parent snap child : ℕ) → finset.contains r.children (record { parent = parent; snap = snap; child = child }) ≡ links_of f child parent snap
 
 -- The records stand for the flat site, while these clones are being made.
 pub record StandsFor (pending : List Pending) (r : Records) (f : Flat) : Type 0 where
   -- the directory's names are the flat site's
   pub names : r.directory.names ≡ f.names
-  pub links : AreLinked r f
+  pub links : AreChildrenLinked r f
   pub images : (image : ℕ) → StandsAt (snapshots_of f) (links_of f image) (r.headers image) (object_at r image) (image_at f image)
   pub awaited : (k : ℕ) (p : Pending) → slice_get pending k ≡ Some p → IsAwaited (snapshots_of f) (links_of f p.child) p.link
   -- an id that the directory hasn't drawn is untouched

@@ -25,7 +25,7 @@ ghost use Rattle.rbd_kinds.specs.declared.operation.Op.{Op};
 ghost use Rattle.rbd_kinds.specs.declared.operation.Op.TheVariants as op;
 ghost use Rattle.rbd_kinds.specs.Form.{IsNewHeader};
 ghost use Rattle.rbd_kinds.specs.Striping.{IsLayout};
-ghost use Rattle.rbd_layout.specs.Pieces.{IsPart};
+ghost use Rattle.rbd_layout.specs.Pieces.{IsPart, IsPieces};
 ghost use Rattle.rbd_header.specs.Header.{context_of, snap_in};
 ghost use Rattle.rbd_object.specs.Kept.{is_listed};
 ghost use Rattle.rbd_object.specs.Mapped.{mapped_change};
@@ -34,46 +34,45 @@ ghost use Rattle.rbd_flat.specs.declared.effect.Effect.TheVariants as effect;
 ghost use Rattle.rbd_flat.specs.Laws.{snap_at};
 ghost use Rattle.rbd_flat.specs.Flat.{Flat, FlatImage, FlatSnap, no_images, image_at, id_of, with_image};
 ghost use Rattle.rbd_flat.specs.Flat as flat;
-ghost use Rattle.rbd_layout.specs.Pieces.{IsPieces};
 ghost use Rattle.rbd_layout.specs.declared.types.Piece.{Piece};
-ghost use Rattle.rbd_site.specs.DataStep.{MayWrite};
+ghost use Rattle.rbd_site.specs.DataStep.{MayWriteParts};
 ghost use Rattle.rbd_site.specs.DirectoryStep.{image_found};
-ghost use Rattle.rbd_site.specs.Laws.{is_change, is_look};
+ghost use Rattle.rbd_site.specs.Laws.{may_have_changed, is_look};
 ghost use Rattle.rbd_site.specs.declared.done.DoneOp.TheVariants as done;
 ghost use Rattle.rbd_site.specs.Log.{expired_by, live_in, trimmed};
 ghost use Rattle.rbd_site.specs.Records.{Records, no_records, object_at, with_object};
 ghost use Rattle.rbd_site.specs.Step.{is_fenced, answer_to, after};
-ghost use Rattle.rbd_stands.specs.Condition.{IsContextOf, ArePartsBelow, AreWhole, IsCopiedUp, IsChanged, IsZeroPast, IsZeroedFrom, IsUnnamed, IsDrawn, IsFree, IsCloneHeader, MayCopyUp, extents_of};
+ghost use Rattle.rbd_stands.specs.Condition.{IsContextOf, ArePartsBelow, AreWhole, IsCopiedUp, ChangesObject, IsZeroPast, IsZeroedFrom, IsUnnamed, IsDrawn, IsFree, IsCloneHeader, MayCopyUp, extents_of};
 ghost use Rattle.rbd_stands.specs.Effect.{effect_of, effect_of_data};
 ghost use Rattle.rbd_stands.specs.Image.{IsInside};
-ghost use Rattle.rbd_stands.specs.Reading.{Tells, AreFlatBytes, AreInherited, AreLinkedTo};
+ghost use Rattle.rbd_stands.specs.Reading.{TellsFlatImage, AreFlatBytes, AreInherited, AreLinkedTo};
 ghost use Rattle.rbd_stands.specs.Unseen.{is_about, is_unseen};
 ghost use Rattle.rbd_stands.specs.Shown.{HasParent, links_of, snapshots_of};
 ghost use Rattle.rbd_stands.specs.Site.{StandsFor, IsUntouched, IsAwaited, Pending};
 ghost use Rattle.rbd_stands.specs.Writing.{piece_effects};
 ghost use Rattle.rbd_stands.specs.View.{EachView, Shape, shape_of};
 
-/// At the start there is nothing.
+/// Empty records stand for an empty flat site.
 pub fn no_records_stand()
     ensures { StandsFor [] no_records no_images }
 {}
 
 // ---- what changes nothing
 
-/// The flat image doesn't have what these operations are on: the lock, who watches, and whether a
-/// copy is under way.
+/// A flat image has no lock, no watchers and no word on whether a copy is under way: so the
+/// operations on these change nothing of it.
 pub fn unseen_changes()
     ensures { (pending : List Pending) (r : Records) (f : Flat) (me : Instance) (image : ℕ) (o : HeaderOp) → StandsFor pending r f → is_unseen o ≡ true
         → StandsFor pending (after r me (op.Header image o)) f }
 {}
 
-/// A fenced instance changes nothing, whatever it does.
+/// A fenced instance changes nothing of the flat site, whatever it does.
 pub fn fenced_operations()
     ensures { (pending : List Pending) (r : Records) (f : Flat) (me : Instance) (o : Op) → StandsFor pending r f → IsTrue (is_fenced r me)
         → StandsFor pending (after r me o) f }
 {}
 
-/// The flat site doesn't have a blocklist: any instance may be listed at any moment.
+/// A flat site has no blocklist: any instance may be listed at any moment.
 pub fn listing_an_instance()
     ensures { (pending : List Pending) (r : Records) (f : Flat) (me i : Instance) → StandsFor pending r f → StandsFor pending (after r me (op.BlockAdd i)) f }
 {}
@@ -83,7 +82,7 @@ pub fn ending_a_watch()
     ensures { (pending : List Pending) (r : Records) (f : Flat) (image : ℕ) (oldest : Option Instance) → StandsFor pending r f → StandsFor pending (expired_by image oldest r) f }
 {}
 
-/// What is done late to the objects of an image that is gone has no effect.
+/// An operation on the objects of an image whose header is gone has no effect on the flat site.
 pub fn data_of_no_image()
     ensures { (pending : List Pending) (r : Records) (f : Flat) (me : Instance) (image number : ℕ) (o : DataOp) → StandsFor pending r f
         → r.headers image ≡ None → IsDrawn r image → StandsFor pending (after r me (op.Data image number o)) f }
@@ -120,7 +119,7 @@ pub fn telling_children()
 /// `header-get` tells the flat image, and that there is none exactly where there is none.
 pub fn telling_a_header()
     ensures told { (pending : List Pending) (r : Records) (f : Flat) (me : Instance) (image : ℕ) (h : HeaderView) → StandsFor pending r f
-        → answer_to r me (op.Header image header_op.Get) ≡ answer.Header h → Tells h (image_at f image) }
+        → answer_to r me (op.Header image header_op.Get) ≡ answer.Header h → TellsFlatImage h (image_at f image) }
     ensures missing { (pending : List Pending) (r : Records) (f : Flat) (me : Instance) (image : ℕ) → StandsFor pending r f → IsFalse (is_fenced r me)
         → (answer_to r me (op.Header image header_op.Get) ≡ answer.Absent) ↔ (image_at f image ≡ None) }
 {}
@@ -153,8 +152,8 @@ pub fn adding_a_name()
         → IsDrawn (after r me (op.Directory (directory_op.Add name))) image }
 {}
 
-/// An id that is drawn stays drawn, and an untouched one untouched under each operation that isn't
-/// about it.
+/// An id that was drawn stays drawn. An untouched one stays untouched under each operation that
+/// isn't about it.
 pub fn waiting_for_a_header()
     ensures drawn { (r : Records) (me : Instance) (o : Op) (image : ℕ) → IsDrawn r image → IsDrawn (after r me o) image }
     ensures untouched { (r : Records) (f g : Flat) (me : Instance) (o : Op) (image : ℕ) → IsUntouched r f image
@@ -200,16 +199,16 @@ pub fn beginning_a_clone()
         → IsAwaited (snapshots_of f) (links_of f p.child) p.link → StandsFor (p ∷ pending) r f }
 {}
 
-/// Clones may end to count at any moment.
+/// Clones may cease to count at any moment.
 pub fn ending_clones()
     ensures { (pending fewer : List Pending) (r : Records) (f : Flat) → StandsFor pending r f
         → ((k : ℕ) (p : Pending) → slice_get fewer k ≡ Some p → (j : ℕ) × (slice_get pending j ≡ Some p)) → StandsFor fewer r f }
 {}
 
-/// What a view of a header has as its parent is there: the snapshot, as long as the overlap at
-/// least, not unprotected, and linked to the child. So whoever reads behind a header that stays the
-/// same finds the snapshot at each moment; and no step changes the bytes of a flat snapshot that is
-/// there before and after it.
+/// What a view of a header has as its parent is there: the snapshot isn't unprotected, is at least
+/// as long as the overlap, and is linked to the child. So whoever reads behind a header that stays
+/// the same finds the snapshot at each moment; and no step changes the bytes of a flat snapshot
+/// that is there before and after it.
 pub fn relying_on_a_snapshot()
     ensures there { (pending : List Pending) (r : Records) (f : Flat) (image : ℕ) (h : HeaderView) → StandsFor pending r f
         → r.headers image ≡ Some h → EachView h (λ v shape. HasParent (snapshots_of f) (links_of f image) shape.parent) }
@@ -305,18 +304,18 @@ pub fn context_of_a_header()
 {}
 
 /// Any change of an object's head under the header's context: where the flat bytes change as
-/// `IsChanged` says, the records after it stand for them. Each operation below is one of these.
+/// `ChangesObject` says, the records after it stand for them. Each operation below is one of these.
 pub fn changing_a_head()
     ensures { (pending : List Pending) (r : Records) (f : Flat) (image number : ℕ) (h : HeaderView) (context : SnapContext) (new : Option (List ℕ)) (i : FlatImage) (bytes : List ℕ)
         → StandsFor pending r f → r.headers image ≡ Some h → image_at f image ≡ Some i → IsContextOf h context
-        → IsChanged (snapshots_of f) h number new i.bytes bytes
+        → ChangesObject (snapshots_of f) h number new i.bytes bytes
         → StandsFor pending (with_object image number (Some (mapped_change context new (object_at r image number))) r) (with_image f image (λ j. record j { bytes = bytes })) }
 {}
 
 /// `data-write` that was done: the bytes go to the image places of the parts.
 pub fn writing_an_object()
     ensures { (pending : List Pending) (r : Records) (f : Flat) (me : Instance) (image number : ℕ) (h : HeaderView) (context : SnapContext) (must : Bool) (parts : List Part) (bytes : List ℕ)
-        → StandsFor pending r f → r.headers image ≡ Some h → IsContextOf h context → MayWrite parts bytes
+        → StandsFor pending r f → r.headers image ≡ Some h → IsContextOf h context → MayWriteParts parts bytes
         → ArePartsBelow h h.size number parts → IsCopiedUp h number (object_at r image number)
         → answer_to r me (op.Data image number (data_op.Write context must parts bytes)) ≡ answer.Done
         → StandsFor pending (after r me (op.Data image number (data_op.Write context must parts bytes))) (flat.after f (effect.Piece image (extents_of parts) bytes)) }
@@ -377,7 +376,7 @@ pub fn writing_piece_by_piece()
 /// parts: so it is the one that the change's law names.
 pub fn effects_of_objects()
     ensures write { (h : HeaderView) (image number : ℕ) (context : SnapContext) (must : Bool) (parts : List Part) (bytes : List ℕ)
-        → IsLayout h.layout → ArePartsBelow h h.size number parts → MayWrite parts bytes
+        → IsLayout h.layout → ArePartsBelow h h.size number parts → MayWriteParts parts bytes
         → effect_of_data image number h (data_op.Write context must parts bytes) ≡ Some (effect.Piece image (extents_of parts) bytes) }
     ensures zero { (h : HeaderView) (image number : ℕ) (context : SnapContext) (must : Bool) (parts : List Part)
         → IsLayout h.layout → ArePartsBelow h h.size number parts
@@ -393,12 +392,12 @@ pub fn effects_of_objects()
         → effect_of_data image number h (data_op.Remove context) ≡ Some (effect.Zero image (extents_of parts)) }
 {}
 
-/// What has no effect: a look, what isn't answered done, with an id or with a snapshot, so all that
-/// a fenced instance does, what is done to what a flat site doesn't have, to objects of an image
-/// without a header, a copy-up, and each step of the store.
+/// What has no effect: a look; an operation that isn't answered done, with an id or with a
+/// snapshot, and so all that a fenced instance does; what is done to parts that a flat site doesn't
+/// have, or to objects of an image without a header; a copy-up; and each step of the store.
 pub fn what_has_no_effect()
     ensures look { (r : Records) (o : Op) (a : Answer) → IsTrue (is_look o) → effect_of r (done.Op o) a ≡ None }
-    ensures refused { (r : Records) (o : Op) (a : Answer) → IsFalse (is_change a) → effect_of r (done.Op o) a ≡ None }
+    ensures refused { (r : Records) (o : Op) (a : Answer) → IsFalse (may_have_changed a) → effect_of r (done.Op o) a ≡ None }
     ensures fenced { (r : Records) (o : Op) → effect_of r (done.Op o) answer.Fenced ≡ None }
     ensures unseen { (r : Records) (image : ℕ) (o : HeaderOp) (a : Answer) → is_unseen o ≡ true → effect_of r (done.Op (op.Header image o)) a ≡ None }
     ensures listed { (r : Records) (i : Instance) (a : Answer) → effect_of r (done.Op (op.BlockAdd i)) a ≡ None }

@@ -3,7 +3,7 @@ use Rattle.std.proofs.Common.{◌≡◌, ℕ, ◌+◌, ◌<◌, ◌≤◌, ◌�
 use Rattle.std.proofs.Math.Nat.{eq-or-lt_of_le}
 use Rattle.rbd_kinds.specs.Striping.{IsObjectCount, object_of}
 use Rattle.rbd_kinds.specs.declared.layout.Layout.{Layout}
-use Rattle.rbd_text.specs.Replies.{count_below, object_count}
+use Rattle.rbd_text.specs.Replies.{count_below, objects_below}
 
 within : (f : ℕ → ℕ) (n most : ℕ) → ((k : ℕ) → k < n → f k < most) → count_below f n ≤ most
 unfolding count_below
@@ -30,5 +30,5 @@ unfolding count_below
 is_count f zero most none each greatest = none refl
 is_count f (suc n) most none each greatest = by_greatest f (suc n) most each (greatest (omega arith))
 
-pub counted : (layout : Layout) (size count : ℕ) → IsObjectCount layout size count → count ≡ object_count layout size
+pub counted : (layout : Layout) (size count : ℕ) → IsObjectCount layout size count → count ≡ objects_below layout size
 counted layout size count h = is_count (object_of layout) size count h.none h.each h.greatest

@@ -5,13 +5,13 @@ use Rattle.rbd_kinds.specs.declared.id.SiteId.{SiteId}
 use Rattle.rbd_kinds.specs.declared.id.SiteId.TheVariants.{A, B}
 use Rattle.rbd_script.specs.declared.script.Declared.{Declared}
 
-abbrev pub name_of : Option Declared → List ℕ
-name_of None = []
-name_of (Some declared) = declared.name
+abbrev pub declared_name : Option Declared → List ℕ
+declared_name None = []
+declared_name (Some declared) = declared.name
 
 -- a session's name by its number, and nothing where no such session is declared
 abbrev pub session_name : List Declared → ℕ → List ℕ
-session_name sessions session = name_of (slice_get sessions session)
+session_name sessions session = declared_name (slice_get sessions session)
 
 -- one life of a session: `c1.0`
 abbrev pub instance_text : List Declared → Instance → List ℕ

@@ -27,8 +27,8 @@ count_below f (suc n) = max (count_below f n) (f n + 1)
 
 -- The number of objects of a size is one more than the greatest object number of a byte below the
 -- size, and 0 for size 0.
-abbrev pub object_count : Layout → (size : ℕ) → ℕ
-object_count layout size = count_below (object_of layout) size
+abbrev pub objects_below : Layout → (size : ℕ) → ℕ
+objects_below layout size = count_below (object_of layout) size
 
 abbrev pub bytes_text : List ℕ → List ℕ
 bytes_text [] = codes "ok"
@@ -74,7 +74,7 @@ role_word Secondary = codes "secondary"
 -- `size 10000 objects 3 layout 4096/4096/1 snaps 1`
 abbrev pub extent_text : HeaderView → List ℕ
 extent_text view =
-    codes "size " ++ decimal view.size ++ codes " objects " ++ decimal (object_count view.layout view.size)
+    codes "size " ++ decimal view.size ++ codes " objects " ++ decimal (objects_below view.layout view.size)
     ++ codes " layout " ++ layout_text view.layout ++ codes " snaps " ++ decimal (length view.snaps)
 
 -- `parent 1@1 overlap 5000 lock c1.0 role none`

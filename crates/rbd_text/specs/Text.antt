@@ -54,10 +54,10 @@ trace_text script history a b = history_text script.sessions history ++ log_text
 abbrev pub usage_text : List ℕ
 usage_text = codes "usage: rbd_lab run [--trace] | threads [--trace] [--turns N] | gen --seed N --clients C --commands K" ++ 10 ∷ []
 
-abbrev pub IsShown : Entry → Type 0
-IsShown (entry.Reply line reply) = IsShowable reply
-IsShown e = Unit {0}
+abbrev pub IsShownEntry : Entry → Type 0
+IsShownEntry (entry.Reply line reply) = IsShowable reply
+IsShownEntry e = Unit {0}
 
 -- each Info of a history tells a layout within the limits and a size below 2^63
 abbrev pub AreShown : List Entry → Type 0
-AreShown history = All IsShown history
+AreShown history = All IsShownEntry history

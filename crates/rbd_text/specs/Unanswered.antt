@@ -23,7 +23,7 @@ use Rattle.rbd_site.specs.declared.done.Done.{Done}
 use Rattle.rbd_site.specs.declared.done.DoneOp.{DoneOp}
 use Rattle.rbd_site.specs.declared.done.DoneOp.TheVariants as done
 use Rattle.rbd_text.specs.Names.{session_name, instance_text}
-use Rattle.rbd_text.specs.declared.progress.Progress.{Progress}
+use Rattle.rbd_text.specs.declared.progress.CommandProgress.{CommandProgress}
 
 -- what an entry tells of the command of a line
 abbrev pub starts : (line : ℕ) → Entry → Bool
@@ -34,16 +34,16 @@ abbrev pub answers : (line : ℕ) → Entry → Bool
 answers line (Reply other reply) = other == line
 answers line entry = false
 
-abbrev pub loses : (line : ℕ) → Entry → Bool
-loses line (Lost other) = other == line
-loses line entry = false
+abbrev pub tells_of_loss : (line : ℕ) → Entry → Bool
+tells_of_loss line (Lost other) = other == line
+tells_of_loss line entry = false
 
 -- for which line an operation was done
-abbrev pub line_of : Cause → Option ℕ
-line_of (cause.Line line) = Some line
-line_of (cause.Late instance) = None
-line_of (cause.Replay line seq) = Some line
-line_of (cause.House instance) = None
+abbrev pub line_of_cause : Cause → Option ℕ
+line_of_cause (cause.Line line) = Some line
+line_of_cause (cause.Late instance) = None
+line_of_cause (cause.Replay line seq) = Some line
+line_of_cause (cause.House instance) = None
 
 abbrev pub log_of : (a b : List Done) → SiteId → List Done
 log_of a b A = a
@@ -67,21 +67,21 @@ is_lock_take (done.Op op) = is_header_lock_take op
 is_lock_take op = false
 
 -- who has the lock by an answer
-abbrev pub held_by : Answer → Option Instance
-held_by (Held owner) = Some owner
-held_by answer = None
+abbrev pub holder_told : Answer → Option Instance
+holder_told (Held owner) = Some owner
+holder_told answer = None
 
 -- whom a lock-take found to have the lock, if anybody, and nothing of another operation
 abbrev pub found_by : Option Done → Option (Option Instance)
 found_by None = None
-found_by (Some done) = if is_lock_take done.op then Some (held_by done.answer) else None
+found_by (Some done) = if is_lock_take done.op then Some (holder_told done.answer) else None
 
 abbrev pub where_for : (line : ℕ) → Option ℕ → Option (Option Instance) → Option (Option Instance)
 where_for line None found = None
 where_for line (Some other) found = if other == line then found else None
 
 abbrev pub found_for : (a b : List Done) → (line : ℕ) → Cause → SiteId → (number : ℕ) → Option (Option Instance)
-found_for a b line cause site number = where_for line (line_of cause) (found_by (logged (log_of a b site) number))
+found_for a b line cause site number = where_for line (line_of_cause cause) (found_by (logged (log_of a b site) number))
 
 -- whom the lock-take of an entry found, where it was done for the line, also in a replay
 abbrev pub found_in : (a b : List Done) → (line : ℕ) → Entry → Option (Option Instance)
@@ -97,11 +97,11 @@ last_of f (x ∷ xs) = option_or (last_of f xs) (f x)
 
 -- what a history and the logs tell of the command of a line: the holder is the one that its last
 -- lock-take found
-abbrev pub progress_of : (a b : List Done) → List Entry → (line : ℕ) → Progress
+abbrev pub progress_of : (a b : List Done) → List Entry → (line : ℕ) → CommandProgress
 progress_of a b history line = record {
   started = list_any (starts line) history;
   answered = list_any (answers line) history;
-  lost = list_any (loses line) history;
+  lost = list_any (tells_of_loss line) history;
   holder = unwrap_or (last_of (found_in a b line) history) None;
 }
 
@@ -109,16 +109,16 @@ abbrev pub waiting_text : List Declared → Option Instance → List ℕ
 waiting_text sessions None = codes "unfinished"
 waiting_text sessions (Some owner) = codes "unfinished waiting " ++ instance_text sessions owner
 
-abbrev pub progress_text : List Declared → Progress → List ℕ
+abbrev pub progress_text : List Declared → CommandProgress → List ℕ
 progress_text sessions progress = if progress.lost then codes "lost" else (if progress.started then waiting_text sessions progress.holder else codes "unsent")
 
 -- `6 c2 unfinished waiting c1.0`
-abbrev pub progress_line : List Declared → (line session : ℕ) → Progress → List ℕ
+abbrev pub progress_line : List Declared → (line session : ℕ) → CommandProgress → List ℕ
 progress_line sessions line session progress =
     if progress.answered then [] else (decimal line ++ codes " " ++ session_name sessions session ++ codes " " ++ progress_text sessions progress ++ 10 ∷ [])
 
 -- the line of a command without a reply
-abbrev pub said_line : List Declared → (line : ℕ) → Said → Progress → List ℕ
+abbrev pub said_line : List Declared → (line : ℕ) → Said → CommandProgress → List ℕ
 said_line sessions line (Command session beside command) progress = progress_line sessions line session progress
 said_line sessions line said progress = []
 

@@ -1,7 +1,7 @@
 //! What an image's header tells, as it is printed.
 ghost use Rattle.std.specs.Prelude.{◌≡◌, ◌++◌, ◌^◌, ◌<◌, OnOk};
 ghost use Rattle.rbd_kinds.specs.Striping.{IsLayout};
-ghost use Rattle.rbd_text.specs.Replies.{info_text, extent_text, standing_text, layout_text, parent_text, lock_text, role_word, object_count};
+ghost use Rattle.rbd_text.specs.Replies.{info_text, extent_text, standing_text, layout_text, parent_text, lock_text, role_word, objects_below};
 
 use crate::names::push_instance;
 use crate::numbers::push_number;
@@ -44,7 +44,7 @@ fn push_extent(text: &mut Vec<u8>, view: &HeaderView) -> Result<(), NoMemory>
 fn objects(layout: &Layout, size: u64) -> u64
     requires layout { IsLayout layout.now }
     requires size { size < 2 ^ 63 }
-    ensures { result ≡ object_count layout.now size }
+    ensures { result ≡ objects_below layout.now size }
 {
     rbd_layout::objects(layout, size)
 }

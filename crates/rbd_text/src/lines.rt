@@ -2,14 +2,14 @@
 ghost use Rattle.std.specs.Prelude.{◌≡◌, ◌++◌, List, OnOk};
 ghost use Rattle.rbd_script.specs.declared.script.Line.{Line};
 ghost use Rattle.rbd_text.specs.Replies.{IsShowable};
-ghost use Rattle.rbd_text.specs.Speakers.{AreOf};
-ghost use Rattle.rbd_text.specs.Text.{spoken_line, reply_line, speaker_name, IsShown};
+ghost use Rattle.rbd_text.specs.Speakers.{AreSpeakersOf};
+ghost use Rattle.rbd_text.specs.Text.{spoken_line, reply_line, speaker_name, IsShownEntry};
 ghost use Rattle.rbd_text.specs.Unanswered.{said_line, progress_line, progress_text, waiting_text};
 ghost use Rattle.rbd_text.specs.Progress.{progress_at};
 
 use crate::names::{push_instance, push_session};
 use crate::numbers::push_number;
-use crate::progress::{Progress, Progresses};
+use crate::progress::{CommandProgress, Progresses};
 use crate::reply::push_reply;
 use crate::speakers::{Speakers, session_of};
 use rbd_flat::Entry;
@@ -23,8 +23,8 @@ pub fn push_reply_line(
     speakers: &Speakers,
     entry: &Entry,
 ) -> Result<(), NoMemory>
-    requires { IsShown entry.now }
-    ensures { (lines : List Line) → AreOf lines speakers.now → OnOk result (text.new.items ≡ text.old.items ++ reply_line sessions.now lines entry.now) }
+    requires { IsShownEntry entry.now }
+    ensures { (lines : List Line) → AreSpeakersOf lines speakers.now → OnOk result (text.new.items ≡ text.old.items ++ reply_line sessions.now lines entry.now) }
 {
     match entry {
         Entry::Reply { line, reply } => push_spoken(
@@ -93,7 +93,7 @@ fn push_progress(
     sessions: &[Declared],
     line: u32,
     session: SessionNo,
-    progress: Progress,
+    progress: CommandProgress,
 ) -> Result<(), NoMemory>
     ensures { OnOk result (text.new.items ≡ text.old.items ++ progress_line sessions.now line session progress) }
 {
@@ -112,7 +112,7 @@ fn push_progress(
 fn push_how_far(
     text: &mut Vec<u8>,
     sessions: &[Declared],
-    progress: Progress,
+    progress: CommandProgress,
 ) -> Result<(), NoMemory>
     ensures { OnOk result (text.new.items ≡ text.old.items ++ progress_text sessions.now progress) }
 {

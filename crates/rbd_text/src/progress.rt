@@ -1,19 +1,19 @@
 //! How far each command of a script has come.
 ghost use Rattle.std.specs.Prelude.{◌≡◌, ◌==◌, ◌||◌, ℕ, None, OnOk, IfOk, option_copied};
 ghost use Rattle.std.specs.Option.{unwrap_or};
-ghost use Rattle.rbd_lines.specs.Known.{is_known, known_at};
-ghost use Rattle.rbd_text.specs.Unanswered.{line_of, log_of, logged, is_lock_take, held_by, found_by, where_for};
-ghost use Rattle.rbd_text.specs.Progress.{progress_at, heard, AreOf};
+ghost use Rattle.rbd_line_table.specs.Known.{is_known, known_at};
+ghost use Rattle.rbd_text.specs.Unanswered.{line_of_cause, log_of, logged, is_lock_take, holder_told, found_by, where_for};
+ghost use Rattle.rbd_text.specs.Progress.{progress_at, progress_after, AreProgressesOf};
 
 use rbd_flat::{Cause, Entry};
 use rbd_kinds::{Answer, HeaderOp, Instance, NoMemory, Op, SiteId};
-use rbd_lines::LineMap;
+use rbd_line_table::LineMap;
 use rbd_site::{Done, DoneOp};
 use std::alloc::Global;
 
 /// What a history tells of one command.
 #[derive(Clone, Copy)]
-pub struct Progress {
+pub struct CommandProgress {
     /// It was begun.
     pub started: bool,
     /// It has its reply.
@@ -37,7 +37,7 @@ pub struct Progresses {
 impl Progresses {
     /// Goes over a history once. An operation is found in its site's log by its number.
     pub fn of(alloc: Global, history: &[Entry], a: &[Done], b: &[Done]) -> Result<Self, NoMemory>
-        ensures { IfOk result (λ all. AreOf a.now b.now history.now all) }
+        ensures { IfOk result (λ all. AreProgressesOf a.now b.now history.now all) }
     {
         let mut all = Progresses {
             started: LineMap::new(alloc),
@@ -52,10 +52,10 @@ impl Progresses {
     }
 
     /// What the history tells of the command of a line.
-    pub fn at(&self, line: u32) -> Progress
+    pub fn at(&self, line: u32) -> CommandProgress
         ensures { result ≡ progress_at self.now line }
     {
-        Progress {
+        CommandProgress {
             started: self.started.has(line),
             answered: self.answered.has(line),
             lost: self.lost.has(line),
@@ -64,7 +64,7 @@ impl Progresses {
     }
 
     fn hear(&mut self, a: &[Done], b: &[Done], entry: &Entry) -> Result<(), NoMemory>
-        ensures { OnOk result ((line : ℕ) → progress_at self.new line ≡ heard a.now b.now line entry.now (progress_at self.old line)) }
+        ensures { OnOk result ((line : ℕ) → progress_at self.new line ≡ progress_after a.now b.now line entry.now (progress_at self.old line)) }
     {
         match entry {
             Entry::Start { line, instance: _ } => note(&mut self.started, *line),
@@ -104,7 +104,7 @@ fn find(
     cause: Cause,
     done: Option<&Done>,
 ) -> Result<(), NoMemory>
-    ensures { OnOk result ((q : ℕ) → unwrap_or (known_at holders.new q) None ≡ unwrap_or (where_for q (line_of cause) (found_by (option_copied done.entry))) (unwrap_or (known_at holders.old q) None)) }
+    ensures { OnOk result ((q : ℕ) → unwrap_or (known_at holders.new q) None ≡ unwrap_or (where_for q (line_of_cause cause) (found_by (option_copied done.entry))) (unwrap_or (known_at holders.old q) None)) }
 {
     let Some(line) = line(cause) else {
         return Ok(());
@@ -117,7 +117,7 @@ fn find(
 
 /// For which line an operation was done.
 fn line(cause: Cause) -> Option<u32>
-    ensures { result ≡ line_of cause }
+    ensures { result ≡ line_of_cause cause }
 {
     match cause {
         Cause::Line(line) => Some(line),
@@ -168,7 +168,7 @@ fn takes_lock(op: &DoneOp) -> bool
 }
 
 fn holder(answer: &Answer) -> Option<Instance>
-    ensures { result ≡ held_by answer.now }
+    ensures { result ≡ holder_told answer.now }
 {
     match answer {
         Answer::Held(owner) => Some(*owner),

@@ -1,12 +1,12 @@
 //! Whose the commands of a script are.
 ghost use Rattle.std.specs.Prelude.{◌≡◌, ℕ, OnOk, IfOk};
 ghost use Rattle.std.specs.Option.{option_or};
-ghost use Rattle.rbd_lines.specs.Known.{known_at};
-ghost use Rattle.rbd_text.specs.Speakers.{AreOf};
+ghost use Rattle.rbd_line_table.specs.Known.{known_at};
+ghost use Rattle.rbd_text.specs.Speakers.{AreSpeakersOf};
 ghost use Rattle.rbd_text.specs.Text.{speaker, speaks};
 
 use rbd_kinds::{NoMemory, SessionNo};
-use rbd_lines::LineMap;
+use rbd_line_table::LineMap;
 use rbd_script::{Line, Said};
 use std::alloc::Global;
 
@@ -19,7 +19,7 @@ pub struct Speakers {
 impl Speakers {
     /// Goes over the lines of a script once.
     pub fn of(alloc: Global, lines: &[Line]) -> Result<Self, NoMemory>
-        ensures { IfOk result (λ speakers. AreOf lines.now speakers) }
+        ensures { IfOk result (λ speakers. AreSpeakersOf lines.now speakers) }
     {
         let mut speakers = Speakers {
             lines: LineMap::new(alloc),

@@ -10,7 +10,7 @@ use Rattle.rbd_kinds.specs.declared.id.Instance.{Instance}
 use Rattle.rbd_kinds.specs.declared.id.SiteId.{SiteId}
 use Rattle.rbd_kinds.specs.declared.notice.Notice.{Notice}
 use Rattle.rbd_kinds.specs.declared.notice.NoticeKind.{NoticeKind}
-use Rattle.rbd_watch.specs.Posting.{AreNumberedFrom, notices, numbered}
+use Rattle.rbd_watch.specs.Posting.{AreNumberedFrom, notices, notice_numbered}
 
 differs : (a b : ℕ) → a ≢ b → (a == b) ≡ false
 differs a b other = by (eqb_tells a b)
@@ -19,32 +19,32 @@ differs a b other = by (eqb_tells a b)
     by (inl p) = absurd (other p.1)
     by (inr p) = p.0
 
-found : (number : ℕ) (n : Notice) (mail : List Notice) → n.number ≡ number → numbered number (n ∷ mail) ≡ Some n
-found number n mail e = cond-true (n.number == number) (Some n) (numbered number mail) (eq-eqb n.number number e)
+found : (number : ℕ) (n : Notice) (mail : List Notice) → n.number ≡ number → notice_numbered number (n ∷ mail) ≡ Some n
+found number n mail e = cond-true (n.number == number) (Some n) (notice_numbered number mail) (eq-eqb n.number number e)
 
-passed : (number : ℕ) (n : Notice) (mail : List Notice) → n.number ≢ number → numbered number (n ∷ mail) ≡ numbered number mail
-passed number n mail other = cond-false (n.number == number) (Some n) (numbered number mail) (differs n.number number other)
+passed : (number : ℕ) (n : Notice) (mail : List Notice) → n.number ≢ number → notice_numbered number (n ∷ mail) ≡ notice_numbered number mail
+passed number n mail other = cond-false (n.number == number) (Some n) (notice_numbered number mail) (differs n.number number other)
 
-pub below : (k number : ℕ) (mail : List Notice) → AreNumberedFrom k mail → number < k → numbered number mail ≡ None
+pub below : (k number : ℕ) (mail : List Notice) → AreNumberedFrom k mail → number < k → notice_numbered number mail ≡ None
 below k number [] is lt = refl
 below k number (n ∷ mail) is lt = passed number n mail (λ e. omega (arith, is.0, e, lt)) ∙ below (k + 1) number mail is.1 (omega (arith, lt))
 
-pub at_place : (k i : ℕ) (mail : List Notice) → AreNumberedFrom k mail → numbered (k + i) mail ≡ slice_get mail i
+pub at_place : (k i : ℕ) (mail : List Notice) → AreNumberedFrom k mail → notice_numbered (k + i) mail ≡ slice_get mail i
 at_place k i [] is = refl
 at_place k zero (n ∷ mail) is = found (k + 0) n mail (omega (arith, is.0))
 at_place k (suc i) (n ∷ mail) is =
     let next : k + suc i ≡ k + 1 + i = omega arith in
-    passed (k + suc i) n mail (λ e. omega (arith, is.0, e)) ∙ ap (λ m. numbered m mail) next ∙ at_place (k + 1) i mail is.1
+    passed (k + suc i) n mail (λ e. omega (arith, is.0, e)) ∙ ap (λ m. notice_numbered m mail) next ∙ at_place (k + 1) i mail is.1
 
 at_most_or_more : (k number : ℕ) → k ≤ number → k ≢ number → k + 1 ≤ number
 at_most_or_more k number le other = omega (arith, le, other)
 
-pub stays : (k number : ℕ) (mail posted : List Notice) → AreNumberedFrom k mail → k ≤ number → number < k + length mail → numbered number (mail ++ posted) ≡ numbered number mail
+pub stays : (k number : ℕ) (mail posted : List Notice) → AreNumberedFrom k mail → k ≤ number → number < k + length mail → notice_numbered number (mail ++ posted) ≡ notice_numbered number mail
 stays k number [] posted is le lt = absurd (omega (arith, le, lt))
 stays k number (n ∷ mail) posted is le lt = by (eqb_tells n.number number) (λ more. stays (k + 1) number mail posted is.1 more (omega (arith, lt)))
   where
     by : (((n.number == number) ≡ true) × (n.number ≡ number)) ⊎ (((n.number == number) ≡ false) × (n.number ≢ number))
-        → (k + 1 ≤ number → numbered number (mail ++ posted) ≡ numbered number mail) → numbered number (n ∷ (mail ++ posted)) ≡ numbered number (n ∷ mail)
+        → (k + 1 ≤ number → notice_numbered number (mail ++ posted) ≡ notice_numbered number mail) → notice_numbered number (n ∷ (mail ++ posted)) ≡ notice_numbered number (n ∷ mail)
     by (inl p) rest = found number n (mail ++ posted) p.1 ∙ sym (found number n mail p.1)
     by (inr p) rest =
         let more : k + 1 ≤ number = at_most_or_more k number le (λ e. p.1 (is.0 ∙ e)) in
@@ -93,14 +93,14 @@ module _ (site : SiteId) (image : ℕ) (from : Instance) (kind : NoticeKind) whe
       ∙ ap (λ n. Some (record { number = n; to = to; from = from; site = site; image = image; kind = kind })) e
 
   pub posted_at : (mail : List Notice) (place : ℕ) (receivers : List Instance) (to : Instance) → AreNumberedFrom 1 mail → slice_get receivers place ≡ Some to
-      → numbered (length mail + 1 + place) (mail ++ notices (length mail + 1) site image from receivers kind)
+      → notice_numbered (length mail + 1 + place) (mail ++ notices (length mail + 1) site image from receivers kind)
       ≡ Some (record { number = length mail + 1 + place; to = to; from = from; site = site; image = image; kind = kind })
   posted_at mail place receivers to is at =
       let first = length mail + 1 in
       let posted = notices first site image from receivers kind in
       let start : first ≡ 1 + length mail = omega arith in
       let number : first + place ≡ 1 + (length mail + place) = omega arith in
-      ap (λ n. numbered n (mail ++ posted)) number
+      ap (λ n. notice_numbered n (mail ++ posted)) number
       ∙ at_place 1 (length mail + place) (mail ++ posted) (numbered_append 1 mail posted is (subst (λ n. AreNumberedFrom n posted) start (notices_numbered first receivers)))
       ∙ get_past mail posted place
       ∙ notice_at_place first place receivers to at

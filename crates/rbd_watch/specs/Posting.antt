@@ -13,8 +13,8 @@ notices number site image from (to ∷ receivers) kind =
     ∷ notices (number + 1) site image from receivers kind
 
 -- the notice that has a number
-abbrev pub numbered : (number : ℕ) → List Notice → Option Notice
-numbered number mail = find (λ n. n.number == number) mail
+abbrev pub notice_numbered : (number : ℕ) → List Notice → Option Notice
+notice_numbered number mail = find (λ n. n.number == number) mail
 
 -- numbered without gaps from a number on
 abbrev pub AreNumberedFrom : (number : ℕ) → List Notice → Type 0

@@ -1,6 +1,6 @@
 //! The notices of both sites.
 ghost use Rattle.std.specs.Prelude.{◌≡◌, ◌+◌, [], ◌++◌, length, IfOk, OnOk, OnErr, option_copied, slice_get};
-ghost use Rattle.rbd_watch.specs.Posting.{AreNumberedFrom, notices, numbered};
+ghost use Rattle.rbd_watch.specs.Posting.{AreNumberedFrom, notices, notice_numbered};
 
 use rbd_kinds::{ImageId, Instance, NoMemory, Notice, NoticeKind, SiteId, TryClone};
 use std::alloc::Global;
@@ -84,7 +84,7 @@ impl Mail {
 
     /// The notice that has a number: `None` exactly where none has. It takes no memory.
     pub fn get(&self, number: u64) -> Option<&Notice>
-        ensures { option_copied result ≡ numbered number self.now }
+        ensures { option_copied result ≡ notice_numbered number self.now }
     {
         let notices = self.notices.as_slice();
         let index = number.checked_sub(1)?;

@@ -13,8 +13,8 @@ use Rattle.clap.specs.Simple.{App, Shape, built, entered, filled, is_simple, nam
 use Rattle.clap.specs.Walk.{Names, Row, Text, Walk, idle, finished, settled, used, walk, nothing_held, one_of, rows_after, walk_from, walked}
 use Rattle.clap.specs.declared.error.kind.ErrorKind.TheVariants.{TooManyValues}
 use Rattle.rbd_script.specs.Token.{is}
-use Rattle.rbd_words.specs.Command.{flag, lab_command, told}
-use Rattle.rbd_words.specs.Words.{asked_by, load_asked, load_of, no_options, run_asked, with_words}
+use Rattle.rbd_words.specs.Command.{flag_rule, lab_command, told_options}
+use Rattle.rbd_words.specs.Words.{asked_for_by, load_asked, load_of, no_options, run_asked, with_words}
 use Rattle.rbd_words.specs.declared.asked.Asked.{Asked}
 use Rattle.rbd_words.specs.declared.asked.Asked.TheVariants.{Generate, Run}
 use Rattle.rbd_words.specs.declared.asked.Mode.TheVariants.{Replies, Trace}
@@ -25,7 +25,7 @@ use Rattle.rbd_words.proofs.Walks.{HasLongsAlone, IsFault, IsNoLong, dashes, fir
 -- `run`, and the whole, as they are built
 abbrev pub run_built : Shape
 run_built = record (new_shape (codes "run")) {
-  rules = filled (flag (codes "trace")) ∷ [];
+  rules = filled (flag_rule (codes "trace")) ∷ [];
   no_binary_name = true;
   disable_help_flag = true;
   disable_help_subcommand = true;
@@ -125,7 +125,7 @@ flag_alone = inr (refl, inr (refl, refl))
 
 -- what the flag leaves
 abbrev flagged : List Row
-flagged = used (filled (flag (codes "trace"))) [] []
+flagged = used (filled (flag_rule (codes "trace"))) [] []
 
 flag_step : walked run_built.rules [] (stands [] None idle) trace ≡ stands flagged None idle
 unfolding clap_on_literals
@@ -241,7 +241,7 @@ module _ (word : Text) (rest : List Text) (open_end : bytes_eq word dashes ≡ f
       (first_fault (turn_fault top names (walk_from nothing_held) word) _
       (no_option top top_longs word [] None names (rw (no_run, no_gen) refl) open_end (long_of word) refl (no_long (long_of word))))
 
-  other_asked : asked_by (word ∷ rest) ≡ None
+  other_asked : asked_for_by (word ∷ rest) ≡ None
   other_asked = rw (
     is_not (codes "run") word (λ same. true≢false (ap (bytes_eq (codes "run")) (sym same) ∙ no_run)),
     is_not (codes "gen") word (λ same. true≢false (ap (bytes_eq (codes "gen")) (sym same) ∙ no_gen)),
@@ -252,13 +252,13 @@ abbrev pub IsAsked : Option (Text × List Row) → Option Asked → Type 0
 IsAsked None asked = asked ≡ None
 IsAsked (Some p) asked =
     ((p.0 ≡ codes "run") × IsMode p.1 asked)
-    ⊎ ((p.0 ≡ codes "gen") × (asked ≡ option_map Generate (option_and_then load_of (told p.1))))
+    ⊎ ((p.0 ≡ codes "gen") × (asked ≡ option_map Generate (option_and_then load_of (told_options p.1))))
 
 -- The words are refused, and ask for nothing, or what they are matched with says what they ask for.
 abbrev pub IsWordsRead : (words : List Text) → Type 0
 IsWordsRead words =
-    (IsFault (fault_of lab_command words) × (asked_by words ≡ None))
-    ⊎ ((fault_of lab_command words ≡ []) × IsAsked (subcommand_of lab_command words) (asked_by words))
+    (IsFault (fault_of lab_command words) × (asked_for_by words ≡ None))
+    ⊎ ((fault_of lab_command words ≡ []) × IsAsked (subcommand_of lab_command words) (asked_for_by words))
 
 behind_run : (words : List Text) → IsRunRead words → IsWordsRead (codes "run" ∷ words)
 behind_run words (inl bad) = inl (subst IsFault (sym (run_faults_are words)) bad.0, bad.1)

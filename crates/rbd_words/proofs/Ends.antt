@@ -8,7 +8,7 @@ use Rattle.clap.specs.Walk.{Text}
 use Rattle.rbd_script.specs.Token.{is}
 use Rattle.rbd_words.specs.declared.options.Options.{Options}
 use Rattle.rbd_words.specs.Command.{has_end}
-use Rattle.rbd_words.specs.Words.{asked_by, has_value, is_equals, load_asked, load_of, no_options, run_asked, with_option, with_words}
+use Rattle.rbd_words.specs.Words.{asked_for_by, has_value, is_equals, load_asked, load_of, no_options, run_asked, with_option, with_words}
 use Rattle.rbd_words.specs.declared.asked.Asked.TheVariants.{Generate}
 use Rattle.rbd_words.proofs.OptionLemmas.{next_value, own_value}
 use Rattle.rbd_words.proofs.Reading.{HasNoEnd, unknown}
@@ -64,7 +64,7 @@ run_none (word ∷ []) has = go (is dashes word) refl has
 run_none (word ∷ next ∷ rest) has = refl
 
 -- and all words with one ask for nothing
-pub end_none : (words : List Text) → has_end words ≡ true → asked_by words ≡ None
+pub end_none : (words : List Text) → has_end words ≡ true → asked_for_by words ≡ None
 end_none [] has = refl
 end_none (word ∷ rest) has = go (is dashes word) refl has
   where
@@ -73,6 +73,6 @@ end_none (word ∷ rest) has = go (is dashes word) refl has
     behind has false true = ap (λ o. option_map Generate (option_and_then load_of o)) (told_none no_options rest has)
     behind has false false = refl
 
-    go : (b : Bool) → is dashes word ≡ b → (b || has_end rest) ≡ true → asked_by (word ∷ rest) ≡ None
-    go true named has = ap (λ w. asked_by (w ∷ rest)) (is_dashes word named)
+    go : (b : Bool) → is dashes word ≡ b → (b || has_end rest) ≡ true → asked_for_by (word ∷ rest) ≡ None
+    go true named has = ap (λ w. asked_for_by (w ∷ rest)) (is_dashes word named)
     go false named has = behind has (is (codes "run") word) (is (codes "gen") word)

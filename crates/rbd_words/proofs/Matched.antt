@@ -18,8 +18,8 @@ use Rattle.clap.specs.declared.parser.matches.ArgMatches.{ArgMatches}
 use Rattle.clap.specs.declared.parser.matches.ArgMatches.TheViews.{out-ArgMatches, out-SubCommand}
 use Rattle.clap.specs.declared.parser.matches.Found.{Found}
 use Rattle.clap.specs.declared.parser.matches.SubCommand.{SubCommand}
-use Rattle.rbd_words.specs.Command.{IsMatched, has_end, lab_command, read, told}
-use Rattle.rbd_words.specs.Words.{asked_by, load_of, number, once}
+use Rattle.rbd_words.specs.Command.{IsMatched, has_end, lab_command, read, told_options}
+use Rattle.rbd_words.specs.Words.{asked_for_by, load_of, number, once}
 use Rattle.rbd_words.specs.declared.load.Load.{Load}
 use Rattle.rbd_words.specs.declared.asked.Asked.TheVariants.{Generate, Run}
 use Rattle.rbd_words.specs.declared.asked.Mode.{Mode}
@@ -53,39 +53,39 @@ module _ {Z : Type 0} where
       λ i. Some (sym same_name i, sym same_rows i)
 
 module _ (words : List Text) (m : ArgMatches) (matched : IsMatched words m) where
-  by_rows : IsWordsRead words → IsAsked (subcommand_rows_of m) (asked_by words)
+  by_rows : IsWordsRead words → IsAsked (subcommand_rows_of m) (asked_for_by words)
   by_rows (inl bad) = absurd (subst IsFault matched.passes bad.0)
-  by_rows (inr good) = subst (λ s. IsAsked s (asked_by words)) (sym matched.rows) good.1
+  by_rows (inr good) = subst (λ s. IsAsked s (asked_for_by words)) (sym matched.rows) good.1
 
-  asked_is : IsAsked (subcommand_rows_of m) (asked_by words)
+  asked_is : IsAsked (subcommand_rows_of m) (asked_for_by words)
   asked_is = by_rows (words_read words (no_end words matched.open_end))
 
-  pub nothing_asked : None ≡ subcommand_name_of m → None ≡ asked_by words
-  nothing_asked is = sym (subst (λ s. IsAsked s (asked_by words)) (rows_none (out-ArgMatches m).subcommand is) asked_is)
+  pub nothing_asked : None ≡ subcommand_name_of m → None ≡ asked_for_by words
+  nothing_asked is = sym (subst (λ s. IsAsked s (asked_for_by words)) (rows_none (out-ArgMatches m).subcommand is) asked_is)
 
   module _ (name : Text) (rows : List Row) (is : Some name ≡ subcommand_name_of m) (are : Some rows ≡ option_map (λ p. p.1) (subcommand_rows (out-ArgMatches m).subcommand)) where
-    met : IsAsked (Some (name, rows)) (asked_by words)
-    met = subst (λ s. IsAsked s (asked_by words)) (rows_some (out-ArgMatches m).subcommand name rows is are) asked_is
+    met : IsAsked (Some (name, rows)) (asked_for_by words)
+    met = subst (λ s. IsAsked s (asked_for_by words)) (rows_some (out-ArgMatches m).subcommand name rows is are) asked_is
 
     pub run_is : (mode : Mode) → true ≡ bytes_eq name (codes "run") → (one_of (codes "trace") rows ≡ Some (codes "true") → mode ≡ Trace) → (one_of (codes "trace") rows ≡ Some (codes "false") → mode ≡ Replies)
-        → Some (Run mode) ≡ asked_by words
+        → Some (Run mode) ≡ asked_for_by words
     run_is mode named trace replies = by met
       where
-        by : IsAsked (Some (name, rows)) (asked_by words) → Some (Run mode) ≡ asked_by words
+        by : IsAsked (Some (name, rows)) (asked_for_by words) → Some (Run mode) ≡ asked_for_by words
         by (inl (_, inl p)) = ap (λ x. Some (Run x)) (replies p.0) ∙ sym p.1
         by (inl (_, inr p)) = ap (λ x. Some (Run x)) (trace p.0) ∙ sym p.1
         by (inr p) = absurd (true≢false (named ∙ ap (λ n. bytes_eq n (codes "run")) p.0))
 
-    pub load_is : (load : Option Load) → false ≡ bytes_eq name (codes "run") → load ≡ option_and_then load_of (told rows) → option_map Generate load ≡ asked_by words
+    pub load_is : (load : Option Load) → false ≡ bytes_eq name (codes "run") → load ≡ option_and_then load_of (told_options rows) → option_map Generate load ≡ asked_for_by words
     load_is load named asked = by met
       where
-        by : IsAsked (Some (name, rows)) (asked_by words) → option_map Generate load ≡ asked_by words
+        by : IsAsked (Some (name, rows)) (asked_for_by words) → option_map Generate load ≡ asked_for_by words
         by (inl p) = absurd (true≢false (sym (ap (λ n. bytes_eq n (codes "run")) p.0) ∙ sym named))
         by (inr p) = ap (option_map Generate) asked ∙ sym p.1
 
 -- ---- words that are refused
 
-pub refused_none : (words : List Text) (e : Error) → has_end words ≡ false → HasKind (fault_of lab_command words) e → (kind_of e ≡ OutOfMemory → ⊥) → asked_by words ≡ None
+pub refused_none : (words : List Text) (e : Error) → has_end words ≡ false → HasKind (fault_of lab_command words) e → (kind_of e ≡ OutOfMemory → ⊥) → asked_for_by words ≡ None
 refused_none words e open_end kinds other = by (words_read words (no_end words open_end))
   where
     not_none : (k : Kinds) → k ≡ [] → HasKind k e → ⊥
@@ -93,6 +93,6 @@ refused_none words e open_end kinds other = by (words_read words (no_end words o
     not_none [] is (inr none) = absurd none
     not_none (x ∷ xs) is kinds = subst IsFault is tt
 
-    by : IsWordsRead words → asked_by words ≡ None
+    by : IsWordsRead words → asked_for_by words ≡ None
     by (inl bad) = bad.1
     by (inr good) = absurd (not_none (fault_of lab_command words) good.0 kinds)

@@ -16,7 +16,7 @@ use Rattle.rbd_words.specs.declared.load.Load.{Load}
 use Rattle.rbd_words.specs.declared.options.Options.{Options}
 use Rattle.rbd_words.specs.Load.{IsLoad}
 use Rattle.rbd_words.specs.Spelling.{AreInAnyOrder, AsksForLoad, IsOption, SpellsLoad}
-use Rattle.rbd_words.specs.Words.{asked_by, has_value, is_equals, load_asked, load_by, load_of, no_options, number, once, run_asked, with_option, with_words}
+use Rattle.rbd_words.specs.Words.{asked_for_by, has_value, is_equals, load_asked, load_by, load_of, no_options, number, once, run_asked, with_option, with_words}
 
 -- ---- one option
 
@@ -314,7 +314,7 @@ no_run load (word ∷ []) same = go (is (codes "--trace") word) same
     go false same = none-some _ same
 no_run load (word ∷ next ∷ words) same = none-some _ same
 
-pub only_so : (load : Load) (words : List (List ℕ)) → asked_by words ≡ Some (Generate load) → AsksForLoad load words × IsLoad load
+pub only_so : (load : Load) (words : List (List ℕ)) → asked_for_by words ≡ Some (Generate load) → AsksForLoad load words × IsLoad load
 only_so load [] asks = absurd (none-some _ asks)
 only_so load (word ∷ words) asks = first (is (codes "run") word) asks
   where

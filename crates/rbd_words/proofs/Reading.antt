@@ -12,7 +12,7 @@ use Rattle.clap.specs.Walk.{Row, Text, Waiting, Walk, idle, option, finished, ha
 use Rattle.rbd_script.specs.Token.{is}
 use Rattle.rbd_words.specs.declared.load.Load.{Load}
 use Rattle.rbd_words.specs.declared.options.Options.{Options}
-use Rattle.rbd_words.specs.Command.{told}
+use Rattle.rbd_words.specs.Command.{told_options}
 use Rattle.rbd_words.specs.Words.{has_value, is_equals, load_of, no_options, with_option, with_words}
 use Rattle.rbd_words.proofs.Forms.{long_form}
 use Rattle.rbd_words.proofs.OnlySo.{own_is}
@@ -96,7 +96,7 @@ unknown t word rest none = go (has_value word) refl
 -- ---- what is found of a load
 
 abbrev pub load_in : Kinds → List Row → Option Load
-load_in [] rows = option_and_then load_of (told rows)
+load_in [] rows = option_and_then load_of (told_options rows)
 load_in (k ∷ ks) rows = None
 
 abbrev pub after_fault : Walk → Kinds
@@ -241,7 +241,7 @@ module _ (name : Text) (tells : IsTold name) (word : Text) (open_end : bytes_eq 
         let form : word ≡ 45 ∷ 45 ∷ name ++ 61 ∷ value = long_form word (name, Some value) long in
         after_own uses refl turn whole
         ∙ ap (λ o. wanted o rest) (tells.tells at_end value whole)
-        ∙ sym (wanted_more (told at_end) (word ∷ rest) rest (45 ∷ 45 ∷ name) value (λ t. ap (λ w. with_words t (w ∷ rest)) form ∙ tells.own t value rest))
+        ∙ sym (wanted_more (told_options at_end) (word ∷ rest) rest (45 ∷ 45 ∷ name) value (λ t. ap (λ w. with_words t (w ∷ rest)) form ∙ tells.own t value rest))
     read_own (k ∷ ks) is stays =
         found_fault (stands rows pending idle) word rest (subst IsFault (sym (own_fault rows pending word name tells.third open_end value long ∙ ap (λ k. or_else k uses) is)) tt)
 
@@ -261,7 +261,7 @@ module _ (name : Text) (tells : IsTold name) (word : Text) (open_end : bytes_eq 
     read_last (k ∷ ks) is = refused k ks [] is
     read_last [] is =
         goes_on [] is ∙ found_end at_end (Some (name, [])) (option name) ∙ rw tells.third.id refl
-        ∙ sym (wanted_none (told at_end) (word ∷ []) (λ t. ap (λ w. with_words t (w ∷ [])) named ∙ tells.last t))
+        ∙ sym (wanted_none (told_options at_end) (word ∷ []) (λ t. ap (λ w. with_words t (w ∷ [])) named ∙ tells.last t))
 
     module _ (next : Text) (rest : List Text) (no_end : bytes_eq next dashes ≡ false) (more : IsRead rest) (ends : HasNoEnd rest) where
       abbrev uses_next : Kinds
@@ -277,16 +277,16 @@ module _ (name : Text) (tells : IsTold name) (word : Text) (open_end : bytes_eq 
       spelled t = ap (λ w. with_words t (w ∷ next ∷ rest)) named ∙ tells.next t next rest
 
       by_next : IsWhole at_end → IsRefused at_end next name tells.third no_end ⊎ IsTaken at_end next name tells.third no_end
-          → found (stands at_end (Some (name, [])) (option name)) (next ∷ rest) ≡ wanted (told at_end) (word ∷ next ∷ rest)
+          → found (stands at_end (Some (name, [])) (option name)) (next ∷ rest) ≡ wanted (told_options at_end) (word ∷ next ∷ rest)
       by_next whole (inl bad) =
           found_fault (stands at_end (Some (name, [])) (option name)) next rest bad.0
-          ∙ sym (wanted_more (told at_end) (word ∷ next ∷ rest) rest (45 ∷ 45 ∷ name) next spelled ∙ no_option_told (told at_end) rest (45 ∷ 45 ∷ name) next (λ t. no_value_told t (45 ∷ 45 ∷ name) next bad.1))
+          ∙ sym (wanted_more (told_options at_end) (word ∷ next ∷ rest) rest (45 ∷ 45 ∷ name) next spelled ∙ no_option_told (told_options at_end) rest (45 ∷ 45 ∷ name) next (λ t. no_value_told t (45 ∷ 45 ∷ name) next bad.1))
       by_next whole (inr good) =
           found_step (stands at_end (Some (name, [])) (option name)) (stands at_end (Some (name, next ∷ [])) idle) next rest good.0 good.1
           ∙ more at_end (Some (name, next ∷ [])) ends (λ passes. subst IsWhole (sym rows_next) (tells.whole at_end next (sym settles_next ∙ passes) whole))
           ∙ (λ i. wanted (told_in (settles_next i) (rows_next i)) rest)
           ∙ ap (λ o. wanted o rest) (tells.tells at_end next whole)
-          ∙ sym (wanted_more (told at_end) (word ∷ next ∷ rest) rest (45 ∷ 45 ∷ name) next spelled)
+          ∙ sym (wanted_more (told_options at_end) (word ∷ next ∷ rest) rest (45 ∷ 45 ∷ name) next spelled)
 
       read_next : (k : Kinds) → settles rows pending ≡ k → StaysWhole rows pending → found (stands rows pending idle) (word ∷ next ∷ rest) ≡ wanted (told_in k at_end) (word ∷ next ∷ rest)
       read_next (k ∷ ks) is stays = refused k ks (next ∷ rest) is

@@ -1,4 +1,5 @@
--- What `clap` holds of the options of `gen`: the rows of those that were told, and the one that waits.
+-- What `clap` holds of the options of `gen`: the rows of those that were told, and the one that
+-- waits.
 use Rattle.std.proofs.Common.{◌≡◌, true, false, Bool, List, [], ◌∷◌, ◌++◌, Some, None, refl, ap, ◌∙◌, true≢false, append-nil}
 use Rattle.std.specs.Prelude.{◌||◌, cond, find, option_and_then, slice_get}
 use Rattle.std.specs.List.{list_any}

@@ -10,7 +10,7 @@ use Rattle.rbd_words.specs.declared.load.Load.{Load}
 use Rattle.rbd_words.specs.declared.options.Options.{Options}
 use Rattle.rbd_words.specs.Load.{IsLoad}
 use Rattle.rbd_words.specs.Spelling.{AreInAnyOrder, IsOption, SpellsLoad}
-use Rattle.rbd_words.specs.Words.{asked_by, has_value, is_equals, load_of, no_options, number, with_option, with_words}
+use Rattle.rbd_words.specs.Words.{asked_for_by, has_value, is_equals, load_of, no_options, number, with_option, with_words}
 use Rattle.rbd_words.proofs.OptionLemmas.{next_value, own_value}
 
 -- an option in each of its forms, and then other words: what its name is before its first `=`
@@ -80,5 +80,5 @@ module _ (load : Load) (is : IsLoad load) where
 in_range : (load : Load) → IsLoad load → load_of (record { seed = Some load.seed; clients = Some load.clients; commands = Some load.commands }) ≡ Some load
 in_range load is = rw (le-leb 1 load.clients is.some, le-leb load.clients 16 is.few, le-leb load.commands 10000 is.commands) refl
 
-pub load_spelled : (load : Load) (words : List (List ℕ)) → IsLoad load → SpellsLoad load words → asked_by (codes "gen" ∷ words) ≡ Some (Generate load)
+pub load_spelled : (load : Load) (words : List (List ℕ)) → IsLoad load → SpellsLoad load words → asked_for_by (codes "gen" ∷ words) ≡ Some (Generate load)
 load_spelled load words is s = ap (λ o. option_map Generate (option_and_then load_of o)) (all_read load is words s) ∙ ap (option_map Generate) (in_range load is)

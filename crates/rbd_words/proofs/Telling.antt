@@ -15,7 +15,7 @@ use Rattle.rbd_script.specs.Token.{is}
 use Rattle.rbd_script.proofs.Numerals.{digits}
 use Rattle.rbd_script.proofs.TokenSpelling.{number_said}
 use Rattle.rbd_words.specs.declared.options.Options.{Options}
-use Rattle.rbd_words.specs.Command.{numbers, numbers_of, read, told}
+use Rattle.rbd_words.specs.Command.{options_by_numbers, numbers_of, read, told_options}
 use Rattle.rbd_words.specs.Words.{number, once, with_option, with_words}
 use Rattle.rbd_words.proofs.OptionLemmas.{next_value, no_value, own_value}
 use Rattle.rbd_words.proofs.Rows.{new_row, option_rule, repeat_of, told_now, told_still, untold, use_is, used_is}
@@ -25,7 +25,7 @@ same_three : (a b c a' b' c' : Option Text) → a ≡ a' → b ≡ b' → c ≡ 
 same_three a b c a' b' c' p q r = λ i. numbers_of (p i) (q i) (r i)
 
 abbrev pub told_in : Kinds → List Row → Option Options
-told_in [] rows = told rows
+told_in [] rows = told_options rows
 told_in (k ∷ ks) rows = None
 
 -- each row has a value
@@ -45,7 +45,7 @@ clients_more r = option_and_then (λ t. option_map (λ n. record t { clients = S
 abbrev commands_more : (r : Result ℕ LineCause) → Option Options → Option Options
 commands_more r = option_and_then (λ t. option_map (λ n. record t { commands = Some n }) (once t.commands r))
 
-seed_new : (r : Result ℕ LineCause) (b c : Option (Option ℕ)) → numbers (option_map Some (once None r)) b c ≡ seed_more r (numbers (Some None) b c)
+seed_new : (r : Result ℕ LineCause) (b c : Option (Option ℕ)) → options_by_numbers (option_map Some (once None r)) b c ≡ seed_more r (options_by_numbers (Some None) b c)
 seed_new (Ok n) (Some b) (Some c) = refl
 seed_new (Ok n) (Some b) None = refl
 seed_new (Ok n) None c = refl
@@ -53,7 +53,7 @@ seed_new (Err e) (Some b) (Some c) = refl
 seed_new (Err e) (Some b) None = refl
 seed_new (Err e) None c = refl
 
-clients_new : (r : Result ℕ LineCause) (a c : Option (Option ℕ)) → numbers a (option_map Some (once None r)) c ≡ clients_more r (numbers a (Some None) c)
+clients_new : (r : Result ℕ LineCause) (a c : Option (Option ℕ)) → options_by_numbers a (option_map Some (once None r)) c ≡ clients_more r (options_by_numbers a (Some None) c)
 clients_new (Ok n) (Some a) (Some c) = refl
 clients_new (Ok n) (Some a) None = refl
 clients_new (Ok n) None c = refl
@@ -61,7 +61,7 @@ clients_new (Err e) (Some a) (Some c) = refl
 clients_new (Err e) (Some a) None = refl
 clients_new (Err e) None c = refl
 
-commands_new : (r : Result ℕ LineCause) (a b : Option (Option ℕ)) → numbers a b (option_map Some (once None r)) ≡ commands_more r (numbers a b (Some None))
+commands_new : (r : Result ℕ LineCause) (a b : Option (Option ℕ)) → options_by_numbers a b (option_map Some (once None r)) ≡ commands_more r (options_by_numbers a b (Some None))
 commands_new (Ok n) (Some a) (Some b) = refl
 commands_new (Ok n) (Some a) None = refl
 commands_new (Ok n) None b = refl
@@ -69,20 +69,20 @@ commands_new (Err e) (Some a) (Some b) = refl
 commands_new (Err e) (Some a) None = refl
 commands_new (Err e) None b = refl
 
-seed_again : (q r : Result ℕ LineCause) (b c : Option (Option ℕ)) → None ≡ seed_more r (numbers (option_map Some (once None q)) b c)
+seed_again : (q r : Result ℕ LineCause) (b c : Option (Option ℕ)) → None ≡ seed_more r (options_by_numbers (option_map Some (once None q)) b c)
 seed_again (Ok n) r (Some b) (Some c) = refl
 seed_again (Ok n) r (Some b) None = refl
 seed_again (Ok n) r None c = refl
 seed_again (Err e) r b c = refl
 
-clients_again : (q r : Result ℕ LineCause) (a c : Option (Option ℕ)) → None ≡ clients_more r (numbers a (option_map Some (once None q)) c)
+clients_again : (q r : Result ℕ LineCause) (a c : Option (Option ℕ)) → None ≡ clients_more r (options_by_numbers a (option_map Some (once None q)) c)
 clients_again (Ok n) r (Some a) (Some c) = refl
 clients_again (Ok n) r (Some a) None = refl
 clients_again (Ok n) r None c = refl
 clients_again (Err e) r (Some a) c = refl
 clients_again (Err e) r None c = refl
 
-commands_again : (q r : Result ℕ LineCause) (a b : Option (Option ℕ)) → None ≡ commands_more r (numbers a b (option_map Some (once None q)))
+commands_again : (q r : Result ℕ LineCause) (a b : Option (Option ℕ)) → None ≡ commands_more r (options_by_numbers a b (option_map Some (once None q)))
 commands_again (Ok n) r (Some a) (Some b) = refl
 commands_again (Ok n) r (Some a) None = refl
 commands_again (Ok n) r None b = refl
@@ -131,7 +131,7 @@ no_value_told t name value begins =
 -- one more is told
 module _ (name value : Text) (rows : List Row) (whole : has_row name rows ≡ is_some (first_of name rows)) (tells : Option Options)
     (again : (before : Text) → first_of name rows ≡ Some before → None ≡ tells)
-    (new : has_row name rows ≡ false → told (rows ++ new_row name value ∷ []) ≡ tells) where
+    (new : has_row name rows ≡ false → told_options (rows ++ new_row name value ∷ []) ≡ tells) where
   tells_by : told_in (use_fault false (option_rule name) (value ∷ []) rows) (used (option_rule name) (value ∷ []) rows) ≡ tells
   tells_by = go (has_row name rows) refl
     where
@@ -141,7 +141,7 @@ module _ (name value : Text) (rows : List Row) (whole : has_row name rows ≡ is
 
       go : (b : Bool) → has_row name rows ≡ b → told_in (use_fault false (option_rule name) (value ∷ []) rows) (used (option_rule name) (value ∷ []) rows) ≡ tells
       go true has = ap (λ f. told_in f (used (option_rule name) (value ∷ []) rows)) (use_is name value rows ∙ ap repeat_of has) ∙ before (first_of name rows) refl has
-      go false none = ap (λ f. told_in f (used (option_rule name) (value ∷ []) rows)) (use_is name value rows ∙ ap repeat_of none) ∙ ap told (used_is name value rows none) ∙ new none
+      go false none = ap (λ f. told_in f (used (option_rule name) (value ∷ []) rows)) (use_is name value rows ∙ ap repeat_of none) ∙ ap told_options (used_is name value rows none) ∙ new none
 
 once_only : (name value : Text) (rows : List Row) → use_fault false (option_rule name) (value ∷ []) rows ≡ [] → has_row name rows ≡ false
 once_only name value rows passes = go (has_row name rows) refl
@@ -153,7 +153,7 @@ once_only name value rows passes = go (has_row name rows) refl
 pub record IsTold (name : Text) : Type 0 where
   pub third : IsThird name
   pub tells : (rows : List Row) (value : Text) → IsWhole rows
-      → told_in (use_fault false (option_rule name) (value ∷ []) rows) (used (option_rule name) (value ∷ []) rows) ≡ option_and_then (λ t. with_option t (45 ∷ 45 ∷ name) value) (told rows)
+      → told_in (use_fault false (option_rule name) (value ∷ []) rows) (used (option_rule name) (value ∷ []) rows) ≡ option_and_then (λ t. with_option t (45 ∷ 45 ∷ name) value) (told_options rows)
   pub whole : (rows : List Row) (value : Text) → use_fault false (option_rule name) (value ∷ []) rows ≡ [] → IsWhole rows → IsWhole (used (option_rule name) (value ∷ []) rows)
   pub own : (t : Options) (value : Text) (rest : List Text)
       → with_words t ((45 ∷ 45 ∷ name ++ 61 ∷ value) ∷ rest) ≡ option_and_then (λ more. with_words more rest) (with_option t (45 ∷ 45 ∷ name) value)
@@ -172,20 +172,20 @@ module _ (rows : List Row) where
   commands_in = first_of (codes "commands") rows
 
   module _ (value : Text) (whole : IsWhole rows) where
-    seed_tells : told_in (use_fault false (option_rule (codes "seed")) (value ∷ []) rows) (used (option_rule (codes "seed")) (value ∷ []) rows) ≡ seed_more (number value) (told rows)
-    seed_tells = tells_by (codes "seed") value rows whole.seed (seed_more (number value) (told rows))
+    seed_tells : told_in (use_fault false (option_rule (codes "seed")) (value ∷ []) rows) (used (option_rule (codes "seed")) (value ∷ []) rows) ≡ seed_more (number value) (told_options rows)
+    seed_tells = tells_by (codes "seed") value rows whole.seed (seed_more (number value) (told_options rows))
         (λ before is. seed_again (number before) (number value) (read clients_in) (read commands_in) ∙ ap (λ o. seed_more (number value) (numbers_of o clients_in commands_in)) (sym is))
         (λ none. same_three _ _ _ _ _ _ (told_now (codes "seed") value rows none refl).1 (told_still (codes "seed") value (codes "clients") rows refl).1 (told_still (codes "seed") value (codes "commands") rows refl).1
         ∙ seed_new (number value) (read clients_in) (read commands_in) ∙ ap (λ o. seed_more (number value) (numbers_of o clients_in commands_in)) (sym (untold (codes "seed") rows none)))
 
-    clients_tells : told_in (use_fault false (option_rule (codes "clients")) (value ∷ []) rows) (used (option_rule (codes "clients")) (value ∷ []) rows) ≡ clients_more (number value) (told rows)
-    clients_tells = tells_by (codes "clients") value rows whole.clients (clients_more (number value) (told rows))
+    clients_tells : told_in (use_fault false (option_rule (codes "clients")) (value ∷ []) rows) (used (option_rule (codes "clients")) (value ∷ []) rows) ≡ clients_more (number value) (told_options rows)
+    clients_tells = tells_by (codes "clients") value rows whole.clients (clients_more (number value) (told_options rows))
         (λ before is. clients_again (number before) (number value) (read seed_in) (read commands_in) ∙ ap (λ o. clients_more (number value) (numbers_of seed_in o commands_in)) (sym is))
         (λ none. same_three _ _ _ _ _ _ (told_still (codes "clients") value (codes "seed") rows refl).1 (told_now (codes "clients") value rows none refl).1 (told_still (codes "clients") value (codes "commands") rows refl).1
         ∙ clients_new (number value) (read seed_in) (read commands_in) ∙ ap (λ o. clients_more (number value) (numbers_of seed_in o commands_in)) (sym (untold (codes "clients") rows none)))
 
-    commands_tells : told_in (use_fault false (option_rule (codes "commands")) (value ∷ []) rows) (used (option_rule (codes "commands")) (value ∷ []) rows) ≡ commands_more (number value) (told rows)
-    commands_tells = tells_by (codes "commands") value rows whole.commands (commands_more (number value) (told rows))
+    commands_tells : told_in (use_fault false (option_rule (codes "commands")) (value ∷ []) rows) (used (option_rule (codes "commands")) (value ∷ []) rows) ≡ commands_more (number value) (told_options rows)
+    commands_tells = tells_by (codes "commands") value rows whole.commands (commands_more (number value) (told_options rows))
         (λ before is. commands_again (number before) (number value) (read seed_in) (read clients_in) ∙ ap (λ o. commands_more (number value) (numbers_of seed_in clients_in o)) (sym is))
         (λ none. same_three _ _ _ _ _ _ (told_still (codes "commands") value (codes "seed") rows refl).1 (told_still (codes "commands") value (codes "clients") rows refl).1 (told_now (codes "commands") value rows none refl).1
         ∙ commands_new (number value) (read seed_in) (read clients_in) ∙ ap (λ o. commands_more (number value) (numbers_of seed_in clients_in o)) (sym (untold (codes "commands") rows none)))

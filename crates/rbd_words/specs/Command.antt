@@ -23,11 +23,11 @@ abbrev pub valued : (name : Text) → Rule
 valued name = record (new_rule name) { long = Some name }
 
 -- `--name`
-abbrev pub flag : (name : Text) → Rule
-flag name = record (new_rule name) { long = Some name; action = Some SetTrue }
+abbrev pub flag_rule : (name : Text) → Rule
+flag_rule name = record (new_rule name) { long = Some name; action = Some SetTrue }
 
 abbrev pub run_command : App
-run_command = with_rule (new_app (codes "run")) (flag (codes "trace"))
+run_command = with_rule (new_app (codes "run")) (flag_rule (codes "trace"))
 
 abbrev pub gen_command : App
 gen_command = with_rule (with_rule (with_rule (new_app (codes "gen")) (valued (codes "seed"))) (valued (codes "clients"))) (valued (codes "commands"))
@@ -56,13 +56,13 @@ abbrev pub read : Option Text → Option (Option ℕ)
 read None = Some None
 read (Some value) = option_map Some (once None (number value))
 
-abbrev pub numbers : (seed clients commands : Option (Option ℕ)) → Option Options
-numbers (Some seed) (Some clients) (Some commands) = Some (record { seed = seed; clients = clients; commands = commands })
-numbers seed clients commands = None
+abbrev pub options_by_numbers : (seed clients commands : Option (Option ℕ)) → Option Options
+options_by_numbers (Some seed) (Some clients) (Some commands) = Some (record { seed = seed; clients = clients; commands = commands })
+options_by_numbers seed clients commands = None
 
 abbrev pub numbers_of : (seed clients commands : Option Text) → Option Options
-numbers_of seed clients commands = numbers (read seed) (read clients) (read commands)
+numbers_of seed clients commands = options_by_numbers (read seed) (read clients) (read commands)
 
 -- the options that were told, none where a value isn't a number
-abbrev pub told : List Row → Option Options
-told rows = numbers_of (first_of (codes "seed") rows) (first_of (codes "clients") rows) (first_of (codes "commands") rows)
+abbrev pub told_options : List Row → Option Options
+told_options rows = numbers_of (first_of (codes "seed") rows) (first_of (codes "clients") rows) (first_of (codes "commands") rows)

@@ -77,9 +77,9 @@ abbrev pub load_asked : List (List ℕ) → Option Asked
 load_asked words = option_map Generate (option_and_then load_of (with_words no_options words))
 
 -- what the words ask for, none where they are others
-abbrev pub asked_by : List (List ℕ) → Option Asked
-asked_by [] = None
-asked_by (word ∷ words) = if is (codes "run") word then run_asked words else if is (codes "gen") word then load_asked words else None
+abbrev pub asked_for_by : List (List ℕ) → Option Asked
+asked_for_by [] = None
+asked_for_by (word ∷ words) = if is (codes "run") word then run_asked words else if is (codes "gen") word then load_asked words else None
 
 -- what is asked for is in its range
 abbrev pub IsInRange : Asked → Type 0

@@ -1,7 +1,7 @@
 //! The options of `gen`.
 ghost use Rattle.std.specs.Prelude.{◌≡◌, ◌≤◌, ℕ, decimal, IfNone, IfSome, option_and_then};
 ghost use Rattle.clap.specs.Words.{first_of, found_of, rows_of};
-ghost use Rattle.rbd_words.specs.Command.{read, told};
+ghost use Rattle.rbd_words.specs.Command.{read, told_options};
 ghost use Rattle.rbd_words.specs.Load.{IsLoad};
 ghost use Rattle.rbd_words.specs.Words.{load_of as load_in};
 
@@ -19,7 +19,7 @@ pub struct Options {
 
 /// The load that the options of `gen` ask for, or `None` where they ask for none.
 pub fn load<'a>(matches: &ArgMatches<'a>) -> Option<Load>
-    ensures asked { result ≡ option_and_then load_in (told (rows_of (found_of matches.now))) }
+    ensures asked { result ≡ option_and_then load_in (told_options (rows_of (found_of matches.now))) }
     ensures range { IfSome result IsLoad }
 {
     let told = Options {

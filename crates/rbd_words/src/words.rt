@@ -5,7 +5,7 @@ ghost use Rattle.std.specs.String.{string_bytes};
 ghost use Rattle.clap.specs.Words.{found_of, one_of, rows_of};
 ghost use Rattle.rbd_script.specs.Token.{is};
 ghost use Rattle.rbd_words.specs.Command.{IsMatched};
-ghost use Rattle.rbd_words.specs.Words.{IsInRange, asked_by};
+ghost use Rattle.rbd_words.specs.Words.{IsInRange, asked_for_by};
 
 use crate::asked::{Asked, Mode};
 use crate::command::lab;
@@ -19,7 +19,7 @@ impl Asked {
     /// What the words behind the program's name ask for, or `None` where they are others. Fails
     /// where memory is refused.
     pub fn of(alloc: Global, words: &[String]) -> Result<Option<Asked>, NoMemory>
-        ensures asked { IfOk result (λ asked. asked ≡ asked_by (map (λ w. string_bytes w) words.now)) }
+        ensures asked { IfOk result (λ asked. asked ≡ asked_for_by (map (λ w. string_bytes w) words.now)) }
         ensures range { IfOk result (λ asked. IfSome asked IsInRange) }
     {
         if has_end(words) {
@@ -46,7 +46,7 @@ fn has_end(words: &[String]) -> bool
 
 /// What is asked for by the matches of these words.
 fn asked<'a>(matches: &ArgMatches<'a>) -> Option<Asked>
-    ensures asked { (words : List (List ℕ)) → IsMatched words matches.now → result ≡ asked_by words }
+    ensures asked { (words : List (List ℕ)) → IsMatched words matches.now → result ≡ asked_for_by words }
     ensures range { IfSome result IsInRange }
 {
     let (name, options) = matches.subcommand()?;

@@ -10,41 +10,41 @@ use Rattle.rbd_client.specs.Actor.{actor_at, op_by, op_wanted}
 use Rattle.rbd_client.specs.Client.{ClientView}
 use Rattle.rbd_client.specs.Sound.{IsSoundClient}
 use Rattle.rbd_client.proofs.Wanted.{can_get}
-use Rattle.rbd_held.specs.Knowing.{known_to, knows_fed, plan_of}
-use Rattle.rbd_held.specs.Truth.{IsTrueOf}
-use Rattle.rbd_held.proofs.Answered.{answers_are_true, answers_are_true_elsewhere, unless_over}
-use Rattle.rbd_held.proofs.Fed.{feeding_is_known}
-use Rattle.rbd_held.proofs.Acts.{acts_beside_others, acts_beside_own}
-use Rattle.rbd_held.proofs.Owned.{acts_by_lock, knows_by_lock}
-use Rattle.rbd_held.proofs.Permitted.{does_what_it_may, knows_truly}
-use Rattle.rbd_held.proofs.Releases.{beside_release}
-use Rattle.rbd_held.proofs.Ways.{beside_way}
+use Rattle.rbd_knowledge.specs.ClientsKnowing.{known_to, knows_fed, plan_in_slot}
+use Rattle.rbd_knowledge.specs.Truth.{IsTrueOf}
+use Rattle.rbd_knowledge.proofs.Answered.{answers_are_true, answers_are_true_elsewhere, unless_over}
+use Rattle.rbd_knowledge.proofs.Fed.{feeding_is_known}
+use Rattle.rbd_knowledge.proofs.Acts.{acts_beside_others, acts_beside_own}
+use Rattle.rbd_knowledge.proofs.HeadersOwned.{acts_by_lock, knows_by_lock}
+use Rattle.rbd_knowledge.proofs.Permitted.{does_what_it_may, knows_truly}
+use Rattle.rbd_knowledge.proofs.Releases.{beside_release}
+use Rattle.rbd_knowledge.proofs.Ways.{beside_way}
 use Rattle.rbd_kinds.specs.declared.answer.Answer.{Answer}
 use Rattle.rbd_kinds.specs.declared.id.Instance.{Instance}
 use Rattle.rbd_kinds.specs.declared.id.SiteId.{SiteId}
 use Rattle.rbd_kinds.specs.declared.machine.Fed.TheVariants as fed
 use Rattle.rbd_kinds.specs.declared.operation.Op.{Op}
 use Rattle.rbd_kinds.specs.declared.reply.Reply.{Reply}
-use Rattle.rbd_known.specs.Knowing.{AllKnow, known_behind, unless_ended}
-use Rattle.rbd_known.proofs.Little.{still_beside}
-use Rattle.rbd_known.proofs.Wanting.{wants, Wants}
+use Rattle.rbd_knowledge.specs.Knowing.{AllKnow, known_behind, unless_ended}
+use Rattle.rbd_knowledge.proofs.Little.{still_beside}
+use Rattle.rbd_knowledge.proofs.Wanting.{wants, Wants}
 use Rattle.rbd_machine.specs.Knowledge.{Knowledge, learned, nothing_known, same_site, is_drawn}
 use Rattle.rbd_machine.specs.Permits.{Permits}
 use Rattle.rbd_machine.specs.Plan.{Ask, Standing}
 use Rattle.rbd_machine.specs.Refused.{IsGiven}
 use Rattle.rbd_machine.specs.Standalone.{TellsStandalone}
-use Rattle.rbd_rely.specs.Beside.{AreBeside, MayAct}
-use Rattle.rbd_rely.specs.Locks.{KnowsByLock}
-use Rattle.rbd_rely.specs.Truth.{IsTrueAt, known_header}
-use Rattle.rbd_rely.proofs.Elsewhere.{beside_elsewhere}
-use Rattle.rbd_rely.proofs.Nothing.{nothing_is_beside}
-use Rattle.rbd_rely.proofs.Together.{beside_mutual, learned_beside}
-use Rattle.rbd_session.specs.Session.{held_in, running_at, running_in}
+use Rattle.rbd_interference.specs.Beside.{AreBeside, MayAct}
+use Rattle.rbd_interference.specs.Locks.{KnowsByLock}
+use Rattle.rbd_interference.specs.Truth.{IsTrueAt, known_header}
+use Rattle.rbd_interference.proofs.Elsewhere.{beside_elsewhere}
+use Rattle.rbd_interference.proofs.Nothing.{nothing_is_beside}
+use Rattle.rbd_interference.proofs.Together.{beside_mutual, learned_beside}
+use Rattle.rbd_slots.specs.Session.{held_in, running_at, running_in}
 use Rattle.rbd_site.specs.Records.{Records}
 use Rattle.rbd_site.specs.Step.{answer_to}
 use Rattle.rbd_world.specs.Run.{Doer, Happening, Did, Sent, flat_after, sent_of, records_after}
 use Rattle.rbd_world.specs.Past.{HadNoHeader}
-use Rattle.rbd_world.specs.Sound.{AreStrangers, Holder, InSlot, Sending, IsDone, IsLiving, IsNextOf, IsOf, IsSoundWorld, MayStillCome, known_in, RecallsBy}
+use Rattle.rbd_world.specs.Sound.{AreStrangers, Holder, InSlot, Sending, IsRightlyDone, IsLiving, IsNextOf, IsOf, IsSoundWorld, MayStillCome, known_in, RecallsBy}
 use Rattle.rbd_world.specs.Step.{DoesAtSites, Goes, operation_at}
 use Rattle.rbd_world.specs.World.{LateView, LivesView, WorldView, client_in, late_at, late_of, lives_in, records_in, sent_in, site_in}
 use Rattle.rbd_world.proofs.Unborn.{IsNew, acted_drawn, learned_drawn, never_born, new_is_past, way_drawn}
@@ -189,7 +189,7 @@ module _ {R : Type 0} (stands : R → Standing) (old new : WorldView R) (w : IsS
     does_it = Did (operation_at (site_in s old.sites) me doer s o) result
 
     abbrev pub knows_now : ℕ → Knowledge
-    knows_now = knows_fed knew slot result (plan_of stands (running_at slot c.session)) (fed.Answer a) acts
+    knows_now = knows_fed knew slot result (plan_in_slot stands (running_at slot c.session)) (fed.Answer a) acts
 
     pub standing : StandFlat (does_it ∷ w.told.run)
     standing = stands_then stands old new w me doer s o result goes_by known permits (locked s) at_sites
@@ -203,7 +203,7 @@ module _ {R : Type 0} (stands : R → Standing) (old new : WorldView R) (w : IsS
     pub alone : TellsStandalone a
     alone = tells_alone stands old new w me doer s o result goes_by known permits (locked s) at_sites
 
-    pub done_so : RecallsBy doer s o goes_by w.told.run → IsOf doer me s o w.told.run → IsNextOf doer me s o w.told.run → IsDone (operation_at (site_in s old.sites) me doer s o) w.told.run
+    pub done_so : RecallsBy doer s o goes_by w.told.run → IsOf doer me s o w.told.run → IsNextOf doer me s o w.told.run → IsRightlyDone (operation_at (site_in s old.sites) me doer s o) w.told.run
     done_so recalls whose next = is_done stands old new w me doer s o result goes_by known permits (locked s) at_sites (λ image drawn. w.new (InSlot session slot) s image (acted_drawn (knew slot) acts s image drawn)) recalls whose next
 
     pub all_know : AllKnow stands knows_now d.session
@@ -288,26 +288,26 @@ module _ {R : Type 0} (stands : R → Standing) (old new : WorldView R) (w : IsS
                 subst (AreBeside t (records_in t new.sites) me (w.who g) (learned (knew slot) s o a)) (sym none)
                 (beside_mutual t (records_in t new.sites) (w.who g) me nothing_known (learned (knew slot) s o a) (nothing_is_beside t (records_in t new.sites) (w.who g) me (learned (knew slot) s o a)))
 
-        goes_there : (t : SiteId) → Beside t (known_behind (knew slot) (plan_of stands (running_at slot c.session)) (fed.Answer a))
+        goes_there : (t : SiteId) → Beside t (known_behind (knew slot) (plan_in_slot stands (running_at slot c.session)) (fed.Answer a))
         goes_there t =
             let asks = wants stands slot c.session.lines s o (held_in slot c.session.slots) (subst (λ m. op_by stands slot c.session m ≡ Some (s, o)) (sym requests) wanted) in
-            let plan_is : plan_of stands (running_at slot c.session) ≡ Ask s asks.why o asks.next = ap (λ h. plan_of stands (running_in h)) asks.is ∙ asks.plan in
+            let plan_is : plan_in_slot stands (running_at slot c.session) ≡ Ask s asks.why o asks.next = ap (λ h. plan_in_slot stands (running_in h)) asks.is ∙ asks.plan in
             subst (λ p. Beside t (known_behind (knew slot) p (fed.Answer a))) (sym plan_is)
             (still_beside t (records_in t new.sites) me (w.who g) (w.knows g) (asks.next a) (learned (knew slot) s o a) (learned_now t))
 
       pub beside_now : (t : SiteId) → Beside t (knows_now x)
       beside_now t = by acts refl (same_or_other x slot)
         where
-          by : (m : Actor) → m ≡ acts → (x ≡ slot) ⊎ (x ≢ slot) → Beside t (knows_fed knew slot result (plan_of stands (running_at slot c.session)) (fed.Answer a) m x)
+          by : (m : Actor) → m ≡ acts → (x ≡ slot) ⊎ (x ≢ slot) → Beside t (knows_fed knew slot result (plan_in_slot stands (running_at slot c.session)) (fed.Answer a) m x)
           by actor.Nobody is either = still t
           by (actor.Release r) is either = still t
           by (actor.Way y) is (inr apart) = subst (λ b. Beside t (cond b (unless_ended result (knew x)) (knew x))) (sym (ne_eqb x slot apart)) (still t)
           by (actor.Way y) is (inl same) = subst (λ b. Beside t (cond b (unless_ended result (knew x)) (knew x))) (sym (eq-eqb x slot same)) (over t (knew x) (still t))
           by actor.Request is (inr apart) =
-              subst (λ b. Beside t (cond b (unless_ended result (known_behind (knew slot) (plan_of stands (running_at slot c.session)) (fed.Answer a))) (knew x))) (sym (ne_eqb x slot apart)) (still t)
+              subst (λ b. Beside t (cond b (unless_ended result (known_behind (knew slot) (plan_in_slot stands (running_at slot c.session)) (fed.Answer a))) (knew x))) (sym (ne_eqb x slot apart)) (still t)
           by actor.Request is (inl same) =
-              subst (λ b. Beside t (cond b (unless_ended result (known_behind (knew slot) (plan_of stands (running_at slot c.session)) (fed.Answer a))) (knew x))) (sym (eq-eqb x slot same))
-              (over t (known_behind (knew slot) (plan_of stands (running_at slot c.session)) (fed.Answer a)) (goes_there is same t))
+              subst (λ b. Beside t (cond b (unless_ended result (known_behind (knew slot) (plan_in_slot stands (running_at slot c.session)) (fed.Answer a))) (knew x))) (sym (eq-eqb x slot same))
+              (over t (known_behind (knew slot) (plan_in_slot stands (running_at slot c.session)) (fed.Answer a)) (goes_there is same t))
 
     -- ---- what the requests know then
 
@@ -316,9 +316,9 @@ module _ {R : Type 0} (stands : R → Standing) (old new : WorldView R) (w : IsS
     known_by x actor.Nobody b = knew x
     known_by x (actor.Release r) b = knew x
     known_by x (actor.Way y) b = cond b (unless_ended result (knew x)) (knew x)
-    known_by x actor.Request b = cond b (unless_ended result (known_behind (knew slot) (plan_of stands (running_at slot c.session)) (fed.Answer a))) (knew x)
+    known_by x actor.Request b = cond b (unless_ended result (known_behind (knew slot) (plan_in_slot stands (running_at slot c.session)) (fed.Answer a))) (knew x)
 
-    known_so : (x : ℕ) (m : Actor) → knows_fed knew slot result (plan_of stands (running_at slot c.session)) (fed.Answer a) m x ≡ known_by x m (x == slot)
+    known_so : (x : ℕ) (m : Actor) → knows_fed knew slot result (plan_in_slot stands (running_at slot c.session)) (fed.Answer a) m x ≡ known_by x m (x == slot)
     known_so x actor.Nobody = refl
     known_so x (actor.Release r) = refl
     known_so x (actor.Way y) = refl
@@ -337,14 +337,14 @@ module _ {R : Type 0} (stands : R → Standing) (old new : WorldView R) (w : IsS
     -- ---- ids that they know as drawn
 
     -- what a request learns by the operation
-    learns_new : actor.Request ≡ acts → (t : SiteId) (image : ℕ) → is_drawn (known_behind (knew slot) (plan_of stands (running_at slot c.session)) (fed.Answer a)).drawn t image ≡ true → HadNoHeader t image w.told.run
+    learns_new : actor.Request ≡ acts → (t : SiteId) (image : ℕ) → is_drawn (known_behind (knew slot) (plan_in_slot stands (running_at slot c.session)) (fed.Answer a)).drawn t image ≡ true → HadNoHeader t image w.told.run
     learns_new requests t image drawn = by (learned_drawn (knew slot) s t image o a (way_drawn (asks.next a) (learned (knew slot) s o a) t image (subst (λ p. is_drawn (known_behind (knew slot) p (fed.Answer a)).drawn t image ≡ true) plan_is drawn)))
       where
         asks : Wants stands slot c.session.lines s o (held_in slot c.session.slots)
         asks = wants stands slot c.session.lines s o (held_in slot c.session.slots) (subst (λ m. op_by stands slot c.session m ≡ Some (s, o)) (sym requests) wanted)
 
-        plan_is : plan_of stands (running_at slot c.session) ≡ Ask s asks.why o asks.next
-        plan_is = ap (λ h. plan_of stands (running_in h)) asks.is ∙ asks.plan
+        plan_is : plan_in_slot stands (running_at slot c.session) ≡ Ask s asks.why o asks.next
+        plan_is = ap (λ h. plan_in_slot stands (running_in h)) asks.is ∙ asks.plan
 
         by : (is_drawn (knew slot).drawn t image ≡ true) ⊎ IsNew s o a t image → HadNoHeader t image w.told.run
         by (inl was) = w.new (InSlot session slot) t image was
@@ -368,5 +368,5 @@ module _ {R : Type 0} (stands : R → Standing) (old new : WorldView R) (w : IsS
         by (actor.Release r) is b = still
         by (actor.Way y) is true = over (knew x) still result
         by (actor.Way y) is false = still
-        by actor.Request is true = over (known_behind (knew slot) (plan_of stands (running_at slot c.session)) (fed.Answer a)) (learns_new is t image) result
+        by actor.Request is true = over (known_behind (knew slot) (plan_in_slot stands (running_at slot c.session)) (fed.Answer a)) (learns_new is t image) result
         by actor.Request is false = still

@@ -3,10 +3,10 @@ use Rattle.std.proofs.Common.{◌≡◌, ℕ, ◌==◌, ◌||◌, cond, not, Boo
 use Rattle.std.specs.Option.{option_map}
 use Rattle.std.proofs.lemmas.Bool.{true≢false, eq-eqb, eqb-true}
 use Rattle.std.proofs.lemmas.Option.{none-some, same_Some}
-use Rattle.rbd_line.specs.Line.{Member, member_of, is_member, ahead, holds, is_past, changed, without, EachPair}
-use Rattle.rbd_line.specs.Steady.{IsSteady}
-use Rattle.rbd_line.proofs.Keeping.{found_has}
-use Rattle.rbd_line.proofs.Passing.{own_changed, gone}
+use Rattle.rbd_queue.specs.Line.{Member, member_of, is_member, ahead, holds_ticket, is_past, changed_member, without, EachPair}
+use Rattle.rbd_queue.specs.Steady.{IsSteady}
+use Rattle.rbd_queue.proofs.Keeping.{found_has}
+use Rattle.rbd_queue.proofs.Passing.{own_changed, gone}
 use Rattle.rbd_world.specs.InLine.{IsPastWithout}
 
 -- ---- a member that changes
@@ -18,21 +18,21 @@ changed_slot z f steady m = by (m.slot == z)
     by true = steady.slot m
     by false = refl
 
-pub member_changed : (z : ℕ) (f : Member → Member) → IsSteady f → (x : ℕ) (ms : List Member) → is_member x (changed z f ms) ≡ is_member x ms
+pub member_changed : (z : ℕ) (f : Member → Member) → IsSteady f → (x : ℕ) (ms : List Member) → is_member x (changed_member z f ms) ≡ is_member x ms
 member_changed z f steady x [] = refl
 member_changed z f steady x (m ∷ ms) =
-    ap (λ n. (n == x) || is_member x (changed z f ms)) (changed_slot z f steady m) ∙ ap (λ b. (m.slot == x) || b) (member_changed z f steady x ms)
+    ap (λ n. (n == x) || is_member x (changed_member z f ms)) (changed_slot z f steady m) ∙ ap (λ b. (m.slot == x) || b) (member_changed z f steady x ms)
 
-pub ahead_changed : (z : ℕ) (f : Member → Member) → IsSteady f → (x y : ℕ) (ms : List Member) → is_member x (ahead y (changed z f ms)) ≡ is_member x (ahead y ms)
+pub ahead_changed : (z : ℕ) (f : Member → Member) → IsSteady f → (x y : ℕ) (ms : List Member) → is_member x (ahead y (changed_member z f ms)) ≡ is_member x (ahead y ms)
 ahead_changed z f steady x y [] = refl
 ahead_changed z f steady x y (m ∷ ms) =
-    ap (λ n. is_member x (cond (n == y) [] (cond (m.slot == z) (f m) m ∷ ahead y (changed z f ms)))) (changed_slot z f steady m) ∙ by (m.slot == y) (ahead_changed z f steady x y ms)
+    ap (λ n. is_member x (cond (n == y) [] (cond (m.slot == z) (f m) m ∷ ahead y (changed_member z f ms)))) (changed_slot z f steady m) ∙ by (m.slot == y) (ahead_changed z f steady x y ms)
   where
-    by : (b : Bool) → is_member x (ahead y (changed z f ms)) ≡ is_member x (ahead y ms)
-        → is_member x (cond b [] (cond (m.slot == z) (f m) m ∷ ahead y (changed z f ms))) ≡ is_member x (cond b [] (m ∷ ahead y ms))
+    by : (b : Bool) → is_member x (ahead y (changed_member z f ms)) ≡ is_member x (ahead y ms)
+        → is_member x (cond b [] (cond (m.slot == z) (f m) m ∷ ahead y (changed_member z f ms))) ≡ is_member x (cond b [] (m ∷ ahead y ms))
     by true rest = refl
     by false rest =
-        ap (λ n. (n == x) || is_member x (ahead y (changed z f ms))) (changed_slot z f steady m) ∙ ap (λ b. (m.slot == x) || b) rest
+        ap (λ n. (n == x) || is_member x (ahead y (changed_member z f ms))) (changed_slot z f steady m) ∙ ap (λ b. (m.slot == x) || b) rest
 
 -- ---- a member that leaves
 
@@ -106,16 +106,16 @@ pair_ahead P x y one other (m ∷ ms) pairs here there is = by (m.slot == y) (m.
 
 -- a change after which it stays so
 abbrev pub TakesNone : (object : ℕ) → (Member → Member) → Type 0
-TakesNone object f = (m : Member) → is_past m.stage ≡ true → holds object m ≡ false → (is_past (f m).stage ≡ true) × (holds object (f m) ≡ false)
+TakesNone object f = (m : Member) → is_past m.stage ≡ true → holds_ticket object m ≡ false → (is_past (f m).stage ≡ true) × (holds_ticket object (f m) ≡ false)
 
-pub without_changed : (slot object : ℕ) (f : Member → Member) → IsSteady f → TakesNone object f → (ms : List Member) → IsPastWithout slot object ms → IsPastWithout slot object (changed slot f ms)
+pub without_changed : (slot object : ℕ) (f : Member → Member) → IsSteady f → TakesNone object f → (ms : List Member) → IsPastWithout slot object ms → IsPastWithout slot object (changed_member slot f ms)
 without_changed slot object f steady takes ms is m found = by (member_of slot ms) refl (sym (own_changed ms slot f steady) ∙ found)
   where
-    by : (o : Option Member) → member_of slot ms ≡ o → option_map f o ≡ Some m → (is_past m.stage ≡ true) × (holds object m ≡ false)
+    by : (o : Option Member) → member_of slot ms ≡ o → option_map f o ≡ Some m → (is_past m.stage ≡ true) × (holds_ticket object m ≡ false)
     by None here none = absurd (none-some m none)
     by (Some n) here some =
         let was = is n here in
-        subst (λ (k : Member). (is_past k.stage ≡ true) × (holds object k ≡ false)) (same_Some (f n) m some) (takes n was.0 was.1)
+        subst (λ (k : Member). (is_past k.stage ≡ true) × (holds_ticket object k ≡ false)) (same_Some (f n) m some) (takes n was.0 was.1)
 
 pub without_gone : (slot object : ℕ) (ms : List Member) → IsPastWithout slot object (without slot ms)
 without_gone slot object ms m found = absurd (none-some m (sym (gone ms slot) ∙ found))

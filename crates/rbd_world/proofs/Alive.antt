@@ -5,10 +5,10 @@ use Rattle.std.proofs.lemmas.Option.{none-some, same_Some}
 use Rattle.rbd_kinds.specs.declared.id.Instance.{Instance}
 use Rattle.rbd_kinds.specs.declared.id.SiteId.{SiteId}
 use Rattle.rbd_kinds.specs.declared.reply.Reply.{Reply}
-use Rattle.rbd_session.specs.Session.{held_in}
+use Rattle.rbd_slots.specs.Session.{held_in}
 use Rattle.rbd_world.specs.Late.{comes_among, comes_in, is_late, is_stopped_among, stops_in}
 use Rattle.rbd_world.specs.Run.{Asked, Doer, Itself, OnWay, House, AfterStop, Happening, Nothing, Waited, Began, Did, Refused, Trimmed, Expired, Heard, Stopped, Restarted, Life, Operation, Sent, asked_by, comes_of, ends, life_after, or_asked, sent_after, sent_behind, sent_of}
-use Rattle.rbd_world.specs.Sound.{EndsWith, GoesOnBehind, IsDue, IsOf, IsOpen, IsRight, IsRunning, has_ended}
+use Rattle.rbd_world.specs.Sound.{EndsItsLine, LineGoesOn, IsDue, IsOf, IsOpen, IsRight, IsRunning, has_ended}
 
 -- ---- a line that is open is of a life that runs
 
@@ -73,8 +73,8 @@ module _ (homes : ℕ → SiteId) (line : ℕ) where
 
 -- its line goes on or ends, where it is for one
 data GoesOrEnds (homes : ℕ → SiteId) (o : Operation) (run : List Happening) (by : Doer) : Type 0 where
-  On : GoesOnBehind homes o.site by run → GoesOrEnds homes o run by
-  To : (told : Reply) → EndsWith homes o told run by → GoesOrEnds homes o run by
+  On : LineGoesOn homes o.site by run → GoesOrEnds homes o run by
+  To : (told : Reply) → EndsItsLine homes o told run by → GoesOrEnds homes o run by
 
 -- who has an operation done runs, unless it had sent it before it was stopped
 pub only_lives_that_run_act : (homes : ℕ → SiteId) (o : Operation) (reply : Option Reply) (run : List Happening) → IsRight homes (Did o reply ∷ run) → is_late o.by ≡ false → IsRunning o.instance run

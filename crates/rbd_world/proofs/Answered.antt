@@ -3,7 +3,7 @@ use Rattle.std.proofs.Common.{◌≡◌, ℕ, cond, Bool, true, false, List, [],
 use Rattle.std.proofs.lemmas.Bool.{eq-eqb}
 use Rattle.std.proofs.lemmas.Option.{none-some, same_Some}
 use Rattle.rbd_kinds.specs.declared.layout.Extent.{Extent}
-use Rattle.rbd_course.specs.Course.{is_own_at}
+use Rattle.rbd_machine.specs.Course.{looks_under_lock_at}
 use Rattle.rbd_flat.specs.declared.effect.Effect.{Effect}
 use Rattle.rbd_kinds.specs.declared.answer.Answer.{Answer}
 use Rattle.rbd_kinds.specs.declared.answer.Answer.TheVariants as answer
@@ -14,10 +14,10 @@ use Rattle.rbd_kinds.specs.declared.machine.Fed.TheVariants as fed
 use Rattle.rbd_kinds.specs.declared.operation.Op.{Op}
 use Rattle.rbd_kinds.specs.declared.operation.Op.TheVariants as op
 use Rattle.rbd_kinds.specs.declared.reply.Reply.{Reply}
-use Rattle.rbd_known.specs.Calm.{IsCalm, IsCalmRequest}
-use Rattle.rbd_known.proofs.Unowned.{calm_stays}
+use Rattle.rbd_knowledge.specs.Calm.{IsCalm, IsCalmRequest}
+use Rattle.rbd_knowledge.proofs.Unowned.{calm_stays}
 use Rattle.rbd_machine.specs.Answers.{CanBeFed}
-use Rattle.rbd_known.specs.Knowing.{known_behind}
+use Rattle.rbd_knowledge.specs.Knowing.{known_behind}
 use Rattle.rbd_machine.specs.Knowledge.{Knowledge, nothing_known}
 use Rattle.rbd_machine.specs.Label.{Label}
 use Rattle.rbd_machine.specs.Path.{Answered, IsWalk, at_operation}
@@ -25,18 +25,18 @@ use Rattle.rbd_machine.specs.Plan.{Plan, Ask, Await, Note, Return, Goto, Standin
 use Rattle.rbd_machine.specs.Refused.{AreGiven, IsGiven}
 use Rattle.rbd_machine.specs.declared.reason.Reason.{Reason}
 use Rattle.rbd_meaning.specs.Meant.{IsMeantBy}
-use Rattle.rbd_requests.specs.CommandsMeant.{command_is_meant}
-use Rattle.rbd_session.specs.declared.running.Occupant.{Occupant}
-use Rattle.rbd_session.specs.declared.running.Occupant.TheVariants as occupant
-use Rattle.rbd_session.specs.declared.running.Running.{Running}
-use Rattle.rbd_session.specs.Advance.{ComesTo, fed_by, track_of}
-use Rattle.rbd_session.specs.Lines.{LinesView}
-use Rattle.rbd_session.specs.Session.{ComesToIn, script_line}
-use Rattle.rbd_session.specs.Track.{Track, answered_by, course_of, looked_by, run as run_on}
+use Rattle.rbd_catalog.specs.CommandsMeant.{command_is_meant}
+use Rattle.rbd_slots.specs.declared.running.Occupant.{Occupant}
+use Rattle.rbd_slots.specs.declared.running.Occupant.TheVariants as occupant
+use Rattle.rbd_slots.specs.declared.running.Running.{Running}
+use Rattle.rbd_slots.specs.Advance.{AdvancesTo, fed_by, track_of}
+use Rattle.rbd_slots.specs.Lines.{LinesView}
+use Rattle.rbd_slots.specs.Session.{ComesToIn, script_line}
+use Rattle.rbd_slots.specs.Track.{Track, answered_by, course_of, track_looked, run as run_on}
 use Rattle.rbd_world.specs.Run.{Itself, Happening, Did, Operation, asked_by, steps_of}
 use Rattle.rbd_machine.specs.Standalone.{TellAllStandalone, TellsStandalone}
 use Rattle.rbd_world.specs.Seats.{seat_at}
-use Rattle.rbd_world.specs.Sound.{IsDone, IsDue, IsHeldRightly, IsLedTo, IsReplyMeant, IsUnderWay, has_ended, HasLearned}
+use Rattle.rbd_world.specs.Sound.{IsRightlyDone, IsDue, IsHeldRightly, IsLedTo, IsReplyMeant, IsUnderWay, has_ended, HasLearned}
 use Rattle.rbd_world.specs.Step.{reply_at}
 use Rattle.rbd_world.proofs.Walks.{IsLed, given_more, standalone_more, led_on, led_known}
 
@@ -51,9 +51,9 @@ calm_place slot (Goto label) t calm = refl
 
 -- an answer leaves the place
 pub answered_place : (slot : ℕ) (e : Option Extent) (t : Track) (s : SiteId) (o : Op) (a : Answer) → (answered_by slot e t s o a).place ≡ t.place
-answered_place slot e t s (op.Header image header.Get) (answer.Header h) = by (is_own_at s image (course_of slot t).place)
+answered_place slot e t s (op.Header image header.Get) (answer.Header h) = by (looks_under_lock_at s image (course_of slot t).place)
   where
-    by : (b : Bool) → (cond b (looked_by slot e h t) t).place ≡ t.place
+    by : (b : Bool) → (cond b (track_looked slot e h t) t).place ≡ t.place
     by true = refl
     by false = refl
 answered_place slot e t s o a = refl
@@ -69,7 +69,7 @@ module _ {R : Type 0} (stands : R → Standing) where
     pub place : q.place ≡ t.place
 
   pub went_on : (slot : ℕ) (labels : Label → Plan) (plan : Plan) (t : Track) (result : Option Reply) (r q : Running R) (lines : LinesView) → result ≡ None
-      → ComesTo stands slot labels plan t result r q lines → WentOn labels plan t r q
+      → AdvancesTo stands slot labels plan t result r q lines → WentOn labels plan t r q
   went_on slot labels (Return reply) t result r q lines none comes = absurd (none-some reply (sym none ∙ comes.reply))
   went_on slot labels (Ask s why o next) t result r q lines none comes = record { line = comes.line; stand = comes.request; place = ap (λ (x : Track). x.place) comes.track }
   went_on slot labels (Await w next) t result r q lines none comes = record { line = comes.line; stand = comes.request; place = ap (λ (x : Track). x.place) comes.track }
@@ -121,14 +121,14 @@ module _ {R : Type 0} (stands : R → Standing) where
               (command_is_meant (seat_at homes session) way.begun.asked.command way.start led.feds (steps_of r.line run ++ step ∷ []) reply way.plan given standalone walk));
         }
 
-    due_at : IsDone done run → (p : Plan) → at_operation (stands r.request).labels (next a) ≡ p → IsDue homes (Did done (reply_at p)) run
+    due_at : IsRightlyDone done run → (p : Plan) → at_operation (stands r.request).labels (next a) ≡ p → IsDue homes (Did done (reply_at p)) run
     due_at is_done (Return reply) is = (is_done, meant reply is)
     due_at is_done (Ask there by wanted more) is = (is_done, way.begun)
     due_at is_done (Await wait more) is = (is_done, way.begun)
     due_at is_done (Note there image event more) is = (is_done, way.begun)
     due_at is_done (Goto label) is = (is_done, way.begun)
 
-    pub answer_due : IsDone done run → IsDue homes (Did done (reply_at (at_operation (stands r.request).labels (next a)))) run
+    pub answer_due : IsRightlyDone done run → IsDue homes (Did done (reply_at (at_operation (stands r.request).labels (next a)))) run
     answer_due is_done = due_at is_done (at_operation (stands r.request).labels (next a)) refl
 
     -- ---- it goes on

@@ -3,8 +3,8 @@
 use Rattle.std.specs.Prelude.{IsFalse, IsSome}
 use Rattle.std.proofs.Common.{◌≡◌, ◌≢◌, ℕ, cond, false, [], ◌∷◌, length, ◌+◌, Option, refl, sym, ap, ◌∙◌, subst, true}
 use Rattle.rbd_client.specs.Client.{ClientView}
-use Rattle.rbd_held.specs.Truth.{IsTrueOf}
-use Rattle.rbd_held.proofs.Others.{others_leave_it_true}
+use Rattle.rbd_knowledge.specs.Truth.{IsTrueOf}
+use Rattle.rbd_knowledge.proofs.Others.{others_leave_it_true}
 use Rattle.rbd_kinds.specs.declared.answer.Answer.{Answer}
 use Rattle.rbd_kinds.specs.declared.id.Instance.{Instance}
 use Rattle.rbd_kinds.specs.declared.id.SiteId.{SiteId}
@@ -17,17 +17,17 @@ use Rattle.rbd_machine.specs.Permits.{Permits}
 use Rattle.rbd_machine.specs.Plan.{Standing}
 use Rattle.rbd_machine.specs.Refused.{IsGiven}
 use Rattle.rbd_machine.specs.Standalone.{TellsStandalone}
-use Rattle.rbd_rely.specs.Beside.{AreBeside, MayAct}
-use Rattle.rbd_rely.specs.Locks.{KnowsByLock, gives_up}
-use Rattle.rbd_rely.specs.Truth.{IsTrueAt, changed_by, known_header}
-use Rattle.rbd_rely.proofs.Fenced.{was_free}
-use Rattle.rbd_rely.proofs.Done.{gives_it}
-use Rattle.rbd_rely.proofs.Effects.{has_its_effect}
-use Rattle.rbd_rely.proofs.Kept.{others_keep}
-use Rattle.rbd_rely.proofs.Locks.{lock_lasts}
-use Rattle.rbd_rely.proofs.Maps.{mapped_stays}
-use Rattle.rbd_rely.proofs.Standalone.{standalone_stays, told_standalone}
-use Rattle.rbd_rely.proofs.Together.{beside_stays}
+use Rattle.rbd_interference.specs.Beside.{AreBeside, MayAct}
+use Rattle.rbd_interference.specs.Locks.{KnowsByLock, gives_up}
+use Rattle.rbd_interference.specs.Truth.{IsTrueAt, changed_by, known_header}
+use Rattle.rbd_interference.proofs.Fenced.{was_free}
+use Rattle.rbd_interference.proofs.Done.{gives_it}
+use Rattle.rbd_interference.proofs.Effects.{has_its_effect}
+use Rattle.rbd_interference.proofs.Kept.{others_keep}
+use Rattle.rbd_interference.proofs.Locks.{lock_lasts}
+use Rattle.rbd_interference.proofs.Maps.{mapped_stays}
+use Rattle.rbd_interference.proofs.Standalone.{standalone_stays, told_standalone}
+use Rattle.rbd_interference.proofs.Together.{beside_stays}
 use Rattle.rbd_site.specs.Records.{Records}
 use Rattle.rbd_site.specs.Step.{after, answer_to, is_fenced}
 use Rattle.rbd_site.specs.declared.done.DoneOp.TheVariants as done
@@ -36,7 +36,7 @@ use Rattle.rbd_stands.specs.Owned.{IsOwnedStep}
 use Rattle.rbd_stands.specs.Site.{StandsFor}
 use Rattle.rbd_world.specs.Run.{Doer, Happening, Did, Operation, Sent, flat_after, records_after}
 use Rattle.rbd_world.specs.Past.{HadNoHeader}
-use Rattle.rbd_world.specs.Sound.{IsDone, IsNextOf, IsOf, IsSoundWorld, MayStillCome, RecallsBy}
+use Rattle.rbd_world.specs.Sound.{IsRightlyDone, IsNextOf, IsOf, IsSoundWorld, MayStillCome, RecallsBy}
 use Rattle.rbd_world.specs.Step.{DoesAtSites, operation_at}
 use Rattle.rbd_world.specs.World.{WorldView, records_in, site_in}
 use Rattle.rbd_world.proofs.Carried.{HasWholeImages, StandFlat, whole_in}
@@ -111,7 +111,7 @@ module _ {R : Type 0} (stands : R → Standing) (old new : WorldView R) (w : IsS
   tells_alone = told_standalone (records_in s old.sites) who (w.standalone s) o can_give
 
   -- it is the one that its site does there
-  pub is_done : ((image : ℕ) → is_drawn k.drawn s image ≡ true → HadNoHeader s image w.told.run) → RecallsBy by s o k w.told.run → IsOf by who s o w.told.run → IsNextOf by who s o w.told.run → IsDone operation w.told.run
+  pub is_done : ((image : ℕ) → is_drawn k.drawn s image ≡ true → HadNoHeader s image w.told.run) → RecallsBy by s o k w.told.run → IsOf by who s o w.told.run → IsNextOf by who s o w.told.run → IsRightlyDone operation w.told.run
   is_done new recalls whose next = record {
     whose = whose;
     next = next;

@@ -3,22 +3,22 @@ use Rattle.std.proofs.Common.{◌≡◌, ℕ, true, List, [], length, is_some, O
 use Rattle.std.proofs.lemmas.Bool.{true≢false}
 use Rattle.std.proofs.lemmas.Option.{none-some, same_Some}
 use Rattle.rbd_client.specs.declared.slot_state.SlotState.{SlotState}
-use Rattle.rbd_client.specs.Client.{ClientView, state_in}
-use Rattle.rbd_exact.specs.Exact.{IsExactBut, IsOwed}
-use Rattle.rbd_exact.proofs.ExactlyKept.{none_exact}
-use Rattle.rbd_held.specs.Truth.{IsTrueOf}
-use Rattle.rbd_held.proofs.Calls.{new_client_is_true}
+use Rattle.rbd_client.specs.Client.{ClientView, slot_state}
+use Rattle.rbd_interference.specs.Exact.{IsExactBut, IsOwed}
+use Rattle.rbd_interference.proofs.ExactlyKept.{none_exact}
+use Rattle.rbd_knowledge.specs.Truth.{IsTrueOf}
+use Rattle.rbd_knowledge.proofs.Calls.{new_client_is_true}
 use Rattle.rbd_kinds.specs.declared.id.Instance.{Instance}
 use Rattle.rbd_kinds.specs.declared.id.SiteId.{SiteId}
 use Rattle.rbd_kinds.specs.declared.id.SiteId.TheVariants as site
-use Rattle.rbd_known.specs.Knowing.{KnowsIn}
+use Rattle.rbd_knowledge.specs.Knowing.{KnowsIn}
 use Rattle.rbd_machine.specs.Knowledge.{nothing_known}
-use Rattle.rbd_locks.specs.declared.lock_state.LockState.{LockState}
+use Rattle.rbd_lock.specs.declared.lock_state.LockState.{LockState}
 use Rattle.rbd_machine.specs.Plan.{Standing}
-use Rattle.rbd_rely.specs.Truth.{AreMapped, AreStandalone}
-use Rattle.rbd_rely.proofs.Maps.{none_mapped}
-use Rattle.rbd_rely.proofs.Nothing.{none_standalone, nothing_is_beside}
-use Rattle.rbd_session.specs.Session.{running_at, running_in, script_line}
+use Rattle.rbd_interference.specs.Truth.{AreMapped, AreStandalone}
+use Rattle.rbd_interference.proofs.Maps.{none_mapped}
+use Rattle.rbd_interference.proofs.Nothing.{none_standalone, nothing_is_beside}
+use Rattle.rbd_slots.specs.Session.{running_at, running_in, script_line}
 use Rattle.rbd_site.specs.InForm.{AreInForm}
 use Rattle.rbd_site.specs.Log.{after_all}
 use Rattle.rbd_site.specs.Records.{Records, no_records}
@@ -32,7 +32,7 @@ use Rattle.rbd_world.specs.Seats.{seat_of_home}
 use Rattle.rbd_world.specs.Sound.{HasLearnedIf, AreLivesOf, Holder, InSlot, Sending, IsFirst, IsHeldRightly, IsLiving, IsNewWorld, IsRunning, IsSoundWorld, KeepsToItsWay, first_life, held_of, line_at}
 use Rattle.rbd_world.specs.Step.{IsFresh}
 use Rattle.rbd_world.specs.Watched.{HasWatchedOn}
-use Rattle.rbd_world.specs.World.{LivesView, WorldView, client_in, late_at, late_of, lives_in, sent_in, session_of}
+use Rattle.rbd_world.specs.World.{LivesView, WorldView, client_in, late_at, late_of, lives_in, sent_in, session_of_client}
 use Rattle.rbd_world.proofs.Changed.{lives_there}
 use Rattle.rbd_world.proofs.OrderedWorld.{none_in_order}
 
@@ -48,7 +48,7 @@ module _ {R : Type 0} (stands : R → Standing) where
       sound = fresh.sound;
       know = λ slot. subst (λ o. KnowsIn stands slot (running_in o) c.session.lines nothing_known) (sym (fresh.slots slot)) refl;
       held = λ slot. subst (IsHeldRightly stands (seat_of_home session there) c.session.instance run) (sym (fresh.slots slot)) tt;
-      ways = λ slot. subst (λ o. KeepsToItsWay stands run (state_in slot c.slots).way (running_in o)) (sym (fresh.slots slot)) tt;
+      ways = λ slot. subst (λ o. KeepsToItsWay stands run (slot_state slot c.slots).way (running_in o)) (sym (fresh.slots slot)) tt;
       learned = λ slot. subst (λ o. HasLearnedIf stands run (running_in o) nothing_known) (sym (fresh.slots slot)) tt;
       releases = fresh.release ∙ sym none ∙ ap (λ i. release_of i run) (sym fresh.instance);
       watches = record {
@@ -94,7 +94,7 @@ module _ {R : Type 0} (stands : R → Standing) where
     no_line : (session slot : ℕ) → line_at session slot w.lives ≡ None
     no_line session slot = by (client_in session w.lives) refl
       where
-        by : (o : Option (ClientView R)) → client_in session w.lives ≡ o → script_line (held_of slot (session_of o)) ≡ None
+        by : (o : Option (ClientView R)) → client_in session w.lives ≡ o → script_line (held_of slot (session_of_client o)) ≡ None
         by None is = refl
         by (Some c) is = ap script_line ((has_first session c is).fresh.slots slot)
 

@@ -9,7 +9,7 @@ use Rattle.rbd_site.specs.Log.{SiteLog, records_of}
 use Rattle.rbd_site.specs.Records.{Records}
 use Rattle.rbd_world.specs.declared.sites.Sites.{Sites}
 use Rattle.rbd_world.specs.Run.{Happening, Nothing, lines_at, records_behind}
-use Rattle.rbd_world.specs.Step.{DoesAt, DoesAtSites, mail_then, with_lines}
+use Rattle.rbd_world.specs.Step.{DoesAt, DoesAtSites, mail_then, with_log_lines}
 use Rattle.rbd_world.specs.World.{site_in}
 
 -- a site is this one or the other
@@ -19,7 +19,7 @@ this_or_other site.A site.B = inr refl
 this_or_other site.B site.A = inr refl
 this_or_other site.B site.B = inl refl
 
-no_lines : (s : SiteLog) → with_lines [] s ≡ s
+no_lines : (s : SiteLog) → with_log_lines [] s ≡ s
 no_lines s = ap (λ log. record s { log = log }) (append-nil s.log)
 
 -- it leaves a site as it was
@@ -29,7 +29,7 @@ pub record IsNothingAt (q : SiteId) (h : Happening) : Type 0 where
 
 pub left_at : (q : SiteId) (h : Happening) (old new : SiteLog) → IsNothingAt q h → new ≡ old → DoesAt q h old new
 left_at q h old new none same = record {
-  site = same ∙ sym (ap (λ lines. with_lines lines old) none.lines ∙ no_lines old);
+  site = same ∙ sym (ap (λ lines. with_log_lines lines old) none.lines ∙ no_lines old);
   records = ap records_of same ∙ sym (none.records (records_of old));
   form = λ form. subst (λ (s : SiteLog). AreInForm (records_of s) (length s.log)) (sym same) form;
 }

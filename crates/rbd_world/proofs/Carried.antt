@@ -7,7 +7,7 @@ use Rattle.rbd_client.specs.declared.actor.Actor.TheVariants as actor
 use Rattle.rbd_client.specs.Actor.{actor_at}
 use Rattle.rbd_client.specs.Client.{ClientView}
 use Rattle.rbd_commands.specs.declared.command.Command.{Command}
-use Rattle.rbd_held.specs.Truth.{IsTrueOf}
+use Rattle.rbd_knowledge.specs.Truth.{IsTrueOf}
 use Rattle.rbd_kinds.specs.declared.id.Instance.{Instance}
 use Rattle.rbd_kinds.specs.declared.id.SiteId.{SiteId}
 use Rattle.rbd_kinds.specs.declared.notice.Notice.{Notice}
@@ -15,29 +15,29 @@ use Rattle.rbd_kinds.specs.Instances.{same_instance}
 use Rattle.rbd_machine.specs.Knowledge.{Knowledge, is_drawn, nothing_known}
 use Rattle.rbd_machine.specs.Label.{Label}
 use Rattle.rbd_machine.specs.Plan.{Plan, Ask, Await, Note, Return, Goto, Standing}
-use Rattle.rbd_rely.specs.Beside.{AreBeside, MayAct}
-use Rattle.rbd_rely.specs.Truth.{AreMapped, AreStandalone}
-use Rattle.rbd_session.specs.declared.running.Occupant.{Occupant}
-use Rattle.rbd_session.specs.declared.running.Occupant.TheVariants as occupant
-use Rattle.rbd_session.specs.declared.running.Running.{Running}
-use Rattle.rbd_session.specs.Advance.{track_of}
-use Rattle.rbd_session.specs.Session.{held_in}
-use Rattle.rbd_session.specs.Waits.{waits}
+use Rattle.rbd_interference.specs.Beside.{AreBeside, MayAct}
+use Rattle.rbd_interference.specs.Truth.{AreMapped, AreStandalone}
+use Rattle.rbd_slots.specs.declared.running.Occupant.{Occupant}
+use Rattle.rbd_slots.specs.declared.running.Occupant.TheVariants as occupant
+use Rattle.rbd_slots.specs.declared.running.Running.{Running}
+use Rattle.rbd_slots.specs.Advance.{track_of}
+use Rattle.rbd_slots.specs.Session.{held_in}
+use Rattle.rbd_slots.specs.Waits.{waits}
 use Rattle.rbd_site.specs.InForm.{AreInForm}
 use Rattle.rbd_site.specs.Log.{SiteLog, records_of}
 use Rattle.rbd_site.specs.Records.{Records}
 use Rattle.rbd_site.specs.Step.{mail_after}
 use Rattle.rbd_site.proofs.WatchLemmas.{oldest_session}
 use Rattle.rbd_stands.specs.Site.{StandsFor}
-use Rattle.rbd_watch.specs.Posting.{numbered}
+use Rattle.rbd_watch.specs.Posting.{notice_numbered}
 use Rattle.rbd_watch.specs.Watching.{oldest_of}
 use Rattle.rbd_world.specs.declared.event.Event.{Event}
 use Rattle.rbd_world.specs.declared.event.Event.TheVariants as event
 use Rattle.rbd_world.specs.declared.sites.Sites.{Sites}
-use Rattle.rbd_world.specs.Order.{IsInOrder, IsInTurn}
+use Rattle.rbd_world.specs.Order.{AreWritesInOrder, IsInTurn}
 use Rattle.rbd_world.specs.Past.{HadNoHeader}
 use Rattle.rbd_world.specs.Run.{Happening, Nothing, Waited, Began, Did, Refused, Trimmed, Expired, Heard, Stopped, Restarted, Sent, IsOfEvent, entries_of, flat_after, lines_at, log_of, mail_of, records_after, records_behind, sent_after}
-use Rattle.rbd_world.specs.Sound.{AreApart, AreInSlots, AreLivesOf, AreStrangers, Holder, InSlot, Sending, IsDue, IsLiving, IsSoundWorld, IsStanding, MayStillCome, known_in}
+use Rattle.rbd_world.specs.Sound.{AreLinesApart, AreInSlots, AreLivesOf, AreStrangers, Holder, InSlot, Sending, IsDue, IsLiving, IsSoundWorld, IsStanding, MayStillCome, known_in}
 use Rattle.rbd_world.specs.Step.{Does, DoesAtSites, begins_of, call_of, come, delivered, done_by, ended_watch, goes_on_by, happening, heard_by, is_begun, mail_then, polled, polled_in, releases, restarted, restarted_of, stopped, submitted}
 use Rattle.rbd_world.specs.World.{LivesView, WorldView, client_in, late_at, lives_in, records_in, site_in}
 use Rattle.rbd_world.proofs.Exactly.{IsOwedFor, exact_then}
@@ -70,11 +70,11 @@ done_of session slot sites who line labels (Note s image e next) mine = tt
 done_of session slot sites who line labels (Return reply) mine = tt
 done_of session slot sites who line labels (Goto label) mine = tt
 
-pub numbered_is : (number : ℕ) (mail : List Notice) (n : Notice) → numbered number mail ≡ Some n → n.number ≡ number
+pub numbered_is : (number : ℕ) (mail : List Notice) (n : Notice) → notice_numbered number mail ≡ Some n → n.number ≡ number
 numbered_is number [] n is = absurd (none-some n is)
 numbered_is number (m ∷ mail) n is = by (m.number == number) refl (numbered_is number mail n) is
   where
-    by : (b : Bool) → (m.number == number) ≡ b → (numbered number mail ≡ Some n → n.number ≡ number) → cond b (Some m) (numbered number mail) ≡ Some n → n.number ≡ number
+    by : (b : Bool) → (m.number == number) ≡ b → (notice_numbered number mail ≡ Some n → n.number ≡ number) → cond b (Some m) (notice_numbered number mail) ≡ Some n → n.number ≡ number
     by true at rest is = ap (λ (x : Notice). x.number) (sym (same_Some m n is)) ∙ eqb-true m.number number at
     by false at rest is = rest is
 
@@ -109,7 +109,7 @@ module _ {R : Type 0} (stands : R → Standing) where
       by (Some (occupant.Refused line refusal)) = tt
       by (Some (occupant.Running r)) = on r (actor_at stands slot c)
 
-  delivered_of : (number : ℕ) (mail : List Notice) (lives : List (LivesView R)) (o : Option Notice) → numbered number mail ≡ o → IsOfEvent (event.Deliver number) (delivered o lives)
+  delivered_of : (number : ℕ) (mail : List Notice) (lives : List (LivesView R)) (o : Option Notice) → notice_numbered number mail ≡ o → IsOfEvent (event.Deliver number) (delivered o lives)
   delivered_of number mail lives None is = tt
   delivered_of number mail lives (Some n) is = by (client_in n.to.session lives)
     where
@@ -150,7 +150,7 @@ module _ {R : Type 0} (stands : R → Standing) where
   of_event (event.Submit session line c) w sound =
       submitted_of (is_begun line w.history) session line c (client_in session w.lives) (λ client is. (sound.clients session client is).whose)
   of_event (event.Poll session slot) w sound = polled_of session slot w.sites (client_in session w.lives) (λ client is. (sound.clients session client is).whose)
-  of_event (event.Deliver number) w sound = delivered_of number w.sites.mail w.lives (numbered number w.sites.mail) refl
+  of_event (event.Deliver number) w sound = delivered_of number w.sites.mail w.lives (notice_numbered number w.sites.mail) refl
   of_event (event.Expire session s image) w sound = expired_of_it session s image (site_in s w.sites) (oldest_of session ((records_in s w.sites).watchers image)) refl
   of_event (event.Stop session) w sound = stopped_of session (client_in session w.lives) (λ client is. (sound.clients session client is).whose)
   of_event (event.Late session slot) w sound = come_of session slot w.sites (late_at session slot w.lives) (λ x is. ((sound.sending session slot x is).1).whose)
@@ -174,7 +174,7 @@ module _ {R : Type 0} (stands : R → Standing) where
     pub clients : (session : ℕ) (c : ClientView R) → client_in session new.lives ≡ Some c → IsLiving stands (w.told.homes session) session (h ∷ w.told.run) (known_in knows session) c
     pub in_slots : (session slot : ℕ) (c : ClientView R) → client_in session new.lives ≡ Some c → who (InSlot session slot) ≡ c.session.instance
     pub nobody : (session : ℕ) → client_in session new.lives ≡ None → (slot : ℕ) → knows (InSlot session slot) ≡ nothing_known
-    pub apart : AreApart new.lives
+    pub apart : AreLinesApart new.lives
     pub slots : AreInSlots (h ∷ w.told.run) new.lives
     pub truth : (session : ℕ) (c : ClientView R) → client_in session new.lives ≡ Some c → (s : SiteId) → IsTrueOf s (records_in s new.sites) c.session.instance (known_in knows session) c
     pub late : (session slot : ℕ) → late_at session slot new.lives ≡ sent_after session slot (h ∷ w.told.run)
@@ -187,7 +187,7 @@ module _ {R : Type 0} (stands : R → Standing) where
     pub beside : (h g : Holder) → AreStrangers h g → (s : SiteId) → AreBeside s (records_in s new.sites) (who h) (who g) (knows h) (knows g)
     pub owes : IsOwedFor h w.told.run
     pub turn : IsInTurn h w.told.run
-    pub in_order : (session : ℕ) (c : ClientView R) → client_in session new.lives ≡ Some c → IsInOrder stands (w.told.homes session) c.session.instance (h ∷ w.told.run) c.session
+    pub in_order : (session : ℕ) (c : ClientView R) → client_in session new.lives ≡ Some c → AreWritesInOrder stands (w.told.homes session) c.session.instance (h ∷ w.told.run) c.session
 
   -- it keeps what has to be shown, by what is known then
   pub record IsCarried (old new : WorldView R) (w : IsSoundWorld stands old) (h : Happening) : Type 0 where

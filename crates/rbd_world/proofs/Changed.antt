@@ -3,27 +3,27 @@ use Rattle.std.proofs.Common.{◌≡◌, ◌≢◌, ◌⊎◌, inl, inr, ℕ, �
 use Rattle.std.proofs.lemmas.Bool.{true≢false, eq-eqb, eqb-true, ne_eqb}
 use Rattle.std.proofs.lemmas.Option.{none-some, same_Some}
 use Rattle.rbd_client.specs.declared.slot_state.SlotState.{SlotState}
-use Rattle.rbd_client.specs.Client.{ClientView, state_in}
+use Rattle.rbd_client.specs.Client.{ClientView, slot_state}
 use Rattle.rbd_client.specs.Sound.{IsSoundClient}
 use Rattle.rbd_kinds.specs.declared.id.Instance.{Instance}
 use Rattle.rbd_kinds.specs.declared.id.SiteId.{SiteId}
-use Rattle.rbd_known.specs.Knowing.{AllKnow, KnowsIn}
+use Rattle.rbd_knowledge.specs.Knowing.{AllKnow, KnowsIn}
 use Rattle.rbd_machine.specs.Knowledge.{Knowledge}
 use Rattle.rbd_machine.specs.Plan.{Standing}
-use Rattle.rbd_session.specs.declared.running.Occupant.{Occupant}
-use Rattle.rbd_session.specs.declared.running.Occupant.TheVariants as occupant
-use Rattle.rbd_session.specs.Session.{SessionView, held_in, running_at, running_in, script_line}
-use Rattle.rbd_session.specs.Lines.{lines_of}
+use Rattle.rbd_slots.specs.declared.running.Occupant.{Occupant}
+use Rattle.rbd_slots.specs.declared.running.Occupant.TheVariants as occupant
+use Rattle.rbd_slots.specs.Session.{SessionView, held_in, running_at, running_in, script_line}
+use Rattle.rbd_slots.specs.Lines.{lines_of}
 use Rattle.rbd_world.specs.declared.event.Event.{Event}
 use Rattle.rbd_world.specs.Closes.{StandsFirst, StandsFirstIf}
 use Rattle.rbd_world.specs.LetGo.{moves_house, release_of}
 use Rattle.rbd_world.specs.Run.{Happening, Life, Sent, life_after, life_behind, sent_behind}
 use Rattle.rbd_world.specs.Seats.{seat_at, seat_of_home}
 use Rattle.rbd_machine.specs.declared.seat.Seat.{Seat}
-use Rattle.rbd_world.specs.Sound.{HasLearnedIf, AreApart, AreLivesOf, IsHeldRightly, IsLiving, IsOpen, IsRunning, IsSoundWorld, KeepsToItsWay, held_of, line_at}
+use Rattle.rbd_world.specs.Sound.{HasLearnedIf, AreLinesApart, AreLivesOf, IsHeldRightly, IsLiving, IsOpen, IsRunning, IsSoundWorld, KeepsToItsWay, held_of, line_at}
 use Rattle.rbd_world.specs.Step.{AreSlotsBut, AreStatesBut, Becomes, BecomesOf, Does, IsSameClient, LivesOnIf, RunsOn, late_behind, latest_behind, names_session}
 use Rattle.rbd_world.specs.Watched.{CountsItsWatches}
-use Rattle.rbd_world.specs.World.{LateView, LivesView, WorldView, client_in, late_at, late_of, lives_in, running_of, sent_in, session_of}
+use Rattle.rbd_world.specs.World.{LateView, LivesView, WorldView, client_in, late_at, late_of, lives_in, running_of, sent_in, session_of_client}
 use Rattle.rbd_world.proofs.LetGo.{still_releases}
 use Rattle.rbd_world.proofs.Quiet.{IsQuiet, held_on, learned_on}
 use Rattle.rbd_world.proofs.StaysFirst.{first_on}
@@ -158,23 +158,23 @@ module _ {R : Type 0} (old new : WorldView R) (session : ℕ) (c d : ClientView 
   -- ---- lines
 
   line_was : (x : ℕ) → line_at session x old.lives ≡ script_line (held_in x c.session.slots)
-  line_was x = ap (λ o. script_line (held_of x (session_of o))) client_was
+  line_was x = ap (λ o. script_line (held_of x (session_of_client o))) client_was
 
   pub line_is : (x : ℕ) → line_at session x new.lives ≡ script_line (held_in x d.session.slots)
-  line_is x = ap (λ o. script_line (held_of x (session_of o))) client_is
+  line_is x = ap (λ o. script_line (held_of x (session_of_client o))) client_is
 
   module _ (slot : ℕ) (slots : AreSlotsBut slot c.session d.session) where
     pub line_elsewhere : (m x : ℕ) → IsElsewhere session slot m x → line_at m x new.lives ≡ line_at m x old.lives
     line_elsewhere m x where_else = by (same_or_other m session) where_else
       where
         by : (m ≡ session) ⊎ (m ≢ session) → IsElsewhere session slot m x → line_at m x new.lives ≡ line_at m x old.lives
-        by (inr differ) either = ap (λ o. script_line (held_of x (session_of o))) (clients_stay m differ)
+        by (inr differ) either = ap (λ o. script_line (held_of x (session_of_client o))) (clients_stay m differ)
         by (inl same) (inl differ) = absurd (differ same)
         by (inl same) (inr differ) =
             subst (λ i. line_at i x new.lives ≡ line_at i x old.lives) (sym same) (line_is x ∙ ap script_line (slots x differ) ∙ sym (line_was x))
 
     -- another slot has another line
-    pub line_apart : AreApart old.lives → (line : ℕ) → script_line (held_in slot c.session.slots) ≡ Some line → (m x other : ℕ) → IsElsewhere session slot m x → line_at m x old.lives ≡ Some other
+    pub line_apart : AreLinesApart old.lives → (line : ℕ) → script_line (held_in slot c.session.slots) ≡ Some line → (m x other : ℕ) → IsElsewhere session slot m x → line_at m x old.lives ≡ Some other
         → (line == other) ≡ false
     line_apart apart line own m x other where_else is = ne_eqb line other (λ same. by (apart other session slot m x (line_was slot ∙ own ∙ ap Some same) is) where_else)
       where
@@ -182,7 +182,7 @@ module _ {R : Type 0} (old new : WorldView R) (session : ℕ) (c d : ClientView 
         by both (inl differ) = differ (sym both.0)
         by both (inr differ) = differ (sym both.1)
 
-    pub apart_of : AreApart old.lives → ((line : ℕ) → script_line (held_in slot d.session.slots) ≡ Some line → script_line (held_in slot c.session.slots) ≡ Some line) → AreApart new.lives
+    pub apart_of : AreLinesApart old.lives → ((line : ℕ) → script_line (held_in slot d.session.slots) ≡ Some line → script_line (held_in slot c.session.slots) ≡ Some line) → AreLinesApart new.lives
     apart_of apart before line m x other there one two = apart line m x other there (by m x one) (by other there two)
       where
         by : (m x : ℕ) → line_at m x new.lives ≡ Some line → line_at m x old.lives ≡ Some line
@@ -243,7 +243,7 @@ module _ {R : Type 0} (stands : R → Standing) where
   pub open_there : (old : WorldView R) (w : IsSoundWorld stands old) (m x line : ℕ) → line_at m x old.lives ≡ Some line → IsOpen line w.told.run
   open_there old w m x line = by (client_in m old.lives) refl
     where
-      by : (o : Option (ClientView R)) → client_in m old.lives ≡ o → script_line (held_of x (session_of o)) ≡ Some line → IsOpen line w.told.run
+      by : (o : Option (ClientView R)) → client_in m old.lives ≡ o → script_line (held_of x (session_of_client o)) ≡ Some line → IsOpen line w.told.run
       by None there is = absurd (none-some line is)
       by (Some c) there is = let living = w.clients m c there in held_open (seat_at w.told.homes m) c.session.instance w.told.run (held_in x c.session.slots) line is (living.held x)
 
@@ -271,7 +271,7 @@ module _ {R : Type 0} (stands : R → Standing) where
       sound = living.sound;
       know = living.know;
       held = λ x. held_on stands (seat_of_home session home) c.session.instance h run (held_in x c.session.slots) (quiet x) (living.held x);
-      ways = λ x. ways_on stands h run (state_in x c.slots).way (held_in x c.session.slots) (quiet x) (living.ways x);
+      ways = λ x. ways_on stands h run (slot_state x c.slots).way (held_in x c.session.slots) (quiet x) (living.ways x);
       learned = λ x. learned_on stands (seat_of_home session home) c.session.instance h run (held_in x c.session.slots) (knows x) (quiet x) (living.learned x);
       releases = living.releases ∙ sym (still_releases c.session.instance h run still.0);
       watches = counts_on c.session.instance h run c still.1 living.watches;
@@ -283,7 +283,7 @@ module _ {R : Type 0} (stands : R → Standing) where
         → AreSlotsBut slot c.session d.session → AreStatesBut slot c d → IsSameClient c.session d.session
         → ((x line : ℕ) → x ≢ slot → script_line (held_in x c.session.slots) ≡ Some line → IsQuiet line h)
         → IsSoundClient stands d → AllKnow stands knows' d.session → IsHeldRightly stands (seat_of_home session home) c.session.instance (h ∷ run) (held_in slot d.session.slots)
-        → KeepsToItsWay stands (h ∷ run) (state_in slot d.slots).way (running_at slot d.session)
+        → KeepsToItsWay stands (h ∷ run) (slot_state slot d.slots).way (running_at slot d.session)
         → ((x : ℕ) → x ≢ slot → knows' x ≡ knows x) → HasLearnedIf stands (h ∷ run) (running_at slot d.session) (knows' slot) → d.release ≡ release_of c.session.instance (h ∷ run)
         → CountsItsWatches c.session.instance (h ∷ run) d → StandsFirstIf (h ∷ run) slot d.session.lines (running_at slot d.session)
         → ((x : ℕ) → x ≢ slot → (s : SiteId) (image : ℕ) → StandsFirst x (lines_of c.session.lines s image) → StandsFirst x (lines_of d.session.lines s image))
@@ -315,12 +315,12 @@ module _ {R : Type 0} (stands : R → Standing) where
             (subst (HasLearnedIf stands (h ∷ run) (running_at x c.session)) (sym (others x differ))
             (learned_on stands (seat_of_home session home) c.session.instance h run (held_in x c.session.slots) (knows x) (λ line is. quiet x line differ is) (living.learned x)))
 
-        way_by : (x : ℕ) → (x ≡ slot) ⊎ (x ≢ slot) → KeepsToItsWay stands (h ∷ run) (state_in x d.slots).way (running_at x d.session)
-        way_by x (inl here) = subst (λ i. KeepsToItsWay stands (h ∷ run) (state_in i d.slots).way (running_at i d.session)) (sym here) keeps
+        way_by : (x : ℕ) → (x ≡ slot) ⊎ (x ≢ slot) → KeepsToItsWay stands (h ∷ run) (slot_state x d.slots).way (running_at x d.session)
+        way_by x (inl here) = subst (λ i. KeepsToItsWay stands (h ∷ run) (slot_state i d.slots).way (running_at i d.session)) (sym here) keeps
         way_by x (inr differ) =
-            subst (λ o. KeepsToItsWay stands (h ∷ run) (state_in x d.slots).way (running_in o)) (sym (slots x differ))
+            subst (λ o. KeepsToItsWay stands (h ∷ run) (slot_state x d.slots).way (running_in o)) (sym (slots x differ))
             (subst (λ (s : SlotState). KeepsToItsWay stands (h ∷ run) s.way (running_at x c.session)) (sym (states x differ))
-            (ways_on stands h run (state_in x c.slots).way (held_in x c.session.slots) (λ line is. quiet x line differ is) (living.ways x)))
+            (ways_on stands h run (slot_state x c.slots).way (held_in x c.session.slots) (λ line is. quiet x line differ is) (living.ways x)))
 
         by : (x : ℕ) → (x ≡ slot) ⊎ (x ≢ slot) → IsHeldRightly stands (seat_of_home session home) c.session.instance (h ∷ run) (held_in x d.session.slots)
         by x (inl here) = subst (λ i. IsHeldRightly stands (seat_of_home session home) c.session.instance (h ∷ run) (held_in i d.session.slots)) (sym here) own

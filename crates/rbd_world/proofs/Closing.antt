@@ -10,10 +10,10 @@ use Rattle.rbd_client.specs.declared.actor.Actor.{Actor}
 use Rattle.rbd_client.specs.declared.actor.Actor.TheVariants as actor
 use Rattle.rbd_client.specs.declared.slot_state.Way.TheVariants as way
 use Rattle.rbd_client.specs.Actor.{actor_at, op_by, op_wanted}
-use Rattle.rbd_client.specs.Client.{ClientView, state_in}
+use Rattle.rbd_client.specs.Client.{ClientView, slot_state}
 use Rattle.rbd_client.specs.Sound.{IsSoundClient, IsWellOnWay, WaitsForLook}
 use Rattle.rbd_client.proofs.OnWay.{way_waits}
-use Rattle.rbd_close.specs.Close.{unwatch}
+use Rattle.rbd_session.specs.Close.{unwatch}
 use Rattle.rbd_kinds.specs.declared.answer.Answer.{Answer}
 use Rattle.rbd_kinds.specs.declared.id.Instance.{Instance}
 use Rattle.rbd_kinds.specs.declared.id.SiteId.{SiteId}
@@ -22,30 +22,30 @@ use Rattle.rbd_kinds.specs.declared.operation.Op.{Op}
 use Rattle.rbd_kinds.specs.declared.operation.Op.TheVariants as op
 use Rattle.rbd_kinds.specs.declared.reply.Reply.{Reply}
 use Rattle.rbd_kinds.proofs.Images.{at_itself}
-use Rattle.rbd_known.proofs.Wanting.{wants}
+use Rattle.rbd_knowledge.proofs.Wanting.{wants}
 use Rattle.rbd_machine.specs.Label.{Label}
 use Rattle.rbd_machine.specs.Path.{Answered, IsWalk, at_operation}
 use Rattle.rbd_machine.specs.Plan.{Plan, Ask, Await, Note, Return, Goto, Standing, plan_after}
 use Rattle.rbd_machine.specs.declared.reason.Reason.{Reason}
 use Rattle.rbd_machine.specs.declared.seat.Seat.{Seat}
-use Rattle.rbd_owner.specs.Acquire.{op_at, op_of}
-use Rattle.rbd_owner.specs.Steps.{lock_take}
-use Rattle.rbd_owner.specs.declared.acquire.Acquire.{Acquire}
-use Rattle.rbd_owner.specs.declared.acquire.Stage.{Stage}
-use Rattle.rbd_owner.specs.declared.acquire.Stage.TheVariants as stage
-use Rattle.rbd_owner.specs.declared.release.Release.{Release}
-use Rattle.rbd_session.specs.declared.running.Occupant.{Occupant}
-use Rattle.rbd_session.specs.declared.running.Occupant.TheVariants as occupant
-use Rattle.rbd_session.specs.declared.running.Running.{Running}
-use Rattle.rbd_session.specs.Advance.{ComesTo, fed_by, track_of}
-use Rattle.rbd_session.specs.Lines.{LinesView, lines_of}
-use Rattle.rbd_session.specs.Track.{Lines, Track, run as run_on}
-use Rattle.rbd_session.specs.Session.{ComesToIn, held_in, is_look_at, kind_asked, running_at, running_in, script_line}
-use Rattle.rbd_world.specs.Closes.{StandsFirst, StandsFirstIf, has_let_go, lets_go}
+use Rattle.rbd_lock.specs.Acquire.{op_at_stage, op_of}
+use Rattle.rbd_lock.specs.Steps.{lock_take}
+use Rattle.rbd_lock.specs.declared.acquire.Acquire.{Acquire}
+use Rattle.rbd_lock.specs.declared.acquire.Stage.{Stage}
+use Rattle.rbd_lock.specs.declared.acquire.Stage.TheVariants as stage
+use Rattle.rbd_lock.specs.declared.release.Release.{Release}
+use Rattle.rbd_slots.specs.declared.running.Occupant.{Occupant}
+use Rattle.rbd_slots.specs.declared.running.Occupant.TheVariants as occupant
+use Rattle.rbd_slots.specs.declared.running.Running.{Running}
+use Rattle.rbd_slots.specs.Advance.{AdvancesTo, fed_by, track_of}
+use Rattle.rbd_slots.specs.Lines.{LinesView, lines_of}
+use Rattle.rbd_slots.specs.Track.{Lines, Track, run as run_on}
+use Rattle.rbd_slots.specs.Session.{ComesToIn, held_in, is_look_at, kind_asked, running_at, running_in, script_line}
+use Rattle.rbd_world.specs.Closes.{StandsFirst, StandsFirstIf, has_let_go, lets_lock_go}
 use Rattle.rbd_world.specs.Run.{Asked, Happening, asked_by, steps_of}
 use Rattle.rbd_world.specs.Sound.{IsHeldRightly, IsUnderWay}
-use Rattle.rbd_requests.specs.Asking.{IsNoLook}
-use Rattle.rbd_requests.specs.Follows.{TakesNoLock}
+use Rattle.rbd_catalog.specs.Asking.{IsNoLook}
+use Rattle.rbd_catalog.specs.Follows.{TakesNoLock}
 use Rattle.rbd_world.proofs.LetsGoFirst.{LetsGoFirst, blind_stays, led_first, lets_go_blind, runs_still}
 use Rattle.rbd_world.proofs.RefusedOnWay.{looks_at}
 use Rattle.rbd_world.proofs.StaysFirst.{no_way_beside}
@@ -59,7 +59,7 @@ image_or otherwise (op.Header image o) = image
 image_or otherwise o = otherwise
 
 -- the image whose lock it takes is its own
-pub takes_own : (at : Stage) (image on : ℕ) → op_at at image ≡ lock_take on → image ≡ on
+pub takes_own : (at : Stage) (image on : ℕ) → op_at_stage at image ≡ lock_take on → image ≡ on
 takes_own stage.Taking image on is = ap (image_or image) is
 takes_own stage.Watching image on is = ap (image_or image) is
 takes_own (stage.Looking owner) image on is = ap (image_or image) is
@@ -71,7 +71,7 @@ takes_own (stage.Breaking owner) image on is = ap (image_or image) is
 way_keeps_watch : (a : Acquire) → EndsNoWatch (op_of a)
 way_keeps_watch a = by a.stage
   where
-    by : (at : Stage) → EndsNoWatch (op_at at a.image)
+    by : (at : Stage) → EndsNoWatch (op_at_stage at a.image)
     by stage.Watching = tt
     by stage.Taking = tt
     by (stage.Looking owner) = tt
@@ -177,7 +177,7 @@ module _ {R : Type 0} (stands : R → Standing) (c : ClientView R) (sound : IsSo
       let u = who_unwatches slot s image ends in gone_beside slot there s image u.request u.is u.gone (who_takes there s image takes)
 
   -- and nobody goes on a way to it
-  pub ways_spared : (slot x : ℕ) (s : SiteId) (image : ℕ) (a : Acquire) → op_wanted stands slot c ≡ Some (s, unwatch image) → (state_in x c.slots).way ≡ way.On a → a.site ≡ s → a.image ≡ image → ⊥
+  pub ways_spared : (slot x : ℕ) (s : SiteId) (image : ℕ) (a : Acquire) → op_wanted stands slot c ≡ Some (s, unwatch image) → (slot_state x c.slots).way ≡ way.On a → a.site ≡ s → a.image ≡ image → ⊥
   ways_spared slot x s image a ends on there same =
       let u = who_unwatches slot s image ends in
       gone_beside slot x s image u.request u.is u.gone
@@ -191,7 +191,7 @@ or_true true = refl
 or_true false = refl
 
 lines_then : {R : Type 0} (stands : R → Standing) (slot : ℕ) (labels : Label → Plan) (plan : Plan) (t : Track) (result : Option Reply) (r q : Running R) (lines : LinesView) → result ≡ None
-    → ComesTo stands slot labels plan t result r q lines → lines_of lines ≡ t.lines
+    → AdvancesTo stands slot labels plan t result r q lines → lines_of lines ≡ t.lines
 lines_then stands slot labels (Return reply) t result r q lines none comes = absurd (none-some reply (sym none ∙ comes.reply))
 lines_then stands slot labels (Ask s why o next) t result r q lines none comes = ap (λ (x : Track). x.lines) comes.track
 lines_then stands slot labels (Await w next) t result r q lines none comes = ap (λ (x : Track). x.lines) comes.track
@@ -202,11 +202,11 @@ module _ {R : Type 0} (stands : R → Standing) (seat : Seat) (who : Instance) (
     (s : SiteId) (why : Reason) (o : Op) (next : Answer → Plan) (asks : (stands r.request).plan ≡ Ask s why o next) (a : Answer) (before after : LinesView) where
   -- who let go stays where it stands, up to its end
   pub first_behind : (result : Option Reply) (q : Running R) → ComesToIn stands slot before (fed.Answer a) result r (Some (occupant.Running q)) after
-      → ((t : SiteId) (i : ℕ) → lets_go s o a t i ≡ true → StandsFirst slot (lines_of before t i)) → StandsFirstIf run slot before (Some r)
+      → ((t : SiteId) (i : ℕ) → lets_lock_go s o a t i ≡ true → StandsFirst slot (lines_of before t i)) → StandsFirstIf run slot before (Some r)
       → (t : SiteId) (i : ℕ) → has_let_go t i (steps_of r.line run ++ record { site = s; op = o; answer = a } ∷ []) ≡ true → StandsFirst slot (lines_of after t i)
   first_behind result q comes drops first t i gone =
       by (has_let_go t i (steps_of r.line run)) refl
-      (sym (list_any-append (λ (d : Answered). lets_go d.site d.op d.answer t i) (steps_of r.line run) (record { site = s; op = o; answer = a } ∷ [])) ∙ gone)
+      (sym (list_any-append (λ (d : Answered). lets_lock_go d.site d.op d.answer t i) (steps_of r.line run) (record { site = s; op = o; answer = a } ∷ [])) ∙ gone)
     where
       lets_first : LetsGoFirst t i (has_let_go t i (steps_of r.line run)) (Ask s why o next)
       lets_first = subst (LetsGoFirst t i (has_let_go t i (steps_of r.line run))) asks (underway_first stands seat who run t i r way)
@@ -218,11 +218,11 @@ module _ {R : Type 0} (stands : R → Standing) (seat : Seat) (who : Instance) (
           ∙ ap (λ (x : Track). (run_on slot (next a) x).lines) (blind_stays slot r.extent (track_of r before) s o a none)
           ∙ ap (λ (x : Track). x.lines) (runs_still t i slot (next a) (track_of r before) goes)
 
-      by : (b : Bool) → has_let_go t i (steps_of r.line run) ≡ b → (b || (lets_go s o a t i || false)) ≡ true → StandsFirst slot (lines_of after t i)
+      by : (b : Bool) → has_let_go t i (steps_of r.line run) ≡ b → (b || (lets_lock_go s o a t i || false)) ≡ true → StandsFirst slot (lines_of after t i)
       by true already more =
           let there = subst (λ b. LetsGoFirst t i b (Ask s why o next)) already lets_first in
-          subst (λ (ls : Lines). StandsFirst slot (ls t i)) (sym (same (subst (λ b. LetsGoFirst t i b (next a)) (or_true (lets_go s o a t i)) (there.1 a)) there.0.1)) (first t i already)
+          subst (λ (ls : Lines). StandsFirst slot (ls t i)) (sym (same (subst (λ b. LetsGoFirst t i b (next a)) (or_true (lets_lock_go s o a t i)) (there.1 a)) there.0.1)) (first t i already)
       by false yet more =
-          let lets = sym (or-false (lets_go s o a t i)) ∙ more in
+          let lets = sym (or-false (lets_lock_go s o a t i)) ∙ more in
           subst (λ (ls : Lines). StandsFirst slot (ls t i))
           (sym (same (subst (λ b. LetsGoFirst t i (b || has_let_go t i (steps_of r.line run)) (next a)) lets (lets_first.1 a)) (lets_go_blind s o a t i lets))) (drops t i lets)

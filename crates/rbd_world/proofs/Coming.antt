@@ -8,8 +8,8 @@ use Rattle.std.proofs.Math.Nat.{lt_irrefl}
 use Rattle.std.proofs.lemmas.List.{length-set, get_or-set_same, get_or-set_other, get_or_past}
 use Rattle.std.proofs.lemmas.Option.{none-some, same_Some}
 use Rattle.rbd_client.specs.Client.{ClientView}
-use Rattle.rbd_held.specs.Truth.{IsTrueOf}
-use Rattle.rbd_held.proofs.Owned.{knows_by_lock}
+use Rattle.rbd_knowledge.specs.Truth.{IsTrueOf}
+use Rattle.rbd_knowledge.proofs.HeadersOwned.{knows_by_lock}
 use Rattle.rbd_kinds.specs.declared.data_op.DataOp.TheVariants as object
 use Rattle.rbd_kinds.specs.declared.header_op.HeaderOp.TheVariants as header
 use Rattle.rbd_kinds.specs.declared.map_op.MapOp.TheVariants as states
@@ -21,22 +21,22 @@ use Rattle.rbd_kinds.proofs.Plain.{eqb_flip}
 use Rattle.rbd_machine.specs.Knowledge.{Knowledge, nothing_known, is_drawn}
 use Rattle.rbd_machine.specs.Permits.{Permits}
 use Rattle.rbd_machine.specs.Plan.{Standing}
-use Rattle.rbd_rely.specs.Beside.{AreBeside, MayAct}
-use Rattle.rbd_rely.specs.Locks.{KnowsByLock, gives_up}
-use Rattle.rbd_rely.specs.Truth.{IsTrueAt, known_header}
-use Rattle.rbd_rely.proofs.Locks.{changes_by_lock, shares_by_lock}
-use Rattle.rbd_rely.proofs.Nothing.{nothing_is_beside, nothing_is_true}
-use Rattle.rbd_rely.proofs.Together.{alone_knows, beside_mutual, nobody_knows}
-use Rattle.rbd_session.specs.Session.{held_in, script_line}
+use Rattle.rbd_interference.specs.Beside.{AreBeside, MayAct}
+use Rattle.rbd_interference.specs.Locks.{KnowsByLock, gives_up}
+use Rattle.rbd_interference.specs.Truth.{IsTrueAt, known_header}
+use Rattle.rbd_interference.proofs.Locks.{changes_by_lock, shares_by_lock}
+use Rattle.rbd_interference.proofs.Nothing.{nothing_is_beside, nothing_is_true}
+use Rattle.rbd_interference.proofs.Together.{alone_knows, beside_mutual, nobody_knows}
+use Rattle.rbd_slots.specs.Session.{held_in, script_line}
 use Rattle.rbd_site.specs.Records.{Records}
 use Rattle.rbd_site.specs.Step.{is_fenced}
 use Rattle.rbd_world.specs.declared.event.Event.{Event}
 use Rattle.rbd_world.specs.declared.event.Event.TheVariants as event
 use Rattle.rbd_world.specs.Run.{AfterStop, Happening, Sent, sent_after, sent_of}
 use Rattle.rbd_world.specs.Past.{HadNoHeader}
-use Rattle.rbd_world.specs.Sound.{AreLivesOf, AreStrangers, Holder, InSlot, Sending, IsDone, IsSoundWorld, MayStillCome, held_of, known_in, line_at}
+use Rattle.rbd_world.specs.Sound.{AreLivesOf, AreStrangers, Holder, InSlot, Sending, IsRightlyDone, IsSoundWorld, MayStillCome, held_of, known_in, line_at}
 use Rattle.rbd_world.specs.Step.{BecomesOf, Does, DoesAtSites, LivesOnIf, come, operation_at, without_sent}
-use Rattle.rbd_world.specs.World.{LateView, LivesView, WorldView, client_in, late_at, late_of, lives_in, records_in, running_of, sent_in, session_of, site_in}
+use Rattle.rbd_world.specs.World.{LateView, LivesView, WorldView, client_in, late_at, late_of, lives_in, records_in, running_of, sent_in, session_of_client, site_in}
 use Rattle.rbd_world.proofs.AtSites.{beside_then, is_done, known_then, locks_then, others_true, sending_then, stands_then, whole_then}
 use Rattle.rbd_world.proofs.Carried.{IsCarried}
 use Rattle.rbd_world.proofs.Changed.{IsElsewhere, here_or_elsewhere, lives_there, living_on, same_or_other}
@@ -119,7 +119,8 @@ module _ {R : Type 0} (stands : R → Standing) (old : WorldView R) (w : IsSound
 
 -- ---- a lock that is dropped
 
--- Whoever knows a header keeps its lock where another of its instance drops one, or removes a header.
+-- Whoever knows a header keeps its lock where another of its instance drops one, or removes a
+-- header.
 keeps_lock : (s : SiteId) (r : Records) (me : Instance) (k j : Knowledge) (o : Op) → Permits k s o → MayAct s r me me k j o → AreBeside s r me me k j → KnowsByLock s r me j
     → (image : ℕ) → IsSome (known_header j s image) → IsFalse (is_fenced r me) → gives_up image o ≡ false
 keeps_lock s r me k j (op.Header other header.LockDrop) permits may beside locks image known free = by (image == other) refl
@@ -211,7 +212,7 @@ module _ {R : Type 0} (stands : R → Standing) (old new : WorldView R) (w : IsS
   quiet : (line : ℕ) → IsQuiet line h
   quiet line = quiet_did line (operation_at (site_in x.site old.sites) x.instance (AfterStop slot) x.site x.op) None refl
 
-  due : IsDone (operation_at (site_in x.site old.sites) x.instance (AfterStop slot) x.site x.op) w.told.run
+  due : IsRightlyDone (operation_at (site_in x.site old.sites) x.instance (AfterStop slot) x.site x.op) w.told.run
   due =
       is_done stands old new w x.instance (AfterStop slot) x.site x.op None goes_by known permits locked at_sites
       (λ image drawn. w.new (Sending session slot) x.site image (less_drawn x.op k x.site image drawn)) tt
@@ -231,7 +232,7 @@ module _ {R : Type 0} (stands : R → Standing) (old new : WorldView R) (w : IsS
   was m q is = sym (client_same m) ∙ is
 
   line_same : (m y : ℕ) → line_at m y new.lives ≡ line_at m y old.lives
-  line_same m y = ap (λ o. script_line (held_of y (session_of o))) (client_same m)
+  line_same m y = ap (λ o. script_line (held_of y (session_of_client o))) (client_same m)
 
   late_here : late_at session slot new.lives ≡ None
   late_here = ap (λ o. sent_in slot (late_of o)) goes.is ∙ ap (sent_in slot) goes.late ∙ sent_set_same slot l.late

@@ -6,9 +6,9 @@ use Rattle.std.proofs.lemmas.Bool.{and_from, eq-eqb, eqb-true, or_right, true≢
 use Rattle.std.proofs.lemmas.List.{append-nil}
 use Rattle.std.proofs.lemmas.Option.{none-some, same_Some}
 use Rattle.rbd_commands.specs.declared.command.Command.{Command}
-use Rattle.rbd_exact.specs.Owed.{Due, PaysItsStates, Spot, due_behind, due_by, owed_after, owed_at, owed_behind, owed_by}
-use Rattle.rbd_exact.proofs.Pays.{request_pays}
-use Rattle.rbd_exact.proofs.Walks.{walk_pays}
+use Rattle.rbd_interference.specs.Owed.{Due, PaysItsStates, Spot, due_behind, due_by, owed_after, owed_at, owed_behind, owed_by}
+use Rattle.rbd_interference.proofs.Pays.{request_pays}
+use Rattle.rbd_interference.proofs.Walks.{walk_pays}
 use Rattle.rbd_flat.specs.declared.effect.Effect.{Effect}
 use Rattle.rbd_kinds.specs.declared.answer.Answer.{Answer}
 use Rattle.rbd_kinds.specs.declared.answer.Answer.TheVariants as answer
@@ -27,14 +27,14 @@ use Rattle.rbd_machine.specs.Knowledge.{same_site}
 use Rattle.rbd_machine.specs.Path.{Answered}
 use Rattle.rbd_machine.specs.Plan.{Plan, Ask, Await, Note, Return, Goto}
 use Rattle.rbd_machine.specs.declared.seat.Seat.{Seat}
-use Rattle.rbd_session.specs.Session.{is_look_at, kind_asked}
+use Rattle.rbd_slots.specs.Session.{is_look_at, kind_asked}
 use Rattle.rbd_site.specs.Records.{Records}
 use Rattle.rbd_site.specs.Step.{after, answer_to, is_fenced}
 use Rattle.rbd_site.proofs.StepLemmas.{other_blocklist}
-use Rattle.rbd_world.specs.Owing.{IsUnhindered, has_worked, is_hindrance, is_of, owed_in}
+use Rattle.rbd_world.specs.Owing.{HasNoHindrance, has_worked, is_hindrance, is_of, owed_in}
 use Rattle.rbd_world.specs.Run.{Doer, Itself, OnWay, House, AfterStop, Happening, Nothing, Waited, Began, Did, Refused, Trimmed, Expired, Heard, Stopped, Restarted, Asked, Operation, asked_by, comes_of, fence_of, is_for, is_own, records_after, sent_after, step_of, steps_in, steps_of}
 use Rattle.rbd_world.specs.Seats.{seat_at}
-use Rattle.rbd_world.specs.Sound.{EndsWith, GoesOnBehind, IsDone, IsDue, IsLedTo, IsOpen, IsRight}
+use Rattle.rbd_world.specs.Sound.{EndsItsLine, LineGoesOn, IsRightlyDone, IsDue, IsLedTo, IsOpen, IsRight}
 use Rattle.rbd_world.proofs.Quiet.{IsQuiet, open_on, quiet_began, quiet_did, quiet_expired, quiet_heard, quiet_nothing, quiet_refused, quiet_restarted, quiet_trimmed, quiet_waited}
 use Rattle.rbd_world.proofs.Runs.{done_of}
 
@@ -104,7 +104,7 @@ module _ (homes : ℕ → SiteId) (line : ℕ) (p : Spot) (run : List Happening)
   abbrev goes_on : (o : Operation) → IsOpen line run → IsOpen line (Did o None ∷ run)
   goes_on o begun = record { asked = begun.asked; is = begun.is; unended = begun.unended }
 
-  open_did : (o : Operation) (by : Doer) → o.by ≡ by → GoesOnBehind homes o.site by run → owed_in (Did o None ∷ run) line ≡ Some p → IsOpen line (Did o None ∷ run)
+  open_did : (o : Operation) (by : Doer) → o.by ≡ by → LineGoesOn homes o.site by run → owed_in (Did o None ∷ run) line ≡ Some p → IsOpen line (Did o None ∷ run)
   open_did o (Itself other) is begun owes = go (other == line) refl
     where
       go : (b : Bool) → (other == line) ≡ b → IsOpen line (Did o None ∷ run)
@@ -118,7 +118,7 @@ module _ (homes : ℕ → SiteId) (line : ℕ) (p : Spot) (run : List Happening)
   ended_owes : (h : Happening) (reply : Reply) (session : ℕ) (c : Command) → IsLedTo (seat_at homes session) c (steps_of line (h ∷ run)) (Return reply) → owed_in (h ∷ run) line ≡ Some p → ⊥
   ended_owes h reply session c led owes = subst (λ owed. PaysItsStates owed (Return reply)) owes (led_pays (seat_at homes session) c (steps_of line (h ∷ run)) (Return reply) led)
 
-  open_ended : (o : Operation) (reply : Reply) (by : Doer) → o.by ≡ by → EndsWith homes o reply run by → owed_in (Did o (Some reply) ∷ run) line ≡ Some p → IsOpen line (Did o (Some reply) ∷ run)
+  open_ended : (o : Operation) (reply : Reply) (by : Doer) → o.by ≡ by → EndsItsLine homes o reply run by → owed_in (Did o (Some reply) ∷ run) line ≡ Some p → IsOpen line (Did o (Some reply) ∷ run)
   open_ended o reply (Itself other) is ends owes = go (other == line) refl
     where
       go : (b : Bool) → (other == line) ≡ b → IsOpen line (Did o (Some reply) ∷ run)
@@ -140,7 +140,7 @@ module _ (homes : ℕ → SiteId) (line : ℕ) (p : Spot) (run : List Happening)
   open_ended o reply House is ends owes = absurd ends
   open_ended o reply (AfterStop slot) is ends owes = absurd ends
 
-  open_behind : (h : Happening) → IsDue homes h run → IsUnhindered (h ∷ run) → owed_in (h ∷ run) line ≡ Some p → IsOpen line (h ∷ run)
+  open_behind : (h : Happening) → IsDue homes h run → HasNoHindrance (h ∷ run) → owed_in (h ∷ run) line ≡ Some p → IsOpen line (h ∷ run)
   open_behind Nothing due calm owes = open_quiet Nothing (quiet_nothing line) owes
   open_behind Waited due calm owes = open_quiet Waited (quiet_waited line) owes
   open_behind (Began asked slot) due calm owes = open_began asked slot due.new owes
@@ -160,7 +160,7 @@ module _ (homes : ℕ → SiteId) (line : ℕ) (p : Spot) (run : List Happening)
   open_behind (Stopped who wanted lost) due calm owes = absurd (true≢false calm.0)
   open_behind (Restarted who) due calm owes = open_quiet (Restarted who) (quiet_restarted line who) owes
 
-pub debt_open : (homes : ℕ → SiteId) (run : List Happening) → IsRight homes run → IsUnhindered run → (line : ℕ) (p : Spot) → owed_in run line ≡ Some p → IsOpen line run
+pub debt_open : (homes : ℕ → SiteId) (run : List Happening) → IsRight homes run → HasNoHindrance run → (line : ℕ) (p : Spot) → owed_in run line ≡ Some p → IsOpen line run
 debt_open homes [] right calm line p owes = absurd (none-some p owes)
 debt_open homes (h ∷ run) (standing, due, right) calm line p owes = open_behind homes line p run (debt_open homes run right calm.1 line p) h due calm owes
 
@@ -211,7 +211,7 @@ unlisted : (r : Records) (me : Instance) (o : Op) (i : Instance) → is_fenced r
 unlisted r me (op.BlockAdd other) i free was none = absurd (true≢false (sym (ap (λ b. is_some (fence_of (op.BlockAdd other) (cond b answer.Fenced answer.Done))) free) ∙ none))
 unlisted r me o i free was none = subst (λ b. finset.contains b i ≡ false) (sym (other_blocklist r me o refl)) was
 
-pub none_fenced : (homes : ℕ → SiteId) (run : List Happening) → IsRight homes run → IsUnhindered run → (s : SiteId) (i : Instance) → is_fenced (records_after s run) i ≡ false
+pub none_fenced : (homes : ℕ → SiteId) (run : List Happening) → IsRight homes run → HasNoHindrance run → (s : SiteId) (i : Instance) → is_fenced (records_after s run) i ≡ false
 none_fenced homes [] right calm s i = contains-empty _ i
 none_fenced homes (h ∷ run) (standing, due, right) calm s i = by h due calm.0 (none_fenced homes run right calm.1)
   where
@@ -222,7 +222,7 @@ none_fenced homes (h ∷ run) (standing, due, right) calm s i = by h due calm.0 
     by : (h : Happening) → IsDue homes h run → is_hindrance h ≡ false → ((t : SiteId) (j : Instance) → is_fenced (records_after t run) j ≡ false) → is_fenced (records_after s (h ∷ run)) i ≡ false
     by (Did o reply) due calm before = go (same_site o.site s) refl
       where
-        done : IsDone o run
+        done : IsRightlyDone o run
         done = done_of homes o reply run due
 
         there : is_fenced (after (records_after o.site run) o.instance o.op) i ≡ false
@@ -237,7 +237,7 @@ none_fenced homes (h ∷ run) (standing, due, right) calm s i = by h due calm.0 
     by (Expired site number image who) due calm before = if_free (same_site site s) _ _ (before s i) (before s i)
     by h due calm before = before s i
 
-pub none_sent : (session slot : ℕ) (run : List Happening) → IsUnhindered run → sent_after session slot run ≡ None
+pub none_sent : (session slot : ℕ) (run : List Happening) → HasNoHindrance run → sent_after session slot run ≡ None
 none_sent session slot [] calm = refl
 none_sent session slot (Did o reply ∷ run) calm = by (comes_of session slot o.instance o.by) (none_sent session slot run calm.1)
   where

@@ -1,7 +1,7 @@
 -- What begins or ends a life of one session leaves the other sessions as they are.
 use Rattle.std.proofs.Common.{◌≡◌, ◌≢◌, ℕ, ◌==◌, cond, List, ◌∷◌, is_some, None, Some, refl, sym, ap, ◌∙◌, subst, true, false}
 use Rattle.std.proofs.lemmas.Bool.{true≢false, eq-eqb, ne_eqb}
-use Rattle.rbd_client.specs.Client.{ClientView, state_in}
+use Rattle.rbd_client.specs.Client.{ClientView, slot_state}
 use Rattle.rbd_kinds.specs.declared.data_op.DataOp.TheVariants as object
 use Rattle.rbd_kinds.specs.declared.header_op.HeaderOp.TheVariants as header
 use Rattle.rbd_kinds.specs.declared.map_op.MapOp.TheVariants as states
@@ -11,11 +11,11 @@ use Rattle.rbd_kinds.specs.declared.operation.Op.{Op}
 use Rattle.rbd_kinds.specs.declared.operation.Op.TheVariants as op
 use Rattle.rbd_machine.specs.Knowledge.{Knowledge, nothing_known, is_drawn}
 use Rattle.rbd_machine.specs.Plan.{Standing}
-use Rattle.rbd_rely.specs.Beside.{AreBeside, MayAct}
-use Rattle.rbd_rely.specs.Truth.{known_header}
-use Rattle.rbd_rely.proofs.Nothing.{nothing_is_beside}
-use Rattle.rbd_rely.proofs.Together.{beside_mutual}
-use Rattle.rbd_session.specs.Session.{held_in, script_line}
+use Rattle.rbd_interference.specs.Beside.{AreBeside, MayAct}
+use Rattle.rbd_interference.specs.Truth.{known_header}
+use Rattle.rbd_interference.proofs.Nothing.{nothing_is_beside}
+use Rattle.rbd_interference.proofs.Together.{beside_mutual}
+use Rattle.rbd_slots.specs.Session.{held_in, script_line}
 use Rattle.rbd_site.specs.Records.{Records}
 use Rattle.rbd_world.specs.LetGo.{moves_house}
 use Rattle.rbd_world.specs.Run.{Happening, Life, life_after, life_behind}
@@ -42,7 +42,7 @@ module _ {R : Type 0} (stands : R → Standing) (home : SiteId) (session : ℕ) 
     sound = living.sound;
     know = living.know;
     held = λ x. held_on stands (seat_of_home session home) c.session.instance h run (held_in x c.session.slots) (quiet x) (living.held x);
-    ways = λ x. ways_on stands h run (state_in x c.slots).way (held_in x c.session.slots) (quiet x) (living.ways x);
+    ways = λ x. ways_on stands h run (slot_state x c.slots).way (held_in x c.session.slots) (quiet x) (living.ways x);
     learned = λ x. learned_on stands (seat_of_home session home) c.session.instance h run (held_in x c.session.slots) (knows x) (quiet x) (living.learned x);
     releases = living.releases ∙ sym (still_releases c.session.instance h run unmoved.0);
     watches = counts_on c.session.instance h run c unmoved.1 living.watches;

@@ -1,9 +1,9 @@
 -- What each operation does to what is owed: with it maps that are exact, but for that, stay so.
 use Rattle.std.proofs.Common.{◌≡◌, ◌≢◌, ◌⊎◌, inl, inr, ℕ, cond, Bool, true, false, List, [], ◌∷◌, length, Option, Some, refl, sym, ap, ◌∙◌, subst}
 use Rattle.std.proofs.lemmas.Bool.{true≢false}
-use Rattle.rbd_exact.specs.Exact.{GoesWith, IsExactBut, IsOwed, makes_object, removes_object, sets_state, takes_snap}
-use Rattle.rbd_exact.proofs.Exactly.{exact_more}
-use Rattle.rbd_exact.proofs.ExactlyKept.{exact_expired, exact_stays, exact_trimmed}
+use Rattle.rbd_interference.specs.Exact.{KeepsWhatIsOwed, IsExactBut, IsOwed, makes_object, removes_object, sets_state, takes_snap}
+use Rattle.rbd_interference.proofs.Exactly.{exact_more}
+use Rattle.rbd_interference.proofs.ExactlyKept.{exact_expired, exact_stays, exact_trimmed}
 use Rattle.rbd_kinds.specs.declared.header.HeaderView.{HeaderView}
 use Rattle.rbd_kinds.specs.declared.id.Instance.{Instance}
 use Rattle.rbd_kinds.specs.declared.id.SiteId.{SiteId}
@@ -11,22 +11,22 @@ use Rattle.rbd_kinds.specs.declared.reply.Reply.{Reply}
 use Rattle.rbd_kinds.proofs.Images.{same_site_itself}
 use Rattle.rbd_machine.specs.Knowledge.{same_site}
 use Rattle.rbd_machine.specs.Plan.{Standing}
-use Rattle.rbd_rely.specs.Truth.{IsTrueAt}
+use Rattle.rbd_interference.specs.Truth.{IsTrueAt}
 use Rattle.rbd_site.specs.Log.{expired, trimmed}
 use Rattle.rbd_site.specs.Records.{Records, object_at}
 use Rattle.rbd_site.specs.Step.{after, is_fenced}
 use Rattle.rbd_stands.specs.Site.{StandsFor}
-use Rattle.rbd_world.specs.Owing.{IsUnhindered, owed_in}
+use Rattle.rbd_world.specs.Owing.{HasNoHindrance, owed_in}
 use Rattle.rbd_world.specs.Run.{Happening, Did, Trimmed, Expired, Stopped, Operation, flat_after, records_after, steps_in}
-use Rattle.rbd_world.specs.Sound.{IsDone, IsDue, IsSoundWorld}
+use Rattle.rbd_world.specs.Sound.{IsRightlyDone, IsDue, IsSoundWorld}
 use Rattle.rbd_world.specs.Step.{DoesAtSites}
 use Rattle.rbd_world.specs.World.{WorldView, records_in, site_in}
 use Rattle.rbd_world.proofs.BothSites.{this_or_other}
 use Rattle.rbd_world.proofs.Debts.{no_steps_owe, none_fenced}
 use Rattle.rbd_world.proofs.Runs.{done_of, standing_at}
 
--- Who sets another state than 0 owes the object, what is owed stays so until it is paid, an object of
--- an image that has a header is removed only by who owes that, and no object of an image is owed
+-- Who sets another state than 0 owes the object, what is owed stays so until it is paid, an object
+-- of an image that has a header is removed only by who owes that, and no object of an image is owed
 -- when its snapshot is taken.
 pub record OwesAsItGoes (o : Operation) (reply : Option Reply) (run : List Happening) : Type 0 where
   pub made : (t : SiteId) (image number : ℕ) → IsOwed (owed_in run) t image number 1
@@ -40,12 +40,12 @@ pub record OwesAsItGoes (o : Operation) (reply : Option Reply) (run : List Happe
 
 -- so it is where nobody was stopped or fenced
 abbrev pub IsOwedFor : Happening → (before : List Happening) → Type 0
-IsOwedFor (Did o reply) run = IsUnhindered (Did o reply ∷ run) → OwesAsItGoes o reply run
+IsOwedFor (Did o reply) run = HasNoHindrance (Did o reply ∷ run) → OwesAsItGoes o reply run
 IsOwedFor h run = Unit {0}
 
 module _ {R : Type 0} (stands : R → Standing) (old new : WorldView R) (w : IsSoundWorld stands old) where
   -- an operation, at its site and at the other
-  module _ (o : Operation) (reply : Option Reply) (at_sites : DoesAtSites (Did o reply) old.sites new.sites) (done : IsDone o w.told.run) (calm : IsUnhindered w.told.run) (owes : OwesAsItGoes o reply w.told.run) where
+  module _ (o : Operation) (reply : Option Reply) (at_sites : DoesAtSites (Did o reply) old.sites new.sites) (done : IsRightlyDone o w.told.run) (calm : HasNoHindrance w.told.run) (owes : OwesAsItGoes o reply w.told.run) where
     here_now : records_in o.site new.sites ≡ after (records_in o.site old.sites) o.instance o.op
     here_now = at_sites.records o.site ∙ ap (λ b. cond b (after (records_in o.site old.sites) o.instance o.op) (records_in o.site old.sites)) (same_site_itself o.site)
 
@@ -55,7 +55,7 @@ module _ {R : Type 0} (stands : R → Standing) (old new : WorldView R) (w : IsS
     abbrev was : SiteId → (image number state : ℕ) → Type 0
     was t = IsOwed (owed_in w.told.run) t
 
-    goes : GoesWith (records_in o.site old.sites).headers o.op (was o.site) (now o.site)
+    goes : KeepsWhatIsOwed (records_in o.site old.sites).headers o.op (was o.site) (now o.site)
     goes = record {
       made = λ image number is. paid (owes.made o.site image number is);
       lowered = λ image number is. paid (owes.lowered o.site image number is);
@@ -120,7 +120,7 @@ module _ {R : Type 0} (stands : R → Standing) (old new : WorldView R) (w : IsS
   expired_exact s true image who exact = exact_expired (records_in s old.sites) image who (IsOwed (owed_in w.told.run) s) exact
   expired_exact s false image who exact = exact
 
-  pub exact_then : (h : Happening) → DoesAtSites h old.sites new.sites → IsDue w.told.homes h w.told.run → IsOwedFor h w.told.run → IsUnhindered (h ∷ w.told.run)
+  pub exact_then : (h : Happening) → DoesAtSites h old.sites new.sites → IsDue w.told.homes h w.told.run → IsOwedFor h w.told.run → HasNoHindrance (h ∷ w.told.run)
       → (s : SiteId) → IsExactBut (IsOwed (owed_in (h ∷ w.told.run)) s) (records_in s new.sites)
   exact_then (Did o reply) at_sites due owed calm s = exact_did o reply at_sites (done_of w.told.homes o reply w.told.run due) calm.1 (owed calm) s
   exact_then (Trimmed site number image object) at_sites due owed calm s =

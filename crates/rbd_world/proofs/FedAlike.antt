@@ -7,7 +7,7 @@ use Rattle.rbd_client.specs.declared.actor.Actor.{Actor}
 use Rattle.rbd_client.specs.declared.actor.Actor.TheVariants as actor
 use Rattle.rbd_client.specs.declared.slot_state.SlotState.{SlotState}
 use Rattle.rbd_client.specs.Actor.{actor_at}
-use Rattle.rbd_client.specs.Client.{ClientView, state_in}
+use Rattle.rbd_client.specs.Client.{ClientView, slot_state}
 use Rattle.rbd_client.specs.Feeding.{CountsAll, DropsAtRest, GoesItsWay, IsClientAlike, IsFedBy, ReleaseIsFed, RequestIsFed, StaysUnlessRequest, WayIsFed, comings_of, state_behind, state_on_way}
 use Rattle.rbd_client.proofs.Alike.{actor_alike, look_alike}
 use Rattle.rbd_client.proofs.Wanted.{drops_alike}
@@ -15,10 +15,10 @@ use Rattle.rbd_commands.specs.declared.quiescing.Quiescing.TheVariants as quiesc
 use Rattle.rbd_kinds.specs.declared.id.SiteId.{SiteId}
 use Rattle.rbd_kinds.specs.declared.image_at.ImageAt.{ImageAt}
 use Rattle.rbd_kinds.specs.declared.operation.Op.{Op}
-use Rattle.rbd_locks.specs.Comings.{Coming, after_all}
-use Rattle.rbd_locks.specs.Locks.{state_at}
-use Rattle.rbd_owner.specs.declared.acquire.Acquire.{Acquire}
-use Rattle.rbd_owner.specs.declared.release.Release.{Release}
+use Rattle.rbd_lock.specs.Comings.{Coming, after_all}
+use Rattle.rbd_lock.specs.Locks.{lock_state_at}
+use Rattle.rbd_lock.specs.declared.acquire.Acquire.{Acquire}
+use Rattle.rbd_lock.specs.declared.release.Release.{Release}
 use Rattle.rbd_kinds.specs.declared.layout.Extent.{Extent}
 use Rattle.rbd_kinds.specs.declared.machine.Fed.{Fed}
 use Rattle.rbd_kinds.specs.declared.machine.Fed.TheVariants as fed
@@ -26,15 +26,15 @@ use Rattle.rbd_kinds.specs.declared.reply.Reply.{Reply}
 use Rattle.rbd_machine.specs.Label.{Label}
 use Rattle.rbd_machine.specs.Path.{at_operation}
 use Rattle.rbd_machine.specs.Plan.{Plan, Ask, Await, Note, Return, Goto, Standing, plan_after}
-use Rattle.rbd_session.specs.declared.running.Occupant.{Occupant}
-use Rattle.rbd_session.specs.declared.running.Occupant.TheVariants as occupant
-use Rattle.rbd_session.specs.declared.running.Running.{Running}
-use Rattle.rbd_session.specs.Advance.{track_of, fed_by, GoesFurther, ComesTo, IsSameStand}
-use Rattle.rbd_session.specs.Lines.{LinesView, lines_of}
-use Rattle.rbd_session.specs.OnTrack.{LeavesOthers, IsOnTrack}
-use Rattle.rbd_session.specs.Session.{SessionView, IsAlike, IsAlikeIn, IsFed, ComesToIn, OfRunning, held_in, own_look_at, running_in}
-use Rattle.rbd_session.specs.Track.{Track, run}
-use Rattle.rbd_session.proofs.Readied.{same_track}
+use Rattle.rbd_slots.specs.declared.running.Occupant.{Occupant}
+use Rattle.rbd_slots.specs.declared.running.Occupant.TheVariants as occupant
+use Rattle.rbd_slots.specs.declared.running.Running.{Running}
+use Rattle.rbd_slots.specs.Advance.{track_of, fed_by, GoesFurther, AdvancesTo, IsSameStand}
+use Rattle.rbd_slots.specs.Lines.{LinesView, lines_of}
+use Rattle.rbd_slots.specs.OnTrack.{LeavesOthers, IsOnTrack}
+use Rattle.rbd_slots.specs.Session.{SessionView, IsAlike, IsAlikeIn, IsFed, ComesToIn, OfRunning, held_in, look_under_lock_at, running_in}
+use Rattle.rbd_slots.specs.Track.{Track, run}
+use Rattle.rbd_slots.proofs.Readied.{same_track}
 use Rattle.rbd_site.specs.Log.{SiteLog, records_of}
 use Rattle.rbd_site.specs.Step.{answer_to}
 use Rattle.rbd_world.specs.Run.{Doer}
@@ -57,7 +57,7 @@ module _ {R : Type 0} (stands : R → Standing) where
   }
 
   comes_before : (slot : ℕ) (labels : Label → Plan) (plan : Plan) (t : Track) (result : Option Reply) (r q p : Running R) (lines : LinesView) → IsSameStand stands r q
-      → ComesTo stands slot labels plan t result q p lines → ComesTo stands slot labels plan t result r p lines
+      → AdvancesTo stands slot labels plan t result q p lines → AdvancesTo stands slot labels plan t result r p lines
   comes_before slot labels (Return reply) t result r q p lines same comes = comes
   comes_before slot labels (Ask site why o next) t result r q p lines same comes = further_before slot (record { labels = labels; plan = Ask site why o next }) t result r q p lines same comes
   comes_before slot labels (Await w next) t result r q p lines same comes = further_before slot (record { labels = labels; plan = Await w next }) t result r q p lines same comes
@@ -67,7 +67,7 @@ module _ {R : Type 0} (stands : R → Standing) where
 
   -- or it ends, and nothing is asked of what it was
   ended_before : (slot : ℕ) (labels : Label → Plan) (plan : Plan) (t : Track) (result : Option Reply) (r q : Running R) (lines : LinesView) → IsSome result
-      → ComesTo stands slot labels plan t result q q lines → ComesTo stands slot labels plan t result r r lines
+      → AdvancesTo stands slot labels plan t result q q lines → AdvancesTo stands slot labels plan t result r r lines
   ended_before slot labels (Return reply) t result r q lines ended comes = comes
   ended_before slot labels (Ask site why o next) t result r q lines ended comes = absurd (true≢false (sym ended ∙ ap is_some comes.none))
   ended_before slot labels (Await w next) t result r q lines ended comes = absurd (true≢false (sym ended ∙ ap is_some comes.none))
@@ -79,7 +79,7 @@ module _ {R : Type 0} (stands : R → Standing) where
   module _ (slot : ℕ) (f : Fed) (result : Option Reply) (after : LinesView) where
     -- what comes of a request that stands so
     abbrev Comes : Standing → Option Extent → Track → (old new : Running R) → Type 0
-    Comes s e t o p = ComesTo stands slot s.labels (at_operation s.labels (plan_after s.plan f)) (run slot (plan_after s.plan f) (fed_by slot e t s.plan f)) result o p after
+    Comes s e t o p = AdvancesTo stands slot s.labels (at_operation s.labels (plan_after s.plan f)) (run slot (plan_after s.plan f) (fed_by slot e t s.plan f)) result o p after
 
     comes_so : (r q o p : Running R) (old new : LinesView) → IsSameStand stands r q → lines_of new ≡ lines_of old
         → Comes (stands q.request) q.extent (track_of q new) o p → Comes (stands r.request) r.extent (track_of r old) o p
@@ -112,18 +112,18 @@ module _ {R : Type 0} (stands : R → Standing) where
   -- ---- a client
 
   module _ (slot : ℕ) (s : SiteId) (o : Op) (f : Fed) (result : Option Reply) (c m t : ClientView R) (alike : IsClientAlike stands c m) where
-    same_look : own_look_at stands slot m.session ≡ own_look_at stands slot c.session
+    same_look : look_under_lock_at stands slot m.session ≡ look_under_lock_at stands slot c.session
     same_look = look_alike stands slot c.session m.session alike.session
 
-    same_comings : comings_of (state_in slot m.slots).quiescing (own_look_at stands slot m.session) s o f ≡ comings_of (state_in slot c.slots).quiescing (own_look_at stands slot c.session) s o f
+    same_comings : comings_of (slot_state slot m.slots).quiescing (look_under_lock_at stands slot m.session) s o f ≡ comings_of (slot_state slot c.slots).quiescing (look_under_lock_at stands slot c.session) s o f
     same_comings =
-        ap (λ (xs : List SlotState). comings_of (state_in slot xs).quiescing (own_look_at stands slot m.session) s o f) alike.slots
-        ∙ ap (λ (l : Option ImageAt). comings_of (state_in slot c.slots).quiescing l s o f) same_look
+        ap (λ (xs : List SlotState). comings_of (slot_state slot xs).quiescing (look_under_lock_at stands slot m.session) s o f) alike.slots
+        ∙ ap (λ (l : Option ImageAt). comings_of (slot_state slot c.slots).quiescing l s o f) same_look
 
     -- what is counted is counted from where it was
     counts_before : (old new : List Coming) → new ≡ old → CountsAll new m.locks t.locks → CountsAll old c.locks t.locks
     counts_before old new same counts = λ site image.
-        counts site image ∙ ap (λ (xs : List Coming). after_all xs site image (state_at site image m.locks)) same ∙ ap (after_all old site image) (alike.locks site image)
+        counts site image ∙ ap (λ (xs : List Coming). after_all xs site image (lock_state_at site image m.locks)) same ∙ ap (after_all old site image) (alike.locks site image)
 
     request_before : RequestIsFed stands slot s o f result m t → RequestIsFed stands slot s o f result c t
     request_before is = record {
@@ -131,8 +131,8 @@ module _ {R : Type 0} (stands : R → Standing) where
       counts = counts_before _ _ same_comings is.counts;
       state =
           is.state
-          ∙ ap (λ (l : Option ImageAt). state_behind (is_some result) (is_some l) (state_in slot m.slots)) same_look
-          ∙ ap (λ (xs : List SlotState). state_behind (is_some result) (is_some (own_look_at stands slot c.session)) (state_in slot xs)) alike.slots;
+          ∙ ap (λ (l : Option ImageAt). state_behind (is_some result) (is_some l) (slot_state slot m.slots)) same_look
+          ∙ ap (λ (xs : List SlotState). state_behind (is_some result) (is_some (look_under_lock_at stands slot c.session)) (slot_state slot xs)) alike.slots;
       release = is.release ∙ alike.release;
     }
 
@@ -141,7 +141,7 @@ module _ {R : Type 0} (stands : R → Standing) where
       comes = is.comes;
       session = subst (λ (x : SessionView R). GoesItsWay slot result x t.session) same is.session;
       counts = counts_before (comings_of quiescing.Leaves None s o f) (comings_of quiescing.Leaves None s o f) refl is.counts;
-      state = is.state ∙ ap (λ (xs : List SlotState). state_on_way (is_some result) (state_in slot t.slots).way (state_in slot xs)) alike.slots;
+      state = is.state ∙ ap (λ (xs : List SlotState). state_on_way (is_some result) (slot_state slot t.slots).way (slot_state slot xs)) alike.slots;
       release = is.release ∙ alike.release;
     }
 
@@ -175,7 +175,7 @@ module _ {R : Type 0} (stands : R → Standing) where
       → o ≡ done → f ≡ fed.Answer (answer_to (records_of before) c.session.instance o) → IsClientAlike stands c m → StaysUnlessRequest (actor_at stands slot c) c.session m.session
       → ((other : ℕ) → other ≢ slot → held_in other m.session.slots ≡ held_in other c.session.slots)
       → IsFedBy stands slot s done f result m t (actor_at stands slot m)
-      → ((other : ℕ) → other ≢ slot → (held_in other t.session.slots ≡ held_in other m.session.slots) × (state_in other t.slots ≡ state_in other m.slots))
+      → ((other : ℕ) → other ≢ slot → (held_in other t.session.slots ≡ held_in other m.session.slots) × (slot_state other t.slots ≡ slot_state other m.slots))
       → LeavesOthers slot (lines_of m.session.lines) (lines_of t.session.lines)
       → (t.session.instance ≡ m.session.instance) × (t.session.home ≡ m.session.home) × (t.heard ≡ m.heard)
       → Goes stands slot (operation_at before c.session.instance by s o) result c t
@@ -186,7 +186,7 @@ module _ {R : Type 0} (stands : R → Standing) where
         (subst (λ (x : Op). IsFedBy stands slot s x f result m t (actor_at stands slot c)) (sym same)
         (subst (IsFedBy stands slot s done f result m t) (actor_alike stands slot c m alike) is_fed)));
     slots = λ other differ. (slots other differ).0 ∙ others other differ;
-    states = λ other differ. (slots other differ).1 ∙ ap (state_in other) alike.slots;
+    states = λ other differ. (slots other differ).1 ∙ ap (slot_state other) alike.slots;
     others = subst (λ ls. LeavesOthers slot ls (lines_of t.session.lines)) alike.session.lines lines;
     client = record { instance = who.0 ∙ alike.session.instance; home = who.1 ∙ alike.session.home };
     heard = who.2 ∙ alike.heard;

@@ -3,18 +3,18 @@ use Rattle.std.proofs.Common.{◌≡◌, ◌≢◌, ◌⊎◌, inl, inr, ℕ, tr
 use Rattle.std.proofs.lemmas.Bool.{eq-eqb, ne_eqb}
 use Rattle.std.proofs.lemmas.Option.{none-some, same_Some}
 use Rattle.rbd_client.specs.Client.{ClientView}
-use Rattle.rbd_held.specs.Truth.{IsTrueOf}
+use Rattle.rbd_knowledge.specs.Truth.{IsTrueOf}
 use Rattle.rbd_kinds.specs.declared.id.SiteId.{SiteId}
 use Rattle.rbd_machine.specs.Knowledge.{Knowledge, is_drawn, nothing_known}
 use Rattle.rbd_machine.specs.Plan.{Standing}
-use Rattle.rbd_rely.specs.Beside.{AreBeside}
-use Rattle.rbd_rely.proofs.Together.{beside_mutual}
-use Rattle.rbd_session.specs.Session.{held_in, script_line}
+use Rattle.rbd_interference.specs.Beside.{AreBeside}
+use Rattle.rbd_interference.proofs.Together.{beside_mutual}
+use Rattle.rbd_slots.specs.Session.{held_in, script_line}
 use Rattle.rbd_world.specs.LetGo.{moves_house}
-use Rattle.rbd_world.specs.Order.{IsInOrder, IsInTurn, IsWriterOf}
+use Rattle.rbd_world.specs.Order.{AreWritesInOrder, IsInTurn, IsWriterOf}
 use Rattle.rbd_world.specs.Past.{HadNoHeader}
 use Rattle.rbd_world.specs.Run.{Happening, Sent, sent_after, steps_in}
-use Rattle.rbd_world.specs.Sound.{AreApart, AreInSlots, AreStrangers, Holder, InSlot, Sending, IsDue, IsLiving, IsSoundWorld, MayStillCome, known_in}
+use Rattle.rbd_world.specs.Sound.{AreLinesApart, AreInSlots, AreStrangers, Holder, InSlot, Sending, IsDue, IsLiving, IsSoundWorld, MayStillCome, known_in}
 use Rattle.rbd_world.specs.World.{WorldView, client_in, late_at, records_in}
 use Rattle.rbd_world.proofs.Carried.{HasWholeImages, IsCarried, StandFlat}
 use Rattle.rbd_world.proofs.Changed.{GoesOnAs, IsLifeless, SendsNothing, client_is, clients_stay, late_stays, lives_go_on, living_on, same_or_other}
@@ -85,13 +85,13 @@ module _ {R : Type 0} (stands : R → Standing) (old new : WorldView R) (w : IsS
     pub goes_carries : StandFlat (h ∷ w.told.run) → (due : IsDue w.told.homes h w.told.run) → ((s : SiteId) → HasWholeImages (records_in s new.sites))
         → IsLiving stands (w.told.homes session) session (h ∷ w.told.run) knows_now d
         → ((m : ℕ) (q : ClientView R) → m ≢ session → client_in m old.lives ≡ Some q → (x line : ℕ) → script_line (held_in x q.session.slots) ≡ Some line → IsQuiet line h)
-        → AreApart new.lives → AreInSlots (h ∷ w.told.run) new.lives
+        → AreLinesApart new.lives → AreInSlots (h ∷ w.told.run) new.lives
         → ((s : SiteId) → IsTrueOf s (records_in s new.sites) d.session.instance knows_now d)
         → ((m : ℕ) (q : ClientView R) → m ≢ session → client_in m old.lives ≡ Some q → (s : SiteId) → IsTrueOf s (records_in s new.sites) q.session.instance (known_in w.knows m) q)
         → ((m x : ℕ) (y : Sent) → late_at m x old.lives ≡ Some y → MayStillCome m (λ s. records_in s new.sites) y (w.knows (Sending m x)))
         → IsOwedFor h w.told.run → IsInTurn h w.told.run
         → ((m : ℕ) (q : ClientView R) → m ≢ session → client_in m old.lives ≡ Some q → (other : ℕ) → IsWriterOf q.session.instance other (h ∷ w.told.run) → steps_in other h ≡ [])
-        → IsInOrder stands (w.told.homes session) d.session.instance (h ∷ w.told.run) d.session
+        → AreWritesInOrder stands (w.told.homes session) d.session.instance (h ∷ w.told.run) d.session
         → ((x : ℕ) (s : SiteId) (image : ℕ) → is_drawn (knows_now x).drawn s image ≡ true → HadNoHeader s image w.told.run)
         → ((m : ℕ) (q : ClientView R) → m ≢ session → client_in m old.lives ≡ Some q → (moves_house q.session.instance h ≡ false) × EndsNone q.session.instance h)
         → IsCarried stands old new w h
@@ -118,7 +118,7 @@ module _ {R : Type 0} (stands : R → Standing) (old new : WorldView R) (w : IsS
         owes = owes;
         turn = turn;
         in_order = orders_of stands old new w h due session (clients_stay old new session c d goes) quiet foreign
-            (λ q is. subst (λ (v : ClientView R). IsInOrder stands (w.told.homes session) v.session.instance (h ∷ w.told.run) v.session) (same_Some d q (sym here ∙ is)) order);
+            (λ q is. subst (λ (v : ClientView R). AreWritesInOrder stands (w.told.homes session) v.session.instance (h ∷ w.told.run) v.session) (same_Some d q (sym here ∙ is)) order);
       };
     }
       where

@@ -1,22 +1,22 @@
 -- Where an instance hears a notice: its requests stay, and it counts no lock more.
 use Rattle.std.proofs.Common.{◌≡◌, ◌≢◌, ◌⊎◌, inl, inr, ℕ, true, ◌∷◌, Some, refl, sym, ap, ◌∙◌, subst}
-use Rattle.rbd_client.specs.Client.{ClientView, state_in}
+use Rattle.rbd_client.specs.Client.{ClientView, slot_state}
 use Rattle.rbd_client.specs.Sound.{IsSoundClient}
-use Rattle.rbd_held.specs.Truth.{IsTrueOf}
-use Rattle.rbd_held.proofs.Calls.{heard_is_true}
+use Rattle.rbd_knowledge.specs.Truth.{IsTrueOf}
+use Rattle.rbd_knowledge.proofs.Calls.{heard_is_true}
 use Rattle.rbd_kinds.specs.declared.id.Instance.{Instance}
 use Rattle.rbd_kinds.specs.declared.id.SiteId.{SiteId}
 use Rattle.rbd_kinds.specs.declared.notice.Notice.{Notice}
 use Rattle.rbd_kinds.specs.Instances.{same_instance}
 use Rattle.rbd_kinds.proofs.Instances.{same_instance_is}
-use Rattle.rbd_known.specs.Knowing.{AllKnow}
-use Rattle.rbd_locks.specs.declared.lock_state.LockState.{LockState}
-use Rattle.rbd_locks.specs.Locks.{state_at}
+use Rattle.rbd_knowledge.specs.Knowing.{AllKnow}
+use Rattle.rbd_lock.specs.declared.lock_state.LockState.{LockState}
+use Rattle.rbd_lock.specs.Locks.{lock_state_at}
 use Rattle.rbd_machine.specs.Knowledge.{Knowledge}
 use Rattle.rbd_machine.specs.Plan.{Standing}
-use Rattle.rbd_rely.specs.Beside.{AreBeside}
-use Rattle.rbd_session.specs.Session.{SessionView, held_in, running_at, script_line}
-use Rattle.rbd_watch.specs.Posting.{numbered}
+use Rattle.rbd_interference.specs.Beside.{AreBeside}
+use Rattle.rbd_slots.specs.Session.{SessionView, held_in, running_at, script_line}
+use Rattle.rbd_watch.specs.Posting.{notice_numbered}
 use Rattle.rbd_world.specs.declared.event.Event.TheVariants as event
 use Rattle.rbd_world.specs.LetGo.{release_of}
 use Rattle.rbd_world.specs.Run.{Heard, mail_of}
@@ -24,7 +24,7 @@ use Rattle.rbd_world.specs.Seats.{seat_at}
 use Rattle.rbd_world.specs.Sound.{AreStrangers, HasLearnedIf, Holder, InSlot, IsDelivered, IsHeldRightly, IsLiving, IsRunning, IsSoundWorld, KeepsToItsWay, held_of, known_in, line_at}
 use Rattle.rbd_world.specs.Step.{Does, DoesAtSites, Hears, IsSoundIf}
 use Rattle.rbd_world.specs.Watched.{CountsItsWatches}
-use Rattle.rbd_world.specs.World.{WorldView, client_in, records_in, session_of}
+use Rattle.rbd_world.specs.World.{WorldView, client_in, records_in, session_of_client}
 use Rattle.rbd_world.proofs.Carried.{IsCarried, numbered_is, whole_in}
 use Rattle.rbd_world.proofs.Changed.{GoesOnAs, client_is, client_was, clients_stay, has_become, line_is, living_on, same_or_other}
 use Rattle.rbd_world.proofs.GoesOn.{goes_carries}
@@ -51,9 +51,9 @@ module _ {R : Type 0} (stands : R → Standing) (old new : WorldView R) (w : IsS
 
   -- ---- it is due
 
-  delivered : (number : ℕ) → numbered number old.sites.mail ≡ Some notice → same_instance c.session.instance notice.to ≡ true → IsDelivered notice w.told.run
+  delivered : (number : ℕ) → notice_numbered number old.sites.mail ≡ Some notice → same_instance c.session.instance notice.to ≡ true → IsDelivered notice w.told.run
   delivered number is same = record {
-    posted = ap (λ n. numbered n (mail_of w.told.run)) (numbered_is number old.sites.mail notice is) ∙ ap (numbered number) (sym w.told.mail) ∙ is;
+    posted = ap (λ n. notice_numbered n (mail_of w.told.run)) (numbered_is number old.sites.mail notice is) ∙ ap (notice_numbered number) (sym w.told.mail) ∙ is;
     runs = subst (λ i. IsRunning i w.told.run) (same_instance_is c.session.instance notice.to same) (w.clients session c there).runs;
   }
 
@@ -63,11 +63,11 @@ module _ {R : Type 0} (stands : R → Standing) (old new : WorldView R) (w : IsS
   line_same m x = by (same_or_other m session)
     where
       by : (m ≡ session) ⊎ (m ≢ session) → line_at m x new.lives ≡ line_at m x old.lives
-      by (inr differ) = ap (λ o. script_line (held_of x (session_of o))) (clients_stay old new session c d goes m differ)
+      by (inr differ) = ap (λ o. script_line (held_of x (session_of_client o))) (clients_stay old new session c d goes m differ)
       by (inl same) =
           subst (λ i. line_at i x new.lives ≡ line_at i x old.lives) (sym same)
           (line_is old new session c d goes x ∙ ap (λ (v : SessionView R). script_line (held_in x v.slots)) hears.session
-          ∙ sym (ap (λ o. script_line (held_of x (session_of o))) (client_was old new session c d goes)))
+          ∙ sym (ap (λ o. script_line (held_of x (session_of_client o))) (client_was old new session c d goes)))
 
   living_now : IsSoundClient stands d → IsLiving stands (w.told.homes session) session (Heard notice ∷ w.told.run) knew d
   living_now sound = record {
@@ -78,14 +78,14 @@ module _ {R : Type 0} (stands : R → Standing) (old new : WorldView R) (w : IsS
     know = subst (AllKnow stands knew) (sym hears.session) still.know;
     held = subst (λ (v : SessionView R). (x : ℕ) → IsHeldRightly stands (seat_at w.told.homes session) v.instance (Heard notice ∷ w.told.run) (held_in x v.slots)) (sym hears.session) still.held;
     ways = λ x.
-        subst (λ ss. KeepsToItsWay stands (Heard notice ∷ w.told.run) (state_in x ss).way (running_at x d.session)) (sym hears.slots)
-        (subst (λ (v : SessionView R). KeepsToItsWay stands (Heard notice ∷ w.told.run) (state_in x c.slots).way (running_at x v)) (sym hears.session) (still.ways x));
+        subst (λ ss. KeepsToItsWay stands (Heard notice ∷ w.told.run) (slot_state x ss).way (running_at x d.session)) (sym hears.slots)
+        (subst (λ (v : SessionView R). KeepsToItsWay stands (Heard notice ∷ w.told.run) (slot_state x c.slots).way (running_at x v)) (sym hears.session) (still.ways x));
     learned = λ x. subst (λ (v : SessionView R). HasLearnedIf stands (Heard notice ∷ w.told.run) (running_at x v) (knew x)) (sym hears.session) (still.learned x);
     releases = hears.release ∙ still.releases ∙ ap (λ i. release_of i (Heard notice ∷ w.told.run)) (sym same_who);
     watches =
         subst (λ i. CountsItsWatches i (Heard notice ∷ w.told.run) d) (sym same_who)
         (counts_alike c.session.instance (Heard notice ∷ w.told.run) c d
-        (λ s image. ap (λ (l : LockState). l.watched) (hears.locks s image) ∙ heard_watches notice s image (state_at s image c.locks)) hears.slots still.watches);
+        (λ s image. ap (λ (l : LockState). l.watched) (hears.locks s image) ∙ heard_watches notice s image (lock_state_at s image c.locks)) hears.slots still.watches);
     first = λ x. subst (λ (v : SessionView R). StandsFirstIf (Heard notice ∷ w.told.run) x v.lines (running_at x v)) (sym hears.session) (still.first x);
   }
     where
@@ -116,7 +116,7 @@ module _ {R : Type 0} (stands : R → Standing) (old new : WorldView R) (w : IsS
       (λ x t image drawn. w.new (InSlot session x) t image drawn) (λ m q differ is. (refl, λ s image. refl))
 
 module _ {R : Type 0} (stands : R → Standing) where
-  pub heard_keeps : (old new : WorldView R) (w : IsSoundWorld stands old) (number : ℕ) (notice : Notice) (c : ClientView R) → numbered number old.sites.mail ≡ Some notice
+  pub heard_keeps : (old new : WorldView R) (w : IsSoundWorld stands old) (number : ℕ) (notice : Notice) (c : ClientView R) → notice_numbered number old.sites.mail ≡ Some notice
       → client_in notice.to.session old.lives ≡ Some c → same_instance c.session.instance notice.to ≡ true → Does stands (event.Deliver number) (Heard notice) old new
       → DoesAtSites (Heard notice) old.sites new.sites → ((m : ℕ) → IsSoundIf stands (client_in m new.lives)) → IsCarried stands old new w (Heard notice)
   heard_keeps old new w number notice c is there same does at_sites sound =

@@ -3,9 +3,9 @@
 use Rattle.std.proofs.Common.{◌≡◌, ℕ, ◌&&◌, cond, Bool, true, false, List, [], Option, Some, None, refl, sym, ap, ◌∙◌, subst}
 use Rattle.std.proofs.lemmas.List.{append-nil}
 use Rattle.std.proofs.Math.Bool.{and-false}
-use Rattle.rbd_course.specs.Course.{is_own_at, is_waiting}
-use Rattle.rbd_course.specs.declared.stage.Stage.{Stage}
-use Rattle.rbd_course.specs.declared.stage.Stage.TheVariants as stage
+use Rattle.rbd_machine.specs.Course.{looks_under_lock_at, is_waiting}
+use Rattle.rbd_machine.specs.declared.stage.Stage.{Stage}
+use Rattle.rbd_machine.specs.declared.stage.Stage.TheVariants as stage
 use Rattle.rbd_kinds.specs.declared.answer.Answer.{Answer}
 use Rattle.rbd_kinds.specs.declared.answer.Answer.TheVariants as answer
 use Rattle.rbd_kinds.specs.declared.header_op.HeaderOp.TheVariants as header
@@ -13,20 +13,20 @@ use Rattle.rbd_kinds.specs.declared.id.SiteId.{SiteId}
 use Rattle.rbd_kinds.specs.declared.layout.Extent.{Extent}
 use Rattle.rbd_kinds.specs.declared.operation.Op.{Op}
 use Rattle.rbd_kinds.specs.declared.operation.Op.TheVariants as op
-use Rattle.rbd_line.specs.Line.{Member, member_of, is_member, ahead, holds, is_past, changed, held, passed, without}
-use Rattle.rbd_line.specs.Steady.{IsSteady}
-use Rattle.rbd_line.proofs.Passing.{held_is_steady, passed_is_steady}
+use Rattle.rbd_queue.specs.Line.{Member, member_of, is_member, ahead, holds_ticket, is_past, changed_member, held, passed, without}
+use Rattle.rbd_queue.specs.Steady.{IsSteady}
+use Rattle.rbd_queue.proofs.Passing.{held_is_steady, passed_is_steady}
 use Rattle.rbd_machine.specs.Knowledge.{is_at}
 use Rattle.rbd_machine.specs.Path.{at_operation}
 use Rattle.rbd_machine.specs.Plan.{Plan, Ask, Await, Note, Return, Goto}
 use Rattle.rbd_machine.specs.Wait as wait
 use Rattle.rbd_kinds.specs.declared.image_at.ImageAt.{ImageAt}
-use Rattle.rbd_session.specs.Track.{Track, Lines, answered_by, changed_at, course_of, done_with, ended_by, given, line_in, looked_by, place_in, noted_by, run, waited_by}
-use Rattle.rbd_session.proofs.Track.{changed_here, done_steady, given_steady}
+use Rattle.rbd_slots.specs.Track.{Track, Lines, answered_by, line_changed_at, course_of, done_with, ended_by, given_tickets, line_in, track_looked, place_in, track_noted, run, waited_by}
+use Rattle.rbd_slots.proofs.Track.{changed_here, done_steady, given_steady}
 use Rattle.rbd_world.specs.InLine.{IsPastWithout}
-use Rattle.rbd_requests.specs.InLine.{KeepsTo}
+use Rattle.rbd_catalog.specs.InLine.{KeepsTo}
 use Rattle.rbd_world.proofs.Ahead.{TakesNone, ahead_changed, ahead_left, member_changed, member_left, without_changed}
-use Rattle.rbd_known.proofs.Firsts.{no_more_first}
+use Rattle.rbd_knowledge.proofs.Firsts.{no_more_first}
 
 -- ---- the same members, in the same order
 
@@ -40,28 +40,28 @@ same_lines lines = record { members = λ s i x. refl; ahead = λ s i x y. refl }
 pub same_then : (a b c : Lines) → AreSameMembers a b → AreSameMembers b c → AreSameMembers a c
 same_then a b c one two = record { members = λ s i x. two.members s i x ∙ one.members s i x; ahead = λ s i x y. two.ahead s i x y ∙ one.ahead s i x y }
 
-same_changed : (slot : ℕ) (f : Member → Member) → IsSteady f → (place : Option ImageAt) (lines : Lines) → AreSameMembers lines (changed_at place (changed slot f) lines)
+same_changed : (slot : ℕ) (f : Member → Member) → IsSteady f → (place : Option ImageAt) (lines : Lines) → AreSameMembers lines (line_changed_at place (changed_member slot f) lines)
 same_changed slot f steady None lines = same_lines lines
 same_changed slot f steady (Some p) lines = record {
   members = λ s i x. by_member s i x (is_at p.site p.image s i);
   ahead = λ s i x y. by_ahead s i x y (is_at p.site p.image s i);
 }
   where
-    by_member : (s : SiteId) (i x : ℕ) (b : Bool) → is_member x (cond b (changed slot f (lines s i)) (lines s i)) ≡ is_member x (lines s i)
+    by_member : (s : SiteId) (i x : ℕ) (b : Bool) → is_member x (cond b (changed_member slot f (lines s i)) (lines s i)) ≡ is_member x (lines s i)
     by_member s i x true = member_changed slot f steady x (lines s i)
     by_member s i x false = refl
 
-    by_ahead : (s : SiteId) (i x y : ℕ) (b : Bool) → is_member x (ahead y (cond b (changed slot f (lines s i)) (lines s i))) ≡ is_member x (ahead y (lines s i))
+    by_ahead : (s : SiteId) (i x y : ℕ) (b : Bool) → is_member x (ahead y (cond b (changed_member slot f (lines s i)) (lines s i))) ≡ is_member x (ahead y (lines s i))
     by_ahead s i x y true = ahead_changed slot f steady x y (lines s i)
     by_ahead s i x y false = refl
 
 -- ---- its own tickets
 
 without_here : (slot number : ℕ) (f : Member → Member) → IsSteady f → TakesNone number f → (place : Option ImageAt) (p : ImageAt) → place ≡ Some p → (lines : Lines)
-    → IsPastWithout slot number (lines p.site p.image) → IsPastWithout slot number (changed_at place (changed slot f) lines p.site p.image)
+    → IsPastWithout slot number (lines p.site p.image) → IsPastWithout slot number (line_changed_at place (changed_member slot f) lines p.site p.image)
 without_here slot number f steady takes place p there lines is =
-    subst (λ q. IsPastWithout slot number (changed_at q (changed slot f) lines p.site p.image)) (sym there)
-    (subst (IsPastWithout slot number) (sym (changed_here p (changed slot f) lines)) (without_changed slot number f steady takes (lines p.site p.image) is))
+    subst (λ q. IsPastWithout slot number (line_changed_at q (changed_member slot f) lines p.site p.image)) (sym there)
+    (subst (IsPastWithout slot number) (sym (changed_here p (changed_member slot f) lines)) (without_changed slot number f steady takes (lines p.site p.image) is))
 
 held_takes : (number : ℕ) → TakesNone number held
 held_takes number m past none = (held_is_steady.past m past, none)
@@ -70,10 +70,10 @@ done_takes : (number : ℕ) (turn : Option ℕ) → TakesNone number (done_with 
 done_takes number None m past none = (past, none)
 done_takes number (Some object) m past none = (past, no_more_first number m.objects none)
 
-given_takes : (number : ℕ) (due : List ℕ) → due ≡ [] → TakesNone number (given due)
+given_takes : (number : ℕ) (due : List ℕ) → due ≡ [] → TakesNone number (given_tickets due)
 given_takes number due nothing m past none = (
   past,
-  subst (λ objects. holds number (given objects m) ≡ false) (sym nothing) (subst (λ objects. holds number (record m { objects = objects }) ≡ false) (sym (append-nil m.objects)) none),
+  subst (λ objects. holds_ticket number (given_tickets objects m) ≡ false) (sym nothing) (subst (λ objects. holds_ticket number (record m { objects = objects }) ≡ false) (sym (append-nil m.objects)) none),
 )
 
 -- ---- up to its next operation
@@ -96,7 +96,7 @@ stays_then slot p a b c one two = record {
 -- by a change of its own
 stays_changed : (slot : ℕ) (p : ImageAt) (t : Track) (f : Member → Member) → IsSteady f → t.place ≡ Some p → (turn : Option ℕ) (due : List ℕ) → (t.due ≡ [] → due ≡ [])
     → (t.due ≡ [] → (number : ℕ) → TakesNone number f)
-    → StaysInLine slot p t (record { place = t.place; turn = turn; due = due; lines = changed_at t.place (changed slot f) t.lines })
+    → StaysInLine slot p t (record { place = t.place; turn = turn; due = due; lines = line_changed_at t.place (changed_member slot f) t.lines })
 stays_changed slot p t f steady there turn due none takes = record {
   place = there;
   same = same_changed slot f steady t.place t.lines;
@@ -137,9 +137,9 @@ module _ (slot : ℕ) (p : ImageAt) where
   run_stays (Await (wait.Join s i sharing) next) t there keeps = absurd keeps
   run_stays (Await (wait.Leave s i) next) t there keeps = absurd keeps
   run_stays (Note s i event next) t there keeps =
-      further next (Note s i event next) t (noted_by slot t) (run slot next (noted_by slot t)) refl
-      (stays_changed slot p t (given t.due) (given_steady t.due) there t.turn [] (λ none. refl) (λ none number. given_takes number t.due none))
-      (run_stays next (noted_by slot t) there keeps)
+      further next (Note s i event next) t (track_noted slot t) (run slot next (track_noted slot t)) refl
+      (stays_changed slot p t (given_tickets t.due) (given_steady t.due) there t.turn [] (λ none. refl) (λ none number. given_takes number t.due none))
+      (run_stays next (track_noted slot t) there keeps)
 
   -- ---- an answer
 
@@ -150,36 +150,36 @@ module _ (slot : ℕ) (p : ImageAt) where
 
   -- who is past its look under the lock has no look of its own any more
   not_own : (t : Track) (m : Member) → t.place ≡ Some p → member_of slot (t.lines p.site p.image) ≡ Some m → is_past m.stage ≡ true → (s : SiteId) (i : ℕ)
-      → is_own_at s i (course_of slot t).place ≡ false
+      → looks_under_lock_at s i (course_of slot t).place ≡ false
   not_own t m there found past s i =
-      subst (λ q. is_own_at s i (place_in q (member_of slot (line_in q t.lines))) ≡ false) (sym there)
-      (subst (λ o. is_own_at s i (place_in (Some p) o) ≡ false) (sym found) (ap (λ b. is_at s i p.site p.image && b) (not_waiting m.stage past) ∙ and-false (is_at s i p.site p.image)))
+      subst (λ q. looks_under_lock_at s i (place_in q (member_of slot (line_in q t.lines))) ≡ false) (sym there)
+      (subst (λ o. looks_under_lock_at s i (place_in (Some p) o) ≡ false) (sym found) (ap (λ b. is_at s i p.site p.image && b) (not_waiting m.stage past) ∙ and-false (is_at s i p.site p.image)))
 
   module _ (e : Option Extent) (t : Track) (there : t.place ≡ Some p) where
     past_answered : (m : Member) → member_of slot (t.lines p.site p.image) ≡ Some m → is_past m.stage ≡ true → (s : SiteId) (o : Op) (a : Answer) → answered_by slot e t s o a ≡ t
-    past_answered m found past s (op.Header i header.Get) (answer.Header h) = ap (λ b. cond b (looked_by slot e h t) t) (not_own t m there found past s i)
+    past_answered m found past s (op.Header i header.Get) (answer.Header h) = ap (λ b. cond b (track_looked slot e h t) t) (not_own t m there found past s i)
     past_answered m found past s o a = refl
 
     answered_place : (s : SiteId) (o : Op) (a : Answer) → (answered_by slot e t s o a).place ≡ t.place
-    answered_place s (op.Header i header.Get) (answer.Header h) = by (is_own_at s i (course_of slot t).place)
+    answered_place s (op.Header i header.Get) (answer.Header h) = by (looks_under_lock_at s i (course_of slot t).place)
       where
-        by : (b : Bool) → (cond b (looked_by slot e h t) t).place ≡ t.place
+        by : (b : Bool) → (cond b (track_looked slot e h t) t).place ≡ t.place
         by true = refl
         by false = refl
     answered_place s o a = refl
 
     answered_turn : (s : SiteId) (o : Op) (a : Answer) → (answered_by slot e t s o a).turn ≡ t.turn
-    answered_turn s (op.Header i header.Get) (answer.Header h) = by (is_own_at s i (course_of slot t).place)
+    answered_turn s (op.Header i header.Get) (answer.Header h) = by (looks_under_lock_at s i (course_of slot t).place)
       where
-        by : (b : Bool) → (cond b (looked_by slot e h t) t).turn ≡ t.turn
+        by : (b : Bool) → (cond b (track_looked slot e h t) t).turn ≡ t.turn
         by true = refl
         by false = refl
     answered_turn s o a = refl
 
     answered_same : (s : SiteId) (o : Op) (a : Answer) → AreSameMembers t.lines (answered_by slot e t s o a).lines
-    answered_same s (op.Header i header.Get) (answer.Header h) = by (is_own_at s i (course_of slot t).place)
+    answered_same s (op.Header i header.Get) (answer.Header h) = by (looks_under_lock_at s i (course_of slot t).place)
       where
-        by : (b : Bool) → AreSameMembers t.lines (cond b (looked_by slot e h t) t).lines
+        by : (b : Bool) → AreSameMembers t.lines (cond b (track_looked slot e h t) t).lines
         by true = same_changed slot passed passed_is_steady t.place t.lines
         by false = same_lines t.lines
     answered_same s o a = same_lines t.lines
@@ -211,7 +211,7 @@ module _ (slot : ℕ) (p : ImageAt) where
   pub ended_members : (t : Track) (s : SiteId) (i x : ℕ) → is_member x ((ended_by slot t).lines s i) ≡ true → is_member x (t.lines s i) ≡ true
   ended_members t s i x = go t.place
     where
-      go : (place : Option ImageAt) → is_member x (changed_at place (without slot) t.lines s i) ≡ true → is_member x (t.lines s i) ≡ true
+      go : (place : Option ImageAt) → is_member x (line_changed_at place (without slot) t.lines s i) ≡ true → is_member x (t.lines s i) ≡ true
       go None is = is
       go (Some q) is = by (is_at q.site q.image s i) is
         where
@@ -222,7 +222,7 @@ module _ (slot : ℕ) (p : ImageAt) where
   pub ended_ahead : (t : Track) (s : SiteId) (i x y : ℕ) → (x ≡ slot → ⊥) → (y ≡ slot → ⊥) → is_member x (ahead y (t.lines s i)) ≡ true → is_member x (ahead y ((ended_by slot t).lines s i)) ≡ true
   ended_ahead t s i x y one other is = go t.place
     where
-      go : (place : Option ImageAt) → is_member x (ahead y (changed_at place (without slot) t.lines s i)) ≡ true
+      go : (place : Option ImageAt) → is_member x (ahead y (line_changed_at place (without slot) t.lines s i)) ≡ true
       go None = is
       go (Some q) = by (is_at q.site q.image s i)
         where

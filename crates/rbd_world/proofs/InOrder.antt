@@ -23,14 +23,14 @@ use Rattle.rbd_machine.specs.Path.{at_operation}
 use Rattle.rbd_machine.specs.Plan.{Plan, Ask, Await, Note, Return, Goto, IsAsking, Standing, plan_after}
 use Rattle.rbd_machine.specs.Steps.{find, joining, looking, on_id}
 use Rattle.rbd_machine.specs.declared.reason.Reason.{Reason}
-use Rattle.rbd_session.specs.declared.running.Occupant.{Occupant}
-use Rattle.rbd_session.specs.declared.running.Occupant.TheVariants as occupant
-use Rattle.rbd_session.specs.declared.running.Running.{Running}
-use Rattle.rbd_session.specs.Advance.{ComesTo, GoesFurther, fed_by, track_of}
-use Rattle.rbd_session.specs.Lines.{LinesView, lines_of}
-use Rattle.rbd_session.specs.Session.{SessionView, ComesToIn, held_in, running_at, running_in, script_line}
-use Rattle.rbd_session.specs.Track.{Track, answered_by, ended_by, run}
-use Rattle.rbd_requests.specs.InLine.{IsAtTurn, KeepsTo, ChangesInLine}
+use Rattle.rbd_slots.specs.declared.running.Occupant.{Occupant}
+use Rattle.rbd_slots.specs.declared.running.Occupant.TheVariants as occupant
+use Rattle.rbd_slots.specs.declared.running.Running.{Running}
+use Rattle.rbd_slots.specs.Advance.{AdvancesTo, GoesFurther, fed_by, track_of}
+use Rattle.rbd_slots.specs.Lines.{LinesView, lines_of}
+use Rattle.rbd_slots.specs.Session.{SessionView, ComesToIn, held_in, running_at, running_in, script_line}
+use Rattle.rbd_slots.specs.Track.{Track, answered_by, ended_by, run}
+use Rattle.rbd_catalog.specs.InLine.{IsAtTurn, KeepsTo, ChangesInLine}
 use Rattle.rbd_world.specs.Order.{tells_image, writes_object}
 use Rattle.rbd_world.proofs.KeptAhead.{KeepsAhead, answer_keeps, end_keeps}
 
@@ -39,7 +39,7 @@ use Rattle.rbd_world.proofs.KeptAhead.{KeepsAhead, answer_keeps, end_keeps}
 module _ {R : Type 0} (stands : R → Standing) where
   -- it goes further, and has no reply
   came_further : (slot : ℕ) (labels : Label → Plan) (plan : Plan) (t : Track) (result : Option Reply) (r q : Running R) (lines : LinesView) → result ≡ None
-      → ComesTo stands slot labels plan t result r q lines → GoesFurther stands slot (record { labels = labels; plan = plan }) t result r q lines
+      → AdvancesTo stands slot labels plan t result r q lines → GoesFurther stands slot (record { labels = labels; plan = plan }) t result r q lines
   came_further slot labels (Return reply) t result r q lines none comes = absurd (none-some reply (sym none ∙ comes.reply))
   came_further slot labels (Ask s why o next) t result r q lines none comes = comes
   came_further slot labels (Await w next) t result r q lines none comes = comes
@@ -48,7 +48,7 @@ module _ {R : Type 0} (stands : R → Standing) where
 
   -- it has ended, and has left its line
   came_to_end : (slot : ℕ) (labels : Label → Plan) (plan : Plan) (t : Track) (result : Option Reply) (r q : Running R) (lines : LinesView) → IsSome result
-      → ComesTo stands slot labels plan t result r q lines → lines_of lines ≡ (ended_by slot t).lines
+      → AdvancesTo stands slot labels plan t result r q lines → lines_of lines ≡ (ended_by slot t).lines
   came_to_end slot labels (Return reply) t result r q lines some comes = comes.left
   came_to_end slot labels (Ask s why o next) t result r q lines some comes = absurd (true≢false (sym (subst IsSome comes.none some)))
   came_to_end slot labels (Await w next) t result r q lines some comes = absurd (true≢false (sym (subst IsSome comes.none some)))
@@ -82,11 +82,11 @@ module _ {R : Type 0} (stands : R → Standing) (slot : ℕ) (c d : SessionView 
   came (Some (occupant.Running q)) there comes =
       Further q (ap running_in there)
       (came_further stands slot labels_of (at_operation labels_of (next a)) after result r q d.lines comes.0
-      (subst (λ p. ComesTo stands slot labels_of (at_operation labels_of (plan_after p (fed.Answer a))) (run slot (plan_after p (fed.Answer a)) (fed_by slot r.extent before p (fed.Answer a))) result r q d.lines) asks comes.1))
+      (subst (λ p. AdvancesTo stands slot labels_of (at_operation labels_of (plan_after p (fed.Answer a))) (run slot (plan_after p (fed.Answer a)) (fed_by slot r.extent before p (fed.Answer a))) result r q d.lines) asks comes.1))
   came None there comes =
       Ended (ap running_in there)
       (came_to_end stands slot labels_of (at_operation labels_of (next a)) after result r r d.lines comes.0
-      (subst (λ p. ComesTo stands slot labels_of (at_operation labels_of (plan_after p (fed.Answer a))) (run slot (plan_after p (fed.Answer a)) (fed_by slot r.extent before p (fed.Answer a))) result r r d.lines) asks comes.1))
+      (subst (λ p. AdvancesTo stands slot labels_of (at_operation labels_of (plan_after p (fed.Answer a))) (run slot (plan_after p (fed.Answer a)) (fed_by slot r.extent before p (fed.Answer a))) result r r d.lines) asks comes.1))
   came (Some (occupant.Refused line refusal)) there comes = absurd comes
 
   -- of two other slots the one ahead stays ahead

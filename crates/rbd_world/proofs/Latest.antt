@@ -5,9 +5,9 @@ use Rattle.rbd_kinds.specs.declared.answer.Answer.{Answer}
 use Rattle.rbd_kinds.specs.declared.id.Instance.{Instance}
 use Rattle.rbd_kinds.specs.declared.operation.Op.{Op}
 use Rattle.rbd_site.specs.declared.done.Done.{Done}
-use Rattle.rbd_site.specs.Log.{SiteLog, line_of}
+use Rattle.rbd_site.specs.Log.{SiteLog, log_line}
 use Rattle.rbd_world.specs.Sending.{latest_op, op_in}
-use Rattle.rbd_world.specs.Step.{with_lines}
+use Rattle.rbd_world.specs.Step.{with_log_lines}
 
 one_longer : {T : Type 0} (xs : List T) (x : T) → length (xs ++ x ∷ []) ≡ suc (length xs)
 one_longer [] x = refl
@@ -23,11 +23,11 @@ last_of xs x = ap (slice_get (xs ++ x ∷ [])) (before_last xs x) ∙ there_last
     before_last : {T : Type 0} (xs : List T) (x : T) → length (xs ++ x ∷ []) - 1 ≡ length xs
     before_last xs x = omega (arith, one_longer xs x)
 
-pub latest_of : (log : List Done) (n : ℕ) (who : Instance) (o : Op) (a : Answer) → latest_op (log ++ line_of n who o a ∷ []) ≡ Some o
-latest_of log n who o a = ap op_in (last_of log (line_of n who o a))
+pub latest_of : (log : List Done) (n : ℕ) (who : Instance) (o : Op) (a : Answer) → latest_op (log ++ log_line n who o a ∷ []) ≡ Some o
+latest_of log n who o a = ap op_in (last_of log (log_line n who o a))
 
 -- what is read there is the operation that was logged
-pub same_op : (before behind there : SiteLog) (n : ℕ) (who : Instance) (o : Op) (a : Answer) (log : List Done) (done : Op) → behind ≡ with_lines (line_of n who o a ∷ []) before → there ≡ behind
+pub same_op : (before behind there : SiteLog) (n : ℕ) (who : Instance) (o : Op) (a : Answer) (log : List Done) (done : Op) → behind ≡ with_log_lines (log_line n who o a ∷ []) before → there ≡ behind
     → log ≡ there.log → Some done ≡ latest_op log → o ≡ done
 same_op before behind there n who o a log done logged at is read =
     same_Some o done

@@ -5,29 +5,29 @@ use Rattle.std.proofs.lemmas.Option.{none-some, same_Some}
 use Rattle.std.proofs.Math.Bool.{or-false}
 use Rattle.rbd_client.specs.declared.actor.Actor.{Actor}
 use Rattle.rbd_client.specs.declared.actor.Actor.TheVariants as actor
-use Rattle.rbd_client.specs.Actor.{actor_at, actor_on, due_release, is_acquiring, op_by, op_wanted, releasing}
-use Rattle.rbd_client.specs.Client.{ClientView, state_in}
+use Rattle.rbd_client.specs.Actor.{actor_at, actor_on, due_release, is_acquiring, op_by, op_wanted, release_actor}
+use Rattle.rbd_client.specs.Client.{ClientView, slot_state}
 use Rattle.rbd_client.specs.Sound.{WaitsForLook}
 use Rattle.rbd_client.proofs.OnWay.{is_release, on_way_no_release, way_waits}
 use Rattle.rbd_kinds.specs.declared.id.Instance.{Instance}
 use Rattle.rbd_kinds.specs.declared.id.SiteId.{SiteId}
 use Rattle.rbd_kinds.specs.declared.operation.Op.{Op}
-use Rattle.rbd_known.proofs.Wanting.{Wants, wants}
+use Rattle.rbd_knowledge.proofs.Wanting.{Wants, wants}
 use Rattle.rbd_machine.specs.Knowledge.{Knowledge}
 use Rattle.rbd_machine.specs.Plan.{Standing}
-use Rattle.rbd_owner.specs.Acquire.{op_of}
-use Rattle.rbd_owner.specs.Release.{release_op}
-use Rattle.rbd_owner.specs.declared.acquire.Acquire.{Acquire}
-use Rattle.rbd_owner.specs.declared.release.Release.{Release}
-use Rattle.rbd_session.specs.declared.running.Occupant.{Occupant}
-use Rattle.rbd_session.specs.declared.running.Occupant.TheVariants as occupant
-use Rattle.rbd_session.specs.declared.running.Running.{Running}
-use Rattle.rbd_session.specs.Session.{held_in, is_look_at, kind_asked, own_look_at, running_at, running_in, script_line}
-use Rattle.rbd_world.specs.Run.{Asked, Doer, Itself, OnWay, House, Happening, asked_by, is_among, is_for, steps_of, way_of}
+use Rattle.rbd_lock.specs.Acquire.{op_of}
+use Rattle.rbd_lock.specs.Release.{release_op}
+use Rattle.rbd_lock.specs.declared.acquire.Acquire.{Acquire}
+use Rattle.rbd_lock.specs.declared.release.Release.{Release}
+use Rattle.rbd_slots.specs.declared.running.Occupant.{Occupant}
+use Rattle.rbd_slots.specs.declared.running.Occupant.TheVariants as occupant
+use Rattle.rbd_slots.specs.declared.running.Running.{Running}
+use Rattle.rbd_slots.specs.Session.{held_in, is_look_at, kind_asked, look_under_lock_at, running_at, running_in, script_line}
+use Rattle.rbd_world.specs.Run.{Asked, Doer, Itself, OnWay, House, Happening, asked_by, is_line_among, is_for, steps_of, way_of}
 use Rattle.rbd_world.specs.Seats.{seat_at}
 use Rattle.rbd_world.specs.Sending.{doer_at}
-use Rattle.rbd_world.specs.Sound.{IsHeldRightly, IsLedTo, IsLeft, IsLiving, IsUnderWay, KeepsToItsWay, TakesAlone}
-use Rattle.rbd_world.specs.Ways.{GoesWith, IsNextOfRelease}
+use Rattle.rbd_world.specs.Sound.{IsHeldRightly, IsLedTo, IsStillSent, IsLiving, IsUnderWay, KeepsToItsWay, TakesAlone}
+use Rattle.rbd_world.specs.Ways.{AgreesWithWay, IsNextOfRelease}
 use Rattle.rbd_world.proofs.LetGo.{next_of_release}
 use Rattle.rbd_world.proofs.Watching.{takes_behind_watch, way_watched}
 use Rattle.rbd_world.proofs.Ways.{asks_next, way_acts, way_is_over}
@@ -48,7 +48,7 @@ in_line (Some (occupant.Refused other refusal)) acts line is = absurd (true≢fa
 in_line (Some (occupant.Running r)) acts line is = ap Some (for_line line r.line (is_acquiring acts) is)
 
 module _ {R : Type 0} (stands : R → Standing) (homes : ℕ → SiteId) (session : ℕ) (run : List Happening) (knows : (slot : ℕ) → Knowledge) (c : ClientView R)
-    (living : IsLiving stands (homes session) session run knows c) (lost : List ℕ) (are_lost : (x line : ℕ) → script_line (held_in x c.session.slots) ≡ Some line → is_among line lost ≡ true)
+    (living : IsLiving stands (homes session) session run knows c) (lost : List ℕ) (are_lost : (x line : ℕ) → script_line (held_in x c.session.slots) ≡ Some line → is_line_among line lost ≡ true)
     (alone : (x : ℕ) (r : Running R) → held_in x c.session.slots ≡ Some (occupant.Running r) → (a : Acquire) → actor_at stands x c ≡ actor.Way a → TakesAlone c.session.instance a.site (op_of a) run) where
   abbrev who : Instance
   who = c.session.instance
@@ -69,13 +69,13 @@ module _ {R : Type 0} (stands : R → Standing) (homes : ℕ → SiteId) (sessio
     way : IsUnderWay stands (seat_at homes session) who run r
     way = subst (IsHeldRightly stands (seat_at homes session) who run) holds (living.held x)
 
-    keeps : GoesWith (stands r.request).plan (state_in x c.slots).way (way_of r.line run)
-    keeps = subst (KeepsToItsWay stands run (state_in x c.slots).way) runs (living.ways x)
+    keeps : AgreesWithWay (stands r.request).plan (slot_state x c.slots).way (way_of r.line run)
+    keeps = subst (KeepsToItsWay stands run (slot_state x c.slots).way) runs (living.ways x)
 
     is_mine : (asked : Asked) → asked_by r.line run ≡ Some asked → who ≡ asked.who
     is_mine asked is = sym (ap (λ (a : Asked). a.who) (same_Some asked way.begun.asked (sym is ∙ way.begun.is)) ∙ way.mine)
 
-    is_lost : is_among r.line lost ≡ true
+    is_lost : is_line_among r.line lost ≡ true
     is_lost = are_lost x r.line (ap script_line holds)
 
     led_there : IsLedTo (seat_at homes way.begun.asked.who.session) way.begun.asked.command (steps_of r.line run) (stands r.request).plan
@@ -85,7 +85,7 @@ module _ {R : Type 0} (stands : R → Standing) (homes : ℕ → SiteId) (sessio
 
     -- it acts itself
     itself : (s : SiteId) (o : Op) (w : Wants stands x c.session.lines s o (held_in x c.session.slots)) → w.request ≡ r → actor_at stands x c ≡ actor.Request
-        → IsLeft homes who lost x s o (Itself r.line) run
+        → IsStillSent homes who lost x s o (Itself r.line) run
     itself s o w same acts = record {
       wanted = (
         is_lost,
@@ -107,7 +107,7 @@ module _ {R : Type 0} (stands : R → Standing) (homes : ℕ → SiteId) (sessio
       waiting : WaitsForLook stands x a.site a.image c.session
       waiting = way_waits stands x c a living.sound acts
 
-      on_way : IsLeft homes who lost x a.site (op_of a) (OnWay r.line) run
+      on_way : IsStillSent homes who lost x a.site (op_of a) (OnWay r.line) run
       on_way = record {
         wanted = (
           is_lost,
@@ -135,13 +135,13 @@ module _ {R : Type 0} (stands : R → Standing) (homes : ℕ → SiteId) (sessio
         by : (b : Bool) → (x == 0) ≡ b → x ≡ 0
         by true is = eqb-true x 0 is
         by false is =
-            absurd (true≢false (sym (ap is_release acts) ∙ ap (λ b. is_release (cond b (releasing c.release (due_release c)) (actor_on (state_in x c.slots).way (own_look_at stands x c.session) c.locks))) is
-            ∙ on_way_no_release (state_in x c.slots).way (own_look_at stands x c.session) c.locks))
+            absurd (true≢false (sym (ap is_release acts) ∙ ap (λ b. is_release (cond b (release_actor c.release (due_release c)) (actor_on (slot_state x c.slots).way (look_under_lock_at stands x c.session) c.locks))) is
+            ∙ on_way_no_release (slot_state x c.slots).way (look_under_lock_at stands x c.session) c.locks))
 
     is_free : held_in x c.session.slots ≡ None
     is_free = ap (λ n. held_in n c.session.slots) at_zero ∙ living.sound.session.zero
 
-    of_house : IsLeft homes who lost x z.site (release_op z) House run
+    of_house : IsStillSent homes who lost x z.site (release_op z) House run
     of_house = record {
       wanted = at_zero;
       whose = living.runs;
@@ -151,7 +151,7 @@ module _ {R : Type 0} (stands : R → Standing) (homes : ℕ → SiteId) (sessio
   -- ---- what a slot wanted
 
   abbrev Left : (x : ℕ) → SiteId × Op → Doer → Type 0
-  Left x p by = IsLeft homes who lost x p.0 p.1 by run
+  Left x p by = IsStillSent homes who lost x p.0 p.1 by run
 
   by_request : (x : ℕ) (p : SiteId × Op) → actor_at stands x c ≡ actor.Request → Wants stands x c.session.lines p.0 p.1 (held_in x c.session.slots)
       → Left x p (doer_in (held_in x c.session.slots) actor.Request)
@@ -166,7 +166,7 @@ module _ {R : Type 0} (stands : R → Standing) (homes : ℕ → SiteId) (sessio
   by_house : (x : ℕ) (z : Release) → actor_at stands x c ≡ actor.Release z → Left x (z.site, release_op z) (doer_in (held_in x c.session.slots) (actor.Release z))
   by_house x z acts = subst (λ h. Left x (z.site, release_op z) (doer_in h (actor.Release z))) (sym (is_free x z acts)) (of_house x z acts)
 
-  pub left_of : (x : ℕ) (p : SiteId × Op) → op_wanted stands x c ≡ Some p → IsLeft homes who lost x p.0 p.1 (for_whom x) run
+  pub left_of : (x : ℕ) (p : SiteId × Op) → op_wanted stands x c ≡ Some p → IsStillSent homes who lost x p.0 p.1 (for_whom x) run
   left_of x p is = by (actor_at stands x c) refl is
     where
       by : (m : Actor) → actor_at stands x c ≡ m → op_by stands x c.session m ≡ Some p → Left x p (doer_in (held_in x c.session.slots) m)

@@ -4,7 +4,7 @@ use Rattle.std.proofs.Common.{◌≡◌, ◌≢◌, ℕ, ◌&&◌, inl, Bool, tr
 use Rattle.std.proofs.lemmas.Bool.{true≢false, and_right}
 use Rattle.rbd_client.specs.declared.actor.Actor.{Actor}
 use Rattle.rbd_client.specs.declared.actor.Actor.TheVariants as actor
-use Rattle.rbd_client.specs.Actor.{actor_at, due_release, releasing}
+use Rattle.rbd_client.specs.Actor.{actor_at, due_release, release_actor}
 use Rattle.rbd_client.specs.Client.{ClientView}
 use Rattle.rbd_client.proofs.OnWay.{is_release, released_at_zero}
 use Rattle.rbd_kinds.specs.declared.answer.Answer.{Answer}
@@ -16,10 +16,10 @@ use Rattle.rbd_kinds.specs.declared.reply.Reply.{Reply}
 use Rattle.rbd_kinds.specs.Instances.{same_instance}
 use Rattle.rbd_kinds.proofs.Instances.{same_instance_is, same_instance_itself}
 use Rattle.rbd_machine.specs.Plan.{Standing}
-use Rattle.rbd_owner.specs.Release.{begun_release, release_after, release_behind, release_op, release_op_at}
-use Rattle.rbd_owner.specs.declared.release.Release.{Release}
-use Rattle.rbd_owner.specs.declared.release.Stage.{Stage}
-use Rattle.rbd_owner.specs.declared.release.Stage.TheVariants as stage
+use Rattle.rbd_lock.specs.Release.{begun_release, release_after, release_behind, release_op, release_op_at}
+use Rattle.rbd_lock.specs.declared.release.Release.{Release}
+use Rattle.rbd_lock.specs.declared.release.Stage.{Stage}
+use Rattle.rbd_lock.specs.declared.release.Stage.TheVariants as stage
 use Rattle.rbd_world.specs.LetGo.{is_house, left_by, moves_house, release_left, release_of}
 use Rattle.rbd_world.specs.Run.{House, Happening, Did, Operation}
 use Rattle.rbd_world.specs.Ways.{IsNextOfRelease, IsOfRelease}
@@ -71,7 +71,7 @@ module _ {R : Type 0} (stands : R → Standing) where
   pub next_of_release : (slot : ℕ) (c : ClientView R) (x : Release) → actor_at stands slot c ≡ actor.Release x → IsNextOfRelease c.release x.site (release_op x)
   next_of_release slot c x acts = by c.release (due_release c) (released_at_zero stands c slot x acts)
     where
-      by : (o : Option Release) (due : Option ImageAt) → releasing o due ≡ actor.Release x → IsNextOfRelease o x.site (release_op x)
+      by : (o : Option Release) (due : Option ImageAt) → release_actor o due ≡ actor.Release x → IsNextOfRelease o x.site (release_op x)
       by (Some r) due is = let same : r ≡ x = ap (release_or x) is in (ap (λ (q : Release). q.site) (sym same), ap release_op (sym same))
       by None (Some p) is = let same : begun_release p.site p.image ≡ x = ap (release_or x) is in record { image = p.image; is = ap release_op (sym same) }
       by None None is = absurd (true≢false (sym (ap is_release is)))

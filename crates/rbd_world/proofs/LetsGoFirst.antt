@@ -3,7 +3,7 @@
 use Rattle.std.proofs.Common.{◌≡◌, ℕ, ◌||◌, Bool, true, false, List, [], ◌∷◌, Option, refl, sym, ◌∙◌, subst}
 use Rattle.std.proofs.lemmas.Bool.{true≢false}
 use Rattle.std.proofs.Math.Bool.{or-false}
-use Rattle.rbd_close.specs.Close.{close, joining, on_dropped, unwatching}
+use Rattle.rbd_session.specs.Close.{close, joining, on_dropped, unwatching}
 use Rattle.rbd_commands.specs.declared.command.Command.{Command}
 use Rattle.rbd_commands.specs.declared.command.Command.TheVariants as command
 use Rattle.rbd_kinds.specs.declared.answer.Answer.{Answer}
@@ -22,19 +22,19 @@ use Rattle.rbd_kinds.specs.OperationKind.{kind_of}
 use Rattle.rbd_kinds.specs.declared.reply.Reply.TheVariants as reply
 use Rattle.rbd_machine.specs.Label.{Label}
 use Rattle.rbd_machine.specs.Path.{Answered, IsWalk}
-use Rattle.rbd_machine.specs.Plan.{Plan, Ask, Await, Note, Return, Goto, Standing, settled}
+use Rattle.rbd_machine.specs.Plan.{Plan, Ask, Await, Note, Return, Goto, Standing, past_label}
 use Rattle.rbd_machine.specs.declared.seat.Seat.{Seat}
-use Rattle.rbd_owner.specs.Steps.{released_lock}
-use Rattle.rbd_requests.specs.Asking.{IsNoLook}
-use Rattle.rbd_requests.specs.Follows.{Follows, FollowsFrom, Noted, Outside, Progress, behind}
-use Rattle.rbd_requests.specs.Profile.{Profile, has_none_of, profile}
-use Rattle.rbd_requests.specs.EachRequest.{same_some}
-use Rattle.rbd_requests.proofs.Consequences.{is_none}
-use Rattle.rbd_requests.proofs.FollowsAll.{command_follows}
-use Rattle.rbd_requests.specs.Plans.{IsPlanFor}
-use Rattle.rbd_requests.proofs.PlanSteps.{at_done, at_id, at_not_there}
-use Rattle.rbd_session.specs.Track.{Track, answered_by, run}
-use Rattle.rbd_world.specs.Closes.{has_let_go, lets_go}
+use Rattle.rbd_lock.specs.Steps.{released_lock}
+use Rattle.rbd_catalog.specs.Asking.{IsNoLook}
+use Rattle.rbd_catalog.specs.Follows.{Follows, FollowsFrom, Noted, Outside, Progress, behind}
+use Rattle.rbd_catalog.specs.Profile.{Profile, has_none_of, profile}
+use Rattle.rbd_catalog.specs.EachRequest.{same_some}
+use Rattle.rbd_catalog.proofs.Consequences.{is_none}
+use Rattle.rbd_catalog.proofs.FollowsAll.{command_follows}
+use Rattle.rbd_catalog.specs.Plans.{IsPlanFor}
+use Rattle.rbd_catalog.proofs.PlanSteps.{at_done, at_id, at_not_there}
+use Rattle.rbd_slots.specs.Track.{Track, answered_by, run}
+use Rattle.rbd_world.specs.Closes.{has_let_go, lets_lock_go}
 
 -- ---- operations
 
@@ -45,13 +45,13 @@ lets_some_go kind.Unwatch = true
 lets_some_go k = false
 
 -- who leaves locks and watches alone lets none go
-leaves_lets_none : (there : SiteId) (o : Op) (a : Answer) (s : SiteId) (image : ℕ) → lets_some_go (kind_of o) ≡ false → lets_go there o a s image ≡ false
+leaves_lets_none : (there : SiteId) (o : Op) (a : Answer) (s : SiteId) (image : ℕ) → lets_some_go (kind_of o) ≡ false → lets_lock_go there o a s image ≡ false
 leaves_lets_none there (op.Header on header.LockDrop) a s image leaves = absurd (true≢false leaves)
 leaves_lets_none there (op.Header on o) a s image leaves = refl
 leaves_lets_none there o a s image leaves = refl
 
 -- and who lets one go looks at no header
-pub lets_go_blind : (there : SiteId) (o : Op) (a : Answer) (s : SiteId) (image : ℕ) → lets_go there o a s image ≡ true → IsNoLook o
+pub lets_go_blind : (there : SiteId) (o : Op) (a : Answer) (s : SiteId) (image : ℕ) → lets_lock_go there o a s image ≡ true → IsNoLook o
 lets_go_blind there (op.Header on header.Get) a s image lets = absurd (true≢false (sym lets))
 lets_go_blind there (op.Header on o) a s image lets = tt
 lets_go_blind there o a s image lets = tt
@@ -69,7 +69,7 @@ module _ (s : SiteId) (image : ℕ) where
   LooksBefore false o = Unit {0}
 
   abbrev pub LetsGoFirst : (gone : Bool) → Plan → Type 0
-  LetsGoFirst gone (Ask there why o next) = (UnwatchesBehind gone there o × LooksBefore gone o) × ((a : Answer) → LetsGoFirst (lets_go there o a s image || gone) (next a))
+  LetsGoFirst gone (Ask there why o next) = (UnwatchesBehind gone there o × LooksBefore gone o) × ((a : Answer) → LetsGoFirst (lets_lock_go there o a s image || gone) (next a))
   LetsGoFirst gone (Await wait next) = (gone ≡ false) × LetsGoFirst gone next
   LetsGoFirst gone (Note site on event next) = (gone ≡ false) × LetsGoFirst gone next
   LetsGoFirst gone (Return reply) = Unit {0}
@@ -104,7 +104,7 @@ module _ (s : SiteId) (image : ℕ) where
     unwatching_first : (gone : Bool) → (is_at site on s image ≡ true → gone ≡ true) → LetsGoFirst gone (unwatching site on)
     unwatching_first gone freed = ((freed, looks_before gone (op.Header on header.Unwatch) tt), λ a. at_done (LetsGoFirst gone) (λ r. tt) (Return reply.Done) tt a)
 
-    dropped_first : (a : Answer) → LetsGoFirst (lets_go site (op.Header on header.LockDrop) a s image || false) (on_dropped site on a)
+    dropped_first : (a : Answer) → LetsGoFirst (lets_lock_go site (op.Header on header.LockDrop) a s image || false) (on_dropped site on a)
     dropped_first answer.Done =
         let gone : Bool = is_at site on s image || false in
         ((tt, looks_before gone (released_lock on) tt), λ a. at_done (LetsGoFirst gone) (λ r. tt) (unwatching site on) (unwatching_first gone (λ at. or-false (is_at site on s image) ∙ at)) a)
@@ -135,7 +135,7 @@ module _ (s : SiteId) (image : ℕ) where
   -- ---- along a walk
 
   module _ (labels : Label → Plan) (there : (label : Label) → LetsGoFirst false (labels label)) where
-    first_settled : (gone : Bool) (plan : Plan) → LetsGoFirst gone plan → LetsGoFirst gone (settled labels plan)
+    first_settled : (gone : Bool) (plan : Plan) → LetsGoFirst gone plan → LetsGoFirst gone (past_label labels plan)
     first_settled gone (Goto label) none = subst (λ b. LetsGoFirst b (labels label)) (sym none) (there label)
     first_settled gone (Ask site why o next) first = first
     first_settled gone (Await wait next) first = first
@@ -152,14 +152,14 @@ module _ (s : SiteId) (image : ℕ) where
     first_along gone plan [] steps last first walk =
         subst (λ xs. LetsGoFirst (has_let_go s image xs || gone) last) (sym walk.0) (subst (LetsGoFirst gone) (sym walk.1) first)
     first_along gone (Ask site why o next) (fed.Answer a ∷ more) steps last first walk =
-        let lets = lets_go site o a s image in
+        let lets = lets_lock_go site o a s image in
         subst (λ xs. LetsGoFirst (has_let_go s image xs || gone) last) (sym walk.0.is)
         (subst (λ b. LetsGoFirst b last) (or_moved lets (has_let_go s image walk.0.rest) gone)
-        (first_along (lets || gone) (settled labels (next a)) more walk.0.rest last (first_settled (lets || gone) (next a) (first.1 a)) walk.1))
+        (first_along (lets || gone) (past_label labels (next a)) more walk.0.rest last (first_settled (lets || gone) (next a) (first.1 a)) walk.1))
     first_along gone (Ask site why o next) (fed.Passed ∷ more) steps last first walk = absurd walk
-    first_along gone (Await wait next) (fed.Passed ∷ more) steps last first walk = first_along gone (settled labels next) more steps last (first_settled gone next first.1) walk
+    first_along gone (Await wait next) (fed.Passed ∷ more) steps last first walk = first_along gone (past_label labels next) more steps last (first_settled gone next first.1) walk
     first_along gone (Await wait next) (fed.Answer a ∷ more) steps last first walk = absurd walk
-    first_along gone (Note site on event next) (fed.Passed ∷ more) steps last first walk = first_along gone (settled labels next) more steps last (first_settled gone next first.1) walk
+    first_along gone (Note site on event next) (fed.Passed ∷ more) steps last first walk = first_along gone (past_label labels next) more steps last (first_settled gone next first.1) walk
     first_along gone (Note site on event next) (fed.Answer a ∷ more) steps last first walk = absurd walk
     first_along gone (Return reply) (f ∷ more) steps last first walk = absurd walk
     first_along gone (Goto label) (f ∷ more) steps last first walk = absurd walk

@@ -7,34 +7,34 @@ use Rattle.rbd_client.specs.declared.slot_state.Way.TheVariants as way
 use Rattle.rbd_client.specs.Client.{ClientView}
 use Rattle.rbd_commands.specs.declared.command.Command.{Command}
 use Rattle.rbd_commands.specs.Quiescing.{quiescing_of}
-use Rattle.rbd_held.specs.Truth.{IsTrueOf}
-use Rattle.rbd_held.proofs.Calls.{submitted_is_true}
+use Rattle.rbd_knowledge.specs.Truth.{IsTrueOf}
+use Rattle.rbd_knowledge.proofs.Calls.{submitted_is_true}
 use Rattle.rbd_kinds.specs.declared.id.Instance.{Instance}
 use Rattle.rbd_kinds.specs.declared.id.SiteId.{SiteId}
-use Rattle.rbd_known.specs.Knowing.{KnowsIn}
-use Rattle.rbd_known.proofs.Calmly.{look_is_calm}
-use Rattle.rbd_known.proofs.Newcomers.{newcomer_knows}
+use Rattle.rbd_knowledge.specs.Knowing.{KnowsIn}
+use Rattle.rbd_knowledge.proofs.Calmly.{look_is_calm}
+use Rattle.rbd_knowledge.proofs.Newcomers.{newcomer_knows}
 use Rattle.rbd_machine.specs.Knowledge.{Knowledge, nothing_known}
 use Rattle.rbd_machine.specs.Plan.{Standing}
 use Rattle.rbd_machine.specs.Refused.{AreGiven}
-use Rattle.rbd_rely.specs.Beside.{AreBeside}
-use Rattle.rbd_requests.specs.CommandsLawful.{command_is_lawful}
-use Rattle.rbd_requests.specs.Plans.{IsPlanFor, is_built}
-use Rattle.rbd_requests.specs.Profile.{changed_extent}
-use Rattle.rbd_requests.proofs.Plans.{has_plan}
-use Rattle.rbd_session.specs.declared.running.Occupant.{Occupant}
-use Rattle.rbd_session.specs.declared.running.Occupant.TheVariants as occupant
-use Rattle.rbd_session.specs.Lines.{LinesView, lines_of}
-use Rattle.rbd_session.specs.Session.{IsNewcomer, held_in, running_at, running_in, script_line}
+use Rattle.rbd_interference.specs.Beside.{AreBeside}
+use Rattle.rbd_catalog.specs.CommandsLawful.{command_is_lawful}
+use Rattle.rbd_catalog.specs.Plans.{IsPlanFor, is_built}
+use Rattle.rbd_catalog.specs.Profile.{changed_extent}
+use Rattle.rbd_catalog.proofs.Plans.{has_plan}
+use Rattle.rbd_slots.specs.declared.running.Occupant.{Occupant}
+use Rattle.rbd_slots.specs.declared.running.Occupant.TheVariants as occupant
+use Rattle.rbd_slots.specs.Lines.{LinesView, lines_of}
+use Rattle.rbd_slots.specs.Session.{IsNewcomer, held_in, running_at, running_in, script_line}
 use Rattle.rbd_world.specs.declared.event.Event.TheVariants as event
-use Rattle.rbd_world.specs.Order.{IsInOrder}
+use Rattle.rbd_world.specs.Order.{AreWritesInOrder}
 use Rattle.rbd_world.specs.Run.{Asked, Happening, Began, asked_by, steps_of, way_of}
 use Rattle.rbd_machine.specs.Standalone.{TellAllStandalone}
 use Rattle.rbd_machine.specs.declared.seat.Seat.{Seat}
 use Rattle.rbd_world.specs.Seats.{seat_at, seat_of_home}
-use Rattle.rbd_world.specs.Sound.{AreApart, InSlot, Sending, IsBegin, IsHeldRightly, IsInSlot, IsLiving, IsOpen, IsSoundWorld, KeepsToItsWay, has_ended, held_of, known_in, line_at, HasLearnedIf}
+use Rattle.rbd_world.specs.Sound.{AreLinesApart, InSlot, Sending, IsBegin, IsHeldRightly, IsInSlot, IsLiving, IsOpen, IsSoundWorld, KeepsToItsWay, has_ended, held_of, known_in, line_at, HasLearnedIf}
 use Rattle.rbd_world.specs.Step.{Begins, BeginsIn, Does, DoesAtSites, IsSoundIf, begins_of, is_begun}
-use Rattle.rbd_world.specs.World.{WorldView, client_in, records_in, session_of}
+use Rattle.rbd_world.specs.World.{WorldView, client_in, records_in, session_of_client}
 use Rattle.rbd_world.proofs.Carried.{IsCarried, whole_in}
 use Rattle.rbd_world.proofs.Changed.{GoesOnAs, IsElsewhere, all_but, client_is, has_become, here_or_elsewhere, line_elsewhere, line_is, living_of, open_there}
 use Rattle.rbd_world.proofs.GoesOn.{goes_carries}
@@ -193,7 +193,7 @@ module _ {R : Type 0} (stands : R → Standing) (old new : WorldView R) (w : IsS
     abbrev Where : (m x : ℕ) → Type 0
     Where m x = ((m ≡ session) × (x ≡ lowest)) ⊎ IsElsewhere session lowest m x
 
-    begun_apart : AreApart new.lives
+    begun_apart : AreLinesApart new.lives
     begun_apart l m x o y one two = by (here_or_elsewhere session lowest m x) (here_or_elsewhere session lowest o y)
       where
         elsewhere : (m x : ℕ) → IsElsewhere session lowest m x → line_at m x new.lives ≡ Some l → line_at m x old.lives ≡ Some l
@@ -219,12 +219,12 @@ module _ {R : Type 0} (stands : R → Standing) (old new : WorldView R) (w : IsS
         (w.slots l (open_back l does_begin w.told.run (quiet_began l is_asked lowest other) now))
 
     quiet : (x other : ℕ) → script_line (held_in x c.session.slots) ≡ Some other → IsQuiet other does_begin
-    quiet x other is = quiet_began other is_asked lowest (ne_eqb line other (differs session x other (ap (λ o. script_line (held_of x (session_of o))) there ∙ is)))
+    quiet x other is = quiet_began other is_asked lowest (ne_eqb line other (differs session x other (ap (λ o. script_line (held_of x (session_of_client o))) there ∙ is)))
 
     quiet_others : (m : ℕ) (q : ClientView R) → m ≢ session → client_in m old.lives ≡ Some q → (x other : ℕ) → script_line (held_in x q.session.slots) ≡ Some other → IsQuiet other does_begin
-    quiet_others m q apart at x other is = quiet_began other is_asked lowest (ne_eqb line other (differs m x other (ap (λ o. script_line (held_of x (session_of o))) at ∙ is)))
+    quiet_others m q apart at x other is = quiet_began other is_asked lowest (ne_eqb line other (differs m x other (ap (λ o. script_line (held_of x (session_of_client o))) at ∙ is)))
 
-    order_then : (o : Option (Occupant R)) → held_in lowest d.session.slots ≡ o → IsNew o → IsInOrder stands home me (does_begin ∷ w.told.run) c.session → IsInOrder stands home me (does_begin ∷ w.told.run) d.session
+    order_then : (o : Option (Occupant R)) → held_in lowest d.session.slots ≡ o → IsNew o → AreWritesInOrder stands home me (does_begin ∷ w.told.run) c.session → AreWritesInOrder stands home me (does_begin ∷ w.told.run) d.session
     order_then None at is keeps = absurd is
     order_then (Some (occupant.Refused number refusal)) at is keeps =
         freed_order stands home me (does_begin ∷ w.told.run) lowest c.session d.session begins.slots begins.lines (ap running_in at) keeps
@@ -255,7 +255,7 @@ module _ {R : Type 0} (stands : R → Standing) (old new : WorldView R) (w : IsS
         (λ m q apart is s. (stays s).clients q.session.instance (known_in w.knows m) q (w.truth m q is s))
         (λ m x y is. still_may_come stands old new w (λ s. records_in s new.sites) stays m y (w.knows (Sending m x)) ((w.sending m x y is).1))
         tt tt (λ m q apart is other writer. refl)
-        (subst (λ i. IsInOrder stands home i (does_begin ∷ w.told.run) d.session) (sym begins.client.instance)
+        (subst (λ i. AreWritesInOrder stands home i (does_begin ∷ w.told.run) d.session) (sym begins.client.instance)
         (order_then (held_in lowest d.session.slots) refl is_new
         (order_beside stands old new w does_begin due home me lowest c.session (λ x other apart is. quiet x other is) (ap running_in living.sound.session.lowest.free) (λ other writer. refl)
         (w.in_order session c there))))

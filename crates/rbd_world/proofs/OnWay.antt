@@ -6,7 +6,7 @@ use Rattle.std.proofs.lemmas.List.{append-nil}
 use Rattle.std.proofs.lemmas.Option.{none-some, same_Some}
 use Rattle.rbd_client.specs.declared.actor.Actor.TheVariants as actor
 use Rattle.rbd_client.specs.Actor.{actor_at, op_by, op_wanted}
-use Rattle.rbd_client.specs.Client.{ClientView, state_in}
+use Rattle.rbd_client.specs.Client.{ClientView, slot_state}
 use Rattle.rbd_client.specs.Feeding.{GoesItsWay, IsFedBy, WayComesTo, WayIsFed}
 use Rattle.rbd_client.specs.Sound.{WaitsForLook}
 use Rattle.rbd_client.proofs.OnWay.{way_waits}
@@ -16,24 +16,24 @@ use Rattle.rbd_kinds.specs.declared.id.SiteId.{SiteId}
 use Rattle.rbd_kinds.specs.declared.machine.Fed.TheVariants as fed
 use Rattle.rbd_kinds.specs.declared.reply.Reply.{Reply}
 use Rattle.rbd_kinds.specs.declared.reply.Reply.TheVariants as reply
-use Rattle.rbd_held.specs.Knowing.{knows_fed, plan_of}
-use Rattle.rbd_known.specs.Knowing.{unless_ended}
+use Rattle.rbd_knowledge.specs.ClientsKnowing.{knows_fed, plan_in_slot}
+use Rattle.rbd_knowledge.specs.Knowing.{unless_ended}
 use Rattle.rbd_machine.specs.Plan.{Return, Standing}
 use Rattle.rbd_machine.specs.Refused.{IsGiven}
-use Rattle.rbd_owner.specs.Acquire.{op_of, rest_of_acquire}
-use Rattle.rbd_owner.specs.declared.acquire.Acquire.{Acquire}
-use Rattle.rbd_session.specs.declared.running.Occupant.TheVariants as occupant
-use Rattle.rbd_session.specs.declared.running.Running.{Running}
-use Rattle.rbd_session.specs.Session.{SessionView, held_in, is_look_at, kind_asked, running_at, running_in, script_line}
+use Rattle.rbd_lock.specs.Acquire.{op_of, rest_of_acquire}
+use Rattle.rbd_lock.specs.declared.acquire.Acquire.{Acquire}
+use Rattle.rbd_slots.specs.declared.running.Occupant.TheVariants as occupant
+use Rattle.rbd_slots.specs.declared.running.Running.{Running}
+use Rattle.rbd_slots.specs.Session.{SessionView, held_in, is_look_at, kind_asked, running_at, running_in, script_line}
 use Rattle.rbd_site.specs.Step.{answer_to}
 use Rattle.rbd_world.specs.declared.event.Event.TheVariants as event
-use Rattle.rbd_world.specs.Order.{IsInOrder}
+use Rattle.rbd_world.specs.Order.{AreWritesInOrder}
 use Rattle.rbd_world.specs.Run.{Asked, OnWay, Happening, Did, Operation, asked_by, ends, step_of, steps_of, way_of}
 use Rattle.rbd_world.specs.Seats.{seat_at}
-use Rattle.rbd_world.specs.Sound.{IsDone, IsDue, IsHeldRightly, IsInSlot, IsLedTo, IsLiving, IsOpen, IsSoundWorld, IsUnderWay, KeepsToItsWay, StandsAtLook, has_ended, held_of, known_in, HasLearned, HasLearnedIf, TakesAlone}
+use Rattle.rbd_world.specs.Sound.{IsRightlyDone, IsDue, IsHeldRightly, IsInSlot, IsLedTo, IsLiving, IsOpen, IsSoundWorld, IsUnderWay, KeepsToItsWay, StandsAtLook, has_ended, held_of, known_in, HasLearned, HasLearnedIf, TakesAlone}
 use Rattle.rbd_world.specs.Step.{Does, DoesAtSites, Goes, IsSoundIf, operation_at, reply_on_way}
-use Rattle.rbd_world.specs.Ways.{GoesWith, IsWayThere}
-use Rattle.rbd_world.specs.World.{WorldView, client_in, records_in, session_of, site_in}
+use Rattle.rbd_world.specs.Ways.{AgreesWithWay, IsWayThere}
+use Rattle.rbd_world.specs.World.{WorldView, client_in, records_in, session_of_client, site_in}
 use Rattle.rbd_world.proofs.Acting.{all_know, beside_now, beside_of_others, can, done_so, knows_now, sending_now, standing, truth_now, truth_of_others, whole, new_now, others_know}
 use Rattle.rbd_world.proofs.Carried.{IsCarried}
 use Rattle.rbd_world.proofs.Changed.{GoesOnAs, apart_of, client_is, has_become, line_apart, living_of}
@@ -48,12 +48,12 @@ use Rattle.rbd_world.proofs.StaysFirst.{stands_still}
 use Rattle.rbd_world.proofs.Watching.{counts_fed, others_end_none, takes_behind_watch, way_ends_none, way_watched}
 use Rattle.rbd_world.proofs.Ways.{asks_next, way_acts, way_goes_on, way_refused}
 use Rattle.rbd_world.specs.Closes.{StandsFirst, StandsFirstIf, has_let_go}
-use Rattle.rbd_session.specs.Lines.{lines_of}
-use Rattle.rbd_session.specs.Track.{Lines}
-use Rattle.rbd_session.specs.Advance.{track_of}
-use Rattle.rbd_session.proofs.OwnLooksStay.{ended_may}
-use Rattle.rbd_line.specs.Line.{may_pass}
-use Rattle.rbd_owner.specs.Steps.{lock_take}
+use Rattle.rbd_slots.specs.Lines.{lines_of}
+use Rattle.rbd_slots.specs.Track.{Lines}
+use Rattle.rbd_slots.specs.Advance.{track_of}
+use Rattle.rbd_slots.proofs.LooksUnderLockStay.{ended_may}
+use Rattle.rbd_queue.specs.Line.{may_pass}
+use Rattle.rbd_lock.specs.Steps.{lock_take}
 
 module _ {R : Type 0} (stands : R → Standing) (old new : WorldView R) (w : IsSoundWorld stands old) (session slot : ℕ) (c : ClientView R) (there : client_in session old.lives ≡ Some c)
     (r : Running R) (holds : held_in slot c.session.slots ≡ Some (occupant.Running r)) (a : Acquire) (acts : actor_at stands slot c ≡ actor.Way a) where
@@ -91,7 +91,7 @@ module _ {R : Type 0} (stands : R → Standing) (old new : WorldView R) (w : IsS
   stands_there : IsWayThere a.site a.image (way_of r.line w.told.run) (rest_of_acquire a (Return reply.Done))
   stands_there =
       way_acts stands slot c living.sound r runs (way_of r.line w.told.run)
-      (subst (KeepsToItsWay stands w.told.run (state_in slot c.slots).way) runs (living.ways slot)) a acts
+      (subst (KeepsToItsWay stands w.told.run (slot_state slot c.slots).way) runs (living.ways slot)) a acts
 
   -- where it takes the lock, no open line of the instance let go of it
   gone_beside_it : (image line : ℕ) → op_of a ≡ lock_take image → (begun : IsOpen line w.told.run) → begun.asked.who ≡ me → has_let_go a.site image (steps_of line w.told.run) ≡ true → ⊥
@@ -112,7 +112,7 @@ module _ {R : Type 0} (stands : R → Standing) (old new : WorldView R) (w : IsS
           (ap (λ l. has_let_go a.site image (steps_of l w.told.run)) go.same ∙ gone)
           (subst (λ i. WaitsForLook stands slot a.site i c.session) (takes_own a.stage a.image image takes) (way_waits stands slot c a living.sound acts))
 
-      by : (o : Option (ClientView R)) → client_in found.session old.lives ≡ o → script_line (held_of found.slot (session_of o)) ≡ Some line → ⊥
+      by : (o : Option (ClientView R)) → client_in found.session old.lives ≡ o → script_line (held_of found.slot (session_of_client o)) ≡ Some line → ⊥
       by None none is = none-some line is
       by (Some q) runs is = in_it q runs is
 
@@ -135,12 +135,12 @@ module _ {R : Type 0} (stands : R → Standing) (old new : WorldView R) (w : IsS
     quiet : (x other : ℕ) → x ≢ slot → script_line (held_in x c.session.slots) ≡ Some other → IsQuiet other does_it
     quiet x other differ is =
         quiet_did other operation result
-        (line_apart old new session c d goes_on slot became.slots w.apart r.line (ap script_line holds) session x other (inr differ) (ap (λ o. script_line (held_of x (session_of o))) there ∙ is))
+        (line_apart old new session c d goes_on slot became.slots w.apart r.line (ap script_line holds) session x other (inr differ) (ap (λ o. script_line (held_of x (session_of_client o))) there ∙ is))
 
     quiet_others : (m : ℕ) (q : ClientView R) → m ≢ session → client_in m old.lives ≡ Some q → (x other : ℕ) → script_line (held_in x q.session.slots) ≡ Some other → IsQuiet other does_it
     quiet_others m q differ at x other is =
         quiet_did other operation result
-        (line_apart old new session c d goes_on slot became.slots w.apart r.line (ap script_line holds) m x other (inl differ) (ap (λ o. script_line (held_of x (session_of o))) at ∙ is))
+        (line_apart old new session c d goes_on slot became.slots w.apart r.line (ap script_line holds) m x other (inl differ) (ap (λ o. script_line (held_of x (session_of_client o))) at ∙ is))
 
     sound_then : IsSoundIf stands (Some d)
     sound_then = subst (IsSoundIf stands) (client_is old new session c d goes_on) (sound session)
@@ -164,7 +164,7 @@ module _ {R : Type 0} (stands : R → Standing) (old new : WorldView R) (w : IsS
         waiting : WaitsForLook stands slot a.site a.image c.session
         waiting = way_waits stands slot c a living.sound acts
 
-    done_there : IsDone operation w.told.run
+    done_there : IsRightlyDone operation w.told.run
     done_there = done_so stands old new w session slot c there a.site (op_of a) wanted (OnWay r.line) result d became at_sites sound_then tt (λ asked is. sym (is_mine asked is))
         (asks_next a (way_of r.line w.told.run) stands_there, takes_behind_watch a me w.told.run (way_watched stands slot c me w.told.run living.watches a acts), takes_alone)
 
@@ -176,7 +176,7 @@ module _ {R : Type 0} (stands : R → Standing) (old new : WorldView R) (w : IsS
         by (Some reply) is = (
           done_there,
           refused_on_way stands w.told.homes session slot w.told.run me living.whose c.session r runs way a (way_waits stands slot c a living.sound acts) operation refl can_give.can reply is
-              (way_refused a (way_of r.line w.told.run) stands_there told reply (subst (λ x. WayComesTo a (fed.Answer told) x (state_in slot d.slots).way) is is_fed.comes).1),
+              (way_refused a (way_of r.line w.told.run) stands_there told reply (subst (λ x. WayComesTo a (fed.Answer told) x (slot_state slot d.slots).way) is is_fed.comes).1),
         )
 
     -- ---- what its slot holds
@@ -193,14 +193,14 @@ module _ {R : Type 0} (stands : R → Standing) (old new : WorldView R) (w : IsS
     steps_now : way_of r.line (does_it ∷ w.told.run) ≡ way_of r.line w.told.run ++ step_of operation ∷ []
     steps_now = ap (λ b. way_of r.line w.told.run ++ cond b (step_of operation ∷ []) []) (eq-eqb r.line r.line refl)
 
-    still_on_way : (x : Option Reply) → result ≡ x → GoesItsWay slot x c.session d.session → KeepsToItsWay stands (does_it ∷ w.told.run) (state_in slot d.slots).way (running_at slot d.session)
+    still_on_way : (x : Option Reply) → result ≡ x → GoesItsWay slot x c.session d.session → KeepsToItsWay stands (does_it ∷ w.told.run) (slot_state slot d.slots).way (running_at slot d.session)
     still_on_way (Some reply) is gives_up =
-        subst (λ o. KeepsToItsWay stands (does_it ∷ w.told.run) (state_in slot d.slots).way (running_in o)) (sym (gives_up.free (subst IsSome (sym runs) refl))) tt
+        subst (λ o. KeepsToItsWay stands (does_it ∷ w.told.run) (slot_state slot d.slots).way (running_in o)) (sym (gives_up.free (subst IsSome (sym runs) refl))) tt
     still_on_way None is same =
-        subst (λ o. KeepsToItsWay stands (does_it ∷ w.told.run) (state_in slot d.slots).way o) (sym (ap (λ (s : SessionView R). running_at slot s) same ∙ runs))
-        (subst (GoesWith (stands r.request).plan (state_in slot d.slots).way) (sym steps_now)
-        (way_goes_on a (way_of r.line w.told.run) stands_there told (stands r.request).plan (state_in slot d.slots).way
-        (subst (λ x. WayComesTo a (fed.Answer told) x (state_in slot d.slots).way) is is_fed.comes)))
+        subst (λ o. KeepsToItsWay stands (does_it ∷ w.told.run) (slot_state slot d.slots).way o) (sym (ap (λ (s : SessionView R). running_at slot s) same ∙ runs))
+        (subst (AgreesWithWay (stands r.request).plan (slot_state slot d.slots).way) (sym steps_now)
+        (way_goes_on a (way_of r.line w.told.run) stands_there told (stands r.request).plan (slot_state slot d.slots).way
+        (subst (λ x. WayComesTo a (fed.Answer told) x (slot_state slot d.slots).way) is is_fed.comes)))
 
     line_stays : (x : Option Reply) → GoesItsWay slot x c.session d.session → x ≡ None → script_line (held_in slot d.session.slots) ≡ Some r.line
     line_stays None same none = ap (λ (s : SessionView R). script_line (held_in slot s.slots)) same ∙ ap script_line holds
@@ -225,7 +225,7 @@ module _ {R : Type 0} (stands : R → Standing) (old new : WorldView R) (w : IsS
 
         knows_still : knows_now stands old new w session slot c there a.site (op_of a) wanted (OnWay r.line) result d became at_sites sound_then slot ≡ known_in w.knows session slot
         knows_still =
-            ap (λ m. knows_fed (known_in w.knows session) slot result (plan_of stands (running_at slot c.session)) (fed.Answer told) m slot) acts
+            ap (λ m. knows_fed (known_in w.knows session) slot result (plan_in_slot stands (running_at slot c.session)) (fed.Answer told) m slot) acts
             ∙ ap (λ b. cond b (unless_ended result (known_in w.knows session slot)) (known_in w.knows session slot)) (eq-eqb slot slot refl) ∙ ap (λ x. unless_ended x (known_in w.knows session slot)) is
 
     -- who let go of a lock stands where it stood
@@ -265,10 +265,10 @@ module _ {R : Type 0} (stands : R → Standing) (old new : WorldView R) (w : IsS
         (λ is. true≢false (sym (eq-eqb r.line l (same_Some r.line l (sym (ap script_line holds) ∙ is))) ∙ other))
         (w.slots l (open_back l does_it w.told.run (quiet_did l operation result other) now))
 
-    order : (x : Option Reply) → GoesItsWay slot x c.session d.session → IsInOrder stands home d.session.instance (does_it ∷ w.told.run) d.session
+    order : (x : Option Reply) → GoesItsWay slot x c.session d.session → AreWritesInOrder stands home d.session.instance (does_it ∷ w.told.run) d.session
     order None same = still_in_order stands old new w does_it due session c d there same (λ line before. refl) (λ other writer. refl)
     order (Some reply) gives_up =
-        subst (λ i. IsInOrder stands home i (does_it ∷ w.told.run) d.session) (sym became.client.instance)
+        subst (λ i. AreWritesInOrder stands home i (does_it ∷ w.told.run) d.session) (sym became.client.instance)
         (given_up_order stands home me (does_it ∷ w.told.run) slot c.session d.session r runs gives_up became.slots
         (still_in_order stands old new w does_it due session c c there refl (λ line before. refl) (λ other writer. refl)))
 

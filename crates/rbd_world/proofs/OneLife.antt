@@ -6,10 +6,10 @@ use Rattle.rbd_client.specs.Client.{ClientView}
 use Rattle.rbd_client.specs.Feeding.{IsClientAlike}
 use Rattle.rbd_client.specs.Sound.{IsSoundClient}
 use Rattle.rbd_machine.specs.Plan.{Standing}
-use Rattle.rbd_session.proofs.Readied.{alike_itself}
+use Rattle.rbd_slots.proofs.Readied.{alike_itself}
 use Rattle.rbd_world.specs.declared.event.Event.{Event}
-use Rattle.rbd_world.specs.Run.{Happening}
-use Rattle.rbd_world.specs.Step.{AreLivesAlike, DoesToLives, IsAlikeOf, IsClientAlikeIf, IsSoundIf, LeavesLives, LivesOn, LivesOnIf, names_session}
+use Rattle.rbd_world.specs.Run.{Happening, Nothing}
+use Rattle.rbd_world.specs.Step.{AreLivesAlike, BecomesOf, DoesToLives, IsAlikeOf, IsClientAlikeIf, IsSoundIf, LeavesLives, LivesOn, LivesOnIf, late_behind, names_session}
 use Rattle.rbd_world.specs.World.{LivesView, client_in, lives_in, running_of}
 
 -- ---- a list with another element at one place
@@ -120,6 +120,18 @@ module _ {R : Type 0} (stands : R → Standing) where
     sound = λ session c named is.
         absurd (none-some c (sym (ap running_of none) ∙ ap (λ m. client_in m xs) (sym (is_named e h n session names named)) ∙ is));
   }
+
+  -- to one that doesn't run, where nothing happens
+  pub leaves_stopped : (e : Event) (n at : ℕ) (xs : List (LivesView R)) (l : LivesView R) → NamesOne e Nothing n → at ≡ n → lives_in n xs ≡ Some l → l.running ≡ None
+      → l.late ≡ late_behind e Nothing l.late → DoesToLives stands e Nothing xs (slice_set xs at l)
+  leaves_stopped e n at xs l names same is stopped late =
+      does_to_one e Nothing n at xs l l names same is
+      (record { home = refl; latest = refl; running = by l.running stopped; late = late })
+      (subst (IsSoundIf stands) (sym stopped) tt)
+    where
+      by : (o : Option (ClientView R)) → o ≡ None → BecomesOf stands e Nothing o o
+      by None stopped = refl
+      by (Some c) stopped = absurd (none-some c (sym stopped))
 
   -- or it names nobody
   pub does_to_nobody : (e : Event) (h : Happening) (xs : List (LivesView R)) → ((session : ℕ) → names_session e h session ≡ false) → DoesToLives stands e h xs xs

@@ -6,18 +6,18 @@ use Rattle.std.proofs.lemmas.Option.{same_Some}
 use Rattle.rbd_commands.specs.declared.command.Command.{Command}
 use Rattle.rbd_kinds.specs.declared.id.Instance.{Instance}
 use Rattle.rbd_kinds.specs.declared.id.SiteId.{SiteId}
-use Rattle.rbd_line.specs.Line.{ahead, is_member}
+use Rattle.rbd_queue.specs.Line.{ahead, is_member}
 use Rattle.rbd_machine.specs.Plan.{Standing}
 use Rattle.rbd_machine.specs.declared.seat.Seat.{Seat}
-use Rattle.rbd_requests.specs.Plans.{IsPlanFor}
-use Rattle.rbd_requests.proofs.InLine.{changes_in_line}
-use Rattle.rbd_requests.specs.Profile.{changed_extent}
-use Rattle.rbd_session.specs.declared.running.Running.{Running}
-use Rattle.rbd_session.specs.Lines.{LinesView, lines_of}
-use Rattle.rbd_session.specs.Session.{SessionView, BeginsAt, IsSoundSession, running_at, running_in}
-use Rattle.rbd_session.proofs.Members.{not_found}
+use Rattle.rbd_catalog.specs.Plans.{IsPlanFor}
+use Rattle.rbd_catalog.proofs.InLine.{changes_in_line}
+use Rattle.rbd_catalog.specs.Profile.{changed_extent}
+use Rattle.rbd_slots.specs.declared.running.Running.{Running}
+use Rattle.rbd_slots.specs.Lines.{LinesView, lines_of}
+use Rattle.rbd_slots.specs.Session.{SessionView, BeginsAt, IsSoundSession, running_at, running_in}
+use Rattle.rbd_slots.proofs.Members.{not_found}
 use Rattle.rbd_world.specs.InLine.{IsPastWithout}
-use Rattle.rbd_world.specs.Order.{IsBeforeFinding, IsBehindFinding, IsInOrder, IsWriterOf, found_before, has_found, has_written}
+use Rattle.rbd_world.specs.Order.{IsBeforeFinding, IsBehindFinding, AreWritesInOrder, IsWriterOf, found_before, has_found, has_written}
 use Rattle.rbd_world.specs.Run.{Asked, Happening, asked_by, steps_of}
 use Rattle.rbd_world.specs.Step.{AreSlotsBut}
 use Rattle.rbd_world.proofs.Changed.{same_or_other}
@@ -26,7 +26,7 @@ use Rattle.rbd_world.proofs.FoundFirst.{found_has, never_found}
 module _ {R : Type 0} (stands : R → Standing) (seat : Seat) (who : Instance) (slot line : ℕ) (command : Command) (run : List Happening) (c d : SessionView R) (r : Running R)
     (sound : IsSoundSession stands c) (free : running_at slot c ≡ None) (runs : running_at slot d ≡ Some r) (begins : BeginsAt stands IsPlanFor changed_extent seat line command r)
     (slots : AreSlotsBut slot c d) (lines : d.lines ≡ c.lines) (none : steps_of line run ≡ []) (asked : Asked) (asks : asked_by line run ≡ Some asked) (its : asked.command ≡ command)
-    (old : IsInOrder stands seat.home who run c) where
+    (old : AreWritesInOrder stands seat.home who run c) where
   data Where (x : ℕ) (q : Running R) : Type 0 where
     Other : running_at x c ≡ Some q → Where x q
     Here : x ≡ slot → q ≡ r → Where x q
@@ -54,7 +54,7 @@ module _ {R : Type 0} (stands : R → Standing) (seat : Seat) (who : Instance) (
   newly writes =
       record { changes = changes_in_line seat command (stands r.request) begins.stands_there (subst IsSome begins.extent writes); place = begins.place; unfound = unfound }
 
-  pub begun_order : IsInOrder stands seat.home who run d
+  pub begun_order : AreWritesInOrder stands seat.home who run d
   begun_order = record {
     extents = λ x q is asked_then asks_then. extents_of x q asked_then asks_then (where_is x q is);
     comes = λ x q is writes. comes_of x q writes (where_is x q is);

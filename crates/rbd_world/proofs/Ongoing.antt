@@ -13,12 +13,12 @@ use Rattle.rbd_kinds.specs.declared.notice.Notice.{Notice}
 use Rattle.rbd_kinds.specs.Instances.{same_instance}
 use Rattle.rbd_machine.specs.Label.{Label}
 use Rattle.rbd_machine.specs.Plan.{Plan, Ask, Await, Note, Return, Goto, Standing}
-use Rattle.rbd_session.specs.declared.running.Occupant.{Occupant}
-use Rattle.rbd_session.specs.declared.running.Occupant.TheVariants as occupant
-use Rattle.rbd_session.specs.declared.running.Running.{Running}
-use Rattle.rbd_session.specs.Advance.{track_of}
-use Rattle.rbd_session.specs.Session.{held_in}
-use Rattle.rbd_session.specs.Waits.{waits}
+use Rattle.rbd_slots.specs.declared.running.Occupant.{Occupant}
+use Rattle.rbd_slots.specs.declared.running.Occupant.TheVariants as occupant
+use Rattle.rbd_slots.specs.declared.running.Running.{Running}
+use Rattle.rbd_slots.specs.Advance.{track_of}
+use Rattle.rbd_slots.specs.Session.{held_in}
+use Rattle.rbd_slots.specs.Waits.{waits}
 use Rattle.rbd_world.specs.declared.event.Event.{Event}
 use Rattle.rbd_world.specs.declared.event.Event.TheVariants as event
 use Rattle.rbd_world.specs.declared.sites.Sites.{Sites}
@@ -185,7 +185,7 @@ module _ {R : Type 0} (stands : R → Standing) where
   coming_goes_on sites slot None = tt
   coming_goes_on sites slot (Some x) = tt
 
-  coming_runs_on : (session slot : ℕ) (sites : Sites) (x : Option Sent) (home : SiteId) (o : Option (ClientView R)) → RunsOn stands (event.Late session slot) (come sites slot x) home o o
+  pub coming_runs_on : (session slot : ℕ) (sites : Sites) (x : Option Sent) (home : SiteId) (o : Option (ClientView R)) → RunsOn stands (event.Late session slot) (come sites slot x) home o o
   coming_runs_on session slot sites None home None = refl
   coming_runs_on session slot sites None home (Some c) = refl
   coming_runs_on session slot sites (Some x) home None = refl

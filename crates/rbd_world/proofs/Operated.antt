@@ -6,7 +6,7 @@ use Rattle.std.proofs.lemmas.Option.{same_Some}
 use Rattle.rbd_client.specs.declared.actor.Actor.TheVariants as actor
 use Rattle.rbd_client.specs.Actor.{actor_at, op_by, op_wanted}
 use Rattle.rbd_client.specs.declared.slot_state.SlotState.{SlotState}
-use Rattle.rbd_client.specs.Client.{ClientView, state_in}
+use Rattle.rbd_client.specs.Client.{ClientView, slot_state}
 use Rattle.rbd_client.specs.Feeding.{IsFedBy, RequestIsFed, state_behind}
 use Rattle.rbd_kinds.specs.declared.answer.Answer.{Answer}
 use Rattle.rbd_kinds.specs.declared.id.Instance.{Instance}
@@ -14,32 +14,32 @@ use Rattle.rbd_kinds.specs.declared.id.SiteId.{SiteId}
 use Rattle.rbd_kinds.specs.declared.machine.Fed.TheVariants as fed
 use Rattle.rbd_kinds.specs.declared.operation.Op.{Op}
 use Rattle.rbd_kinds.specs.declared.reply.Reply.{Reply}
-use Rattle.rbd_held.specs.Knowing.{known_to, knows_fed, plan_of}
-use Rattle.rbd_known.specs.Knowing.{known_behind, unless_ended}
+use Rattle.rbd_knowledge.specs.ClientsKnowing.{known_to, knows_fed, plan_in_slot}
+use Rattle.rbd_knowledge.specs.Knowing.{known_behind, unless_ended}
 use Rattle.rbd_machine.specs.Answers.{CanBeFed}
 use Rattle.rbd_machine.specs.Path.{Answered, IsWalk, at_operation}
 use Rattle.rbd_machine.specs.Plan.{Plan, Ask, Standing, plan_after}
 use Rattle.rbd_machine.specs.Refused.{IsGiven}
 use Rattle.rbd_machine.specs.Standalone.{TellsStandalone}
 use Rattle.rbd_machine.specs.declared.reason.Reason.{Reason}
-use Rattle.rbd_session.specs.declared.running.Occupant.{Occupant}
-use Rattle.rbd_session.specs.declared.running.Occupant.TheVariants as occupant
-use Rattle.rbd_session.specs.declared.running.Running.{Running}
-use Rattle.rbd_session.specs.Advance.{track_of}
-use Rattle.rbd_session.specs.Session.{ComesToIn, OfRunning, going_in, held_in, of_going, op_asked, own_look_at, running_at, running_in, script_line}
-use Rattle.rbd_session.specs.Waits.{waits}
-use Rattle.rbd_session.proofs.OwnLooksStay.{feeding_may}
+use Rattle.rbd_slots.specs.declared.running.Occupant.{Occupant}
+use Rattle.rbd_slots.specs.declared.running.Occupant.TheVariants as occupant
+use Rattle.rbd_slots.specs.declared.running.Running.{Running}
+use Rattle.rbd_slots.specs.Advance.{track_of}
+use Rattle.rbd_slots.specs.Session.{ComesToIn, OfRunning, going_in, held_in, of_going, op_asked, look_under_lock_at, running_at, running_in, script_line}
+use Rattle.rbd_slots.specs.Waits.{waits}
+use Rattle.rbd_slots.proofs.LooksUnderLockStay.{feeding_may}
 use Rattle.rbd_site.specs.declared.done.DoneOp.TheVariants as done
 use Rattle.rbd_site.specs.Step.{answer_to}
 use Rattle.rbd_stands.specs.Effect.{effect_of}
 use Rattle.rbd_world.specs.declared.event.Event.TheVariants as event
-use Rattle.rbd_world.specs.Order.{IsInOrder, IsWriterOf}
+use Rattle.rbd_world.specs.Order.{AreWritesInOrder, IsWriterOf}
 use Rattle.rbd_world.specs.Run.{Asked, Itself, Happening, Did, Operation, asked_by, replies_to, step_of, steps_in, steps_of, way_of}
 use Rattle.rbd_world.specs.Seats.{seat_at}
 use Rattle.rbd_world.specs.Sound.{IsDue, IsHeldRightly, IsInSlot, IsLiving, IsOpen, IsSoundWorld, IsUnderWay, KeepsToItsWay, held_of, known_in, HasLearned, HasLearnedIf, Recalls}
 use Rattle.rbd_world.specs.Step.{Does, DoesAtSites, Goes, IsSoundIf, next_number, operation_at, reply_at}
-use Rattle.rbd_world.specs.Ways.{GoesWith}
-use Rattle.rbd_world.specs.World.{WorldView, client_in, records_in, session_of, site_in}
+use Rattle.rbd_world.specs.Ways.{AgreesWithWay}
+use Rattle.rbd_world.specs.World.{WorldView, client_in, records_in, session_of_client, site_in}
 use Rattle.rbd_world.proofs.Acting.{alone, all_know, beside_now, beside_of_others, can, done_so, knows_now, permits, sending_now, standing, truth_now, truth_of_others, whole, new_now, others_know}
 use Rattle.rbd_world.proofs.Answered.{answer_due, answer_held, answer_line, went_on, answer_learned}
 use Rattle.rbd_world.proofs.Carried.{IsCarried}
@@ -56,11 +56,11 @@ use Rattle.rbd_world.proofs.StaysFirst.{drops_first, stands_still}
 use Rattle.rbd_world.proofs.Unowned.{lets_go_image, lets_go_there}
 use Rattle.rbd_world.proofs.Watching.{counts_fed, ends_own_is, others_end_none}
 use Rattle.rbd_world.proofs.Ways.{goes_on_itself, way_is_over}
-use Rattle.rbd_world.specs.Closes.{StandsFirst, StandsFirstIf, has_let_go, lets_go}
-use Rattle.rbd_session.specs.Lines.{lines_of}
+use Rattle.rbd_world.specs.Closes.{StandsFirst, StandsFirstIf, has_let_go, lets_lock_go}
+use Rattle.rbd_slots.specs.Lines.{lines_of}
 use Rattle.rbd_client.specs.declared.slot_state.Way.TheVariants as way_of_slot
-use Rattle.rbd_owner.specs.declared.acquire.Acquire.{Acquire}
-use Rattle.rbd_owner.specs.Steps.{lock_drop}
+use Rattle.rbd_lock.specs.declared.acquire.Acquire.{Acquire}
+use Rattle.rbd_lock.specs.Steps.{lock_drop}
 use Rattle.rbd_machine.specs.Permits.{Permits}
 use Rattle.rbd_kinds.proofs.Images.{same_site_is}
 use Rattle.rbd_world.specs.Watched.{unwatches_by}
@@ -101,8 +101,8 @@ module _ {R : Type 0} (stands : R → Standing) (old new : WorldView R) (w : IsS
   way = subst (IsHeldRightly stands (seat_at w.told.homes session) me w.told.run) holds (living.held slot)
 
   -- its way goes with its slot's state
-  keeps : GoesWith (stands r.request).plan (state_in slot c.slots).way (way_of r.line w.told.run)
-  keeps = subst (KeepsToItsWay stands w.told.run (state_in slot c.slots).way) runs (living.ways slot)
+  keeps : AgreesWithWay (stands r.request).plan (slot_state slot c.slots).way (way_of r.line w.told.run)
+  keeps = subst (KeepsToItsWay stands w.told.run (slot_state slot c.slots).way) runs (living.ways slot)
 
   -- its line is the instance's
   is_mine : (asked : Asked) → asked_by r.line w.told.run ≡ Some asked → asked.who ≡ me
@@ -136,12 +136,12 @@ module _ {R : Type 0} (stands : R → Standing) (old new : WorldView R) (w : IsS
     quiet : (x other : ℕ) → x ≢ slot → script_line (held_in x c.session.slots) ≡ Some other → IsQuiet other does_it
     quiet x other differ is =
         quiet_did other operation result
-        (ap (λ b. b || false) (line_apart old new session c d goes_on slot became.slots w.apart r.line (ap script_line holds) session x other (inr differ) (ap (λ o. script_line (held_of x (session_of o))) there ∙ is)))
+        (ap (λ b. b || false) (line_apart old new session c d goes_on slot became.slots w.apart r.line (ap script_line holds) session x other (inr differ) (ap (λ o. script_line (held_of x (session_of_client o))) there ∙ is)))
 
     quiet_others : (m : ℕ) (q : ClientView R) → m ≢ session → client_in m old.lives ≡ Some q → (x other : ℕ) → script_line (held_in x q.session.slots) ≡ Some other → IsQuiet other does_it
     quiet_others m q differ at x other is =
         quiet_did other operation result
-        (ap (λ b. b || false) (line_apart old new session c d goes_on slot became.slots w.apart r.line (ap script_line holds) m x other (inl differ) (ap (λ o. script_line (held_of x (session_of o))) at ∙ is)))
+        (ap (λ b. b || false) (line_apart old new session c d goes_on slot became.slots w.apart r.line (ap script_line holds) m x other (inl differ) (ap (λ o. script_line (held_of x (session_of_client o))) at ∙ is)))
 
     sound_then : IsSoundIf stands (Some d)
     sound_then = subst (IsSoundIf stands) (client_is old new session c d goes_on) (sound session)
@@ -160,17 +160,17 @@ module _ {R : Type 0} (stands : R → Standing) (old new : WorldView R) (w : IsS
 
     -- its way isn't begun, or over, and it is past its look under the lock then
     still_over : (n : Option (Occupant R)) → ComesToIn stands slot c.session.lines (fed.Answer a) result r n d.session.lines
-        → KeepsToItsWay stands (does_it ∷ w.told.run) (state_in slot d.slots).way (running_in n)
+        → KeepsToItsWay stands (does_it ∷ w.told.run) (slot_state slot d.slots).way (running_in n)
     still_over None behind = tt
     still_over (Some (occupant.Refused line refusal)) behind = absurd behind
     still_over (Some (occupant.Running q)) behind =
         let on = went_on stands slot (stands r.request).labels _ _ result r q d.session.lines behind.0 behind.1 in
-        subst (λ (p : Plan). GoesWith p (state_in slot d.slots).way (way_of q.line w.told.run ++ []))
+        subst (λ (p : Plan). AgreesWithWay p (slot_state slot d.slots).way (way_of q.line w.told.run ++ []))
         (ap (λ p. at_operation (stands r.request).labels (plan_after p (fed.Answer a))) (sym asks) ∙ sym (ap (λ (st : Standing). st.plan) on.stand))
-        (subst (λ (xs : List Answered). GoesWith (at_operation (stands r.request).labels (next a)) (state_in slot d.slots).way xs)
+        (subst (λ (xs : List Answered). AgreesWithWay (at_operation (stands r.request).labels (next a)) (slot_state slot d.slots).way xs)
         (sym (append-nil (way_of r.line w.told.run)) ∙ ap (λ l. way_of l w.told.run ++ []) (sym on.line))
-        (subst (λ (s : SlotState). GoesWith (at_operation (stands r.request).labels (next a)) s.way (way_of r.line w.told.run))
-        (sym (is_fed.state ∙ ap (λ x. state_behind (is_some x) (is_some (own_look_at stands slot c.session)) (state_in slot c.slots)) behind.0))
+        (subst (λ (s : SlotState). AgreesWithWay (at_operation (stands r.request).labels (next a)) s.way (way_of r.line w.told.run))
+        (sym (is_fed.state ∙ ap (λ x. state_behind (is_some x) (is_some (look_under_lock_at stands slot c.session)) (slot_state slot c.slots)) behind.0))
         (goes_on_itself stands slot c living.sound r runs (seat_at w.told.homes session) me w.told.run way a (subst (λ p. CanBeFed p (fed.Answer a)) (sym asks) can_give.can) (way_of r.line w.told.run) keeps acts
         (subst (OfRunning (λ q. waits slot (track_of q c.session.lines) ≡ false)) (sym holds) goes) s why o next asks (stands r.request).labels)))
 
@@ -178,10 +178,10 @@ module _ {R : Type 0} (stands : R → Standing) (old new : WorldView R) (w : IsS
     knows_behind : result ≡ None → knows_now stands old new w session slot c there s o wanted (Itself r.line) result d became at_sites sound_then slot
         ≡ known_behind (known_in w.knows session slot) (Ask s why o next) (fed.Answer a)
     knows_behind none =
-        ap (λ m. knows_fed (known_in w.knows session) slot result (plan_of stands (running_at slot c.session)) (fed.Answer a) m slot) acts
-        ∙ ap (λ b. cond b (unless_ended result (known_behind (known_in w.knows session slot) (plan_of stands (running_at slot c.session)) (fed.Answer a))) (known_in w.knows session slot)) (eq-eqb slot slot refl)
-        ∙ ap (λ x. unless_ended x (known_behind (known_in w.knows session slot) (plan_of stands (running_at slot c.session)) (fed.Answer a))) none
-        ∙ ap (λ p. known_behind (known_in w.knows session slot) p (fed.Answer a)) (ap (plan_of stands) runs ∙ asks)
+        ap (λ m. knows_fed (known_in w.knows session) slot result (plan_in_slot stands (running_at slot c.session)) (fed.Answer a) m slot) acts
+        ∙ ap (λ b. cond b (unless_ended result (known_behind (known_in w.knows session slot) (plan_in_slot stands (running_at slot c.session)) (fed.Answer a))) (known_in w.knows session slot)) (eq-eqb slot slot refl)
+        ∙ ap (λ x. unless_ended x (known_behind (known_in w.knows session slot) (plan_in_slot stands (running_at slot c.session)) (fed.Answer a))) none
+        ∙ ap (λ p. known_behind (known_in w.knows session slot) p (fed.Answer a)) (ap (plan_in_slot stands) runs ∙ asks)
 
     learned_then : (n : Option (Occupant R)) → ComesToIn stands slot c.session.lines (fed.Answer a) result r n d.session.lines
         → HasLearnedIf stands (does_it ∷ w.told.run) (running_in n) (knows_now stands old new w session slot c there s o wanted (Itself r.line) result d became at_sites sound_then slot)
@@ -195,7 +195,7 @@ module _ {R : Type 0} (stands : R → Standing) (old new : WorldView R) (w : IsS
         (subst (λ x. ComesToIn stands slot c.session.lines (fed.Answer a) x r (Some (occupant.Running q)) d.session.lines) behind.0 behind)))
 
     -- where it ends a watch, nobody is on its way to that lock
-    spares : (x : ℕ) (b : Acquire) → (state_in x c.slots).way ≡ way_of_slot.On b → unwatches_by me b.site b.image does_it ≡ false
+    spares : (x : ℕ) (b : Acquire) → (slot_state x c.slots).way ≡ way_of_slot.On b → unwatches_by me b.site b.image does_it ≡ false
     spares x b on = by (unwatches_by me b.site b.image does_it) refl
       where
         by : (t : Bool) → unwatches_by me b.site b.image does_it ≡ t → t ≡ false
@@ -206,10 +206,10 @@ module _ {R : Type 0} (stands : R → Standing) (old new : WorldView R) (w : IsS
             (ways_spared stands c living.sound (seat_at w.told.homes session) me w.told.run living.held living.first slot x s b.image b (wanted ∙ ap (λ q. Some (s, q)) own.is) on (sym own.here) refl)
 
     -- who drops a lock stands first in the image's line
-    drops : (t : SiteId) (i : ℕ) → lets_go s o a t i ≡ true → StandsFirst slot (lines_of c.session.lines t i)
+    drops : (t : SiteId) (i : ℕ) → lets_lock_go s o a t i ≡ true → StandsFirst slot (lines_of c.session.lines t i)
     drops t i lets =
         let here : t ≡ s = same_site_is t s (lets_go_there s o a t i lets) in
-        let is : o ≡ lock_drop i = lets_go_image s o a i (subst (λ u. lets_go s o a u i ≡ true) here lets) in
+        let is : o ≡ lock_drop i = lets_go_image s o a i (subst (λ u. lets_lock_go s o a u i ≡ true) here lets) in
         subst (λ u. StandsFirst slot (lines_of c.session.lines u i)) (sym here)
         (drops_first stands c living.sound (known_in w.knows session) living.know slot s i (sym (ap (op_by stands slot c.session) acts) ∙ wanted ∙ ap (λ q. Some (s, q)) is)
         (subst (λ q. Permits (known_in w.knows session slot) s q) is (subst (λ m. Permits (known_to (known_in w.knows session slot) m) s o) acts (permits stands old new w session slot c there s o wanted))))
@@ -259,7 +259,7 @@ module _ {R : Type 0} (stands : R → Standing) (old new : WorldView R) (w : IsS
     lines_apart : (x : ℕ) (q : Running R) → x ≢ slot → running_at x c.session ≡ Some q → (r.line == q.line) ≡ false
     lines_apart x q differ is =
         line_apart old new session c d goes_on slot became.slots w.apart r.line (ap script_line holds) session x q.line (inr differ)
-        (ap (λ v. script_line (held_of x (session_of v))) there ∙ running_line stands (held_in x c.session.slots) q is)
+        (ap (λ v. script_line (held_of x (session_of_client v))) there ∙ running_line stands (held_in x c.session.slots) q is)
 
     -- no other instance's write has a step
     foreign : (m : ℕ) (q : ClientView R) → m ≢ session → client_in m old.lives ≡ Some q → (other : ℕ) → IsWriterOf q.session.instance other (does_it ∷ w.told.run) → steps_in other does_it ≡ []
@@ -269,9 +269,9 @@ module _ {R : Type 0} (stands : R → Standing) (old new : WorldView R) (w : IsS
         (λ same. differ
         (sym (w.clients m q at).whose ∙ ap (λ (i : Instance). i.session) (sym writer.mine ∙ is_mine writer.asked (ap (λ l. asked_by l w.told.run) same ∙ writer.is)) ∙ living.whose)))
 
-    order : IsInOrder stands home d.session.instance (does_it ∷ w.told.run) d.session
+    order : AreWritesInOrder stands home d.session.instance (does_it ∷ w.told.run) d.session
     order =
-        subst (λ i. IsInOrder stands home i (does_it ∷ w.told.run) d.session) (sym became.client.instance)
+        subst (λ i. AreWritesInOrder stands home i (does_it ∷ w.told.run) d.session) (sym became.client.instance)
         (did_order stands w.told.homes home me slot w.told.run c.session d.session r runs living.sound.session goes s why o next asks a result (next_number (site_in s old.sites))
         (effect_of (records_in s old.sites) (done.Op o) a) w.told.order (w.in_order session c there) became.others became.slots lines_apart due w.told.right
         (came stands slot c.session d.session r s why o next a result asks (held_in slot d.session.slots) refl comes))

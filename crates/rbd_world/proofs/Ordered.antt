@@ -13,8 +13,8 @@ use Rattle.rbd_kinds.specs.declared.id.SiteId.{SiteId}
 use Rattle.rbd_kinds.specs.declared.operation.Op.{Op}
 use Rattle.rbd_kinds.specs.declared.operation.Op.TheVariants as op
 use Rattle.rbd_kinds.specs.declared.reply.Reply.{Reply}
-use Rattle.rbd_line.specs.Line.{Member, ahead, comes_next, has_turn, is_member, joined, member_of}
-use Rattle.rbd_line.proofs.Keeping.{is_found}
+use Rattle.rbd_queue.specs.Line.{Member, ahead, comes_next, has_turn, is_member, new_member, member_of}
+use Rattle.rbd_queue.proofs.Keeping.{is_found}
 use Rattle.rbd_machine.specs.Knowledge.{is_at, same_site}
 use Rattle.rbd_machine.specs.Path.{at_operation}
 use Rattle.rbd_machine.specs.Label.{Label}
@@ -22,21 +22,21 @@ use Rattle.rbd_machine.specs.Plan.{Plan, Ask, IsAsking, Standing}
 use Rattle.rbd_machine.specs.Steps.{on_id}
 use Rattle.rbd_machine.specs.Wait as wait
 use Rattle.rbd_machine.specs.declared.reason.Reason.{Reason}
-use Rattle.rbd_requests.specs.Profile.{changed_extent}
+use Rattle.rbd_catalog.specs.Profile.{changed_extent}
 use Rattle.rbd_kinds.specs.declared.image_at.ImageAt.{ImageAt}
 use Rattle.rbd_kinds.proofs.Images.{same_site_itself}
-use Rattle.rbd_session.specs.declared.running.Running.{Running}
-use Rattle.rbd_session.specs.Advance.{GoesFurther, track_of}
-use Rattle.rbd_session.specs.Lines.{lines_of}
-use Rattle.rbd_session.specs.OnTrack.{IsNowhereElse, IsSomewhere, LeavesOthers}
-use Rattle.rbd_session.specs.Session.{SessionView, IsSoundSession, running_at, running_in}
-use Rattle.rbd_session.specs.Track.{Track, answered_by, image_at, line_in, run, waited_by}
-use Rattle.rbd_session.specs.Waits.{waits}
-use Rattle.rbd_session.proofs.Consequences.{members_run_there}
-use Rattle.rbd_session.proofs.Members.{not_found}
+use Rattle.rbd_slots.specs.declared.running.Running.{Running}
+use Rattle.rbd_slots.specs.Advance.{GoesFurther, track_of}
+use Rattle.rbd_slots.specs.Lines.{lines_of}
+use Rattle.rbd_slots.specs.OnTrack.{IsNowhereElse, IsSomewhere, LeavesOthers}
+use Rattle.rbd_slots.specs.Session.{SessionView, IsSoundSession, running_at, running_in}
+use Rattle.rbd_slots.specs.Track.{Track, answered_by, place_of_image, line_in, run, waited_by}
+use Rattle.rbd_slots.specs.Waits.{waits}
+use Rattle.rbd_slots.proofs.Consequences.{members_run_there}
+use Rattle.rbd_slots.proofs.Members.{not_found}
 use Rattle.rbd_world.specs.InLine.{IsPastWithout}
-use Rattle.rbd_requests.specs.InLine.{IsAtTurn, KeepsTo}
-use Rattle.rbd_world.specs.Order.{IsBeforeFinding, IsBehindFinding, IsFirstToWrite, IsInOrder, IsInTurn, IsWriterOf, KeepsOrder, finds_in, found_before, has_found, has_written, tells_image, writes_in, writes_object}
+use Rattle.rbd_catalog.specs.InLine.{IsAtTurn, KeepsTo}
+use Rattle.rbd_world.specs.Order.{IsBeforeFinding, IsBehindFinding, IsFirstToWrite, AreWritesInOrder, IsInTurn, IsWriterOf, KeepsOrder, finds_in, found_before, has_found, has_written, tells_image, writes_in, writes_object}
 use Rattle.rbd_world.specs.Run.{Asked, Itself, Happening, Did, Operation, asked_by, steps_in, step_of}
 use Rattle.rbd_world.specs.Sound.{IsDue, IsRight}
 use Rattle.rbd_world.specs.Step.{AreSlotsBut}
@@ -48,7 +48,7 @@ use Rattle.rbd_world.proofs.InOrder.{Came, Further, Ended, LooksUp, Told, after,
 use Rattle.rbd_world.proofs.KeptAhead.{member_left_alone}
 use Rattle.rbd_world.proofs.Orderly.{comes_still, written_before}
 use Rattle.rbd_world.proofs.Turned.{HasTicket, earlier_past, ticket_of, turn_of}
-use Rattle.rbd_requests.proofs.InLine.{look_keeps}
+use Rattle.rbd_catalog.proofs.InLine.{look_keeps}
 
 -- ---- a session that is in order
 
@@ -59,13 +59,13 @@ module _ {R : Type 0} (stands : R → Standing) (c : SessionView R) (sound : IsS
     pub found : member_of x (lines_of c.lines s image) ≡ Some member
     pub is : is_member x (lines_of c.lines s image) ≡ true
 
-  pub in_its_line : (x : ℕ) (q : Running R) → running_at x c ≡ Some q → (s : SiteId) (image : ℕ) → q.place ≡ Some (image_at s image) → IsInItsLine x s image
+  pub in_its_line : (x : ℕ) (q : Running R) → running_at x c ≡ Some q → (s : SiteId) (image : ℕ) → q.place ≡ Some (place_of_image s image) → IsInItsLine x s image
   in_its_line x q runs s image place = by (sound.runs x q runs).somewhere
     where
       by : IsSomewhere x (track_of q c.lines) → IsInItsLine x s image
-      by (inl nowhere) = absurd (none-some (image_at s image) (sym nowhere ∙ place))
+      by (inl nowhere) = absurd (none-some (place_of_image s image) (sym nowhere ∙ place))
       by (inr (p, m, there)) =
-          let same = same_Some p (image_at s image) (sym there.place ∙ place) in
+          let same = same_Some p (place_of_image s image) (sym there.place ∙ place) in
           let found : member_of x (lines_of c.lines s image) ≡ Some m = subst (λ (v : ImageAt). member_of x (lines_of c.lines v.site v.image) ≡ Some m) same there.member in
           record { member = m; found = found; is = sym (is_found x (lines_of c.lines s image)) ∙ ap is_some found }
 
@@ -79,7 +79,7 @@ module _ {R : Type 0} (stands : R → Standing) (c : SessionView R) (sound : IsS
 module _ {R : Type 0} (stands : R → Standing) (homes : ℕ → SiteId) (home : SiteId) (who : Instance) (slot : ℕ) (rn : List Happening) (c d : SessionView R) (r : Running R)
     (runs : running_at slot c ≡ Some r) (sound : IsSoundSession stands c) (goes : waits slot (track_of r c.lines) ≡ false)
     (s : SiteId) (why : Reason) (o : Op) (next : Answer → Plan) (asks : (stands r.request).plan ≡ Ask s why o next) (a : Answer) (result : Option Reply)
-    (number : ℕ) (effect : Option Effect) (order : KeepsOrder rn) (old : IsInOrder stands home who rn c) where
+    (number : ℕ) (effect : Option Effect) (order : KeepsOrder rn) (old : AreWritesInOrder stands home who rn c) where
   abbrev done : Operation
   done = record { by = Itself r.line; instance = who; site = s; number = number; op = o; answer = a; effect = effect }
 
@@ -194,14 +194,14 @@ module _ {R : Type 0} (stands : R → Standing) (homes : ℕ → SiteId) (home :
       track_place p is = ap (λ (t : Track). t.place) further.track ∙ is
 
       module _ (b : IsBehindFinding stands rn r) where
-        goes_on : GoesOn slot (image_at b.site b.image) r.extent (track_of r c.lines) b.place (next a) there
-        goes_on = answer_goes slot (image_at b.site b.image) r.extent (track_of r c.lines) b.place (next a) s o a ((keeps_here b).1 a)
+        goes_on : GoesOn slot (place_of_image b.site b.image) r.extent (track_of r c.lines) b.place (next a) there
+        goes_on = answer_goes slot (place_of_image b.site b.image) r.extent (track_of r c.lines) b.place (next a) s o a ((keeps_here b).1 a)
 
         behind_then : IsBehindFinding stands (does ∷ rn) q
         behind_then = record {
           site = b.site;
           image = b.image;
-          place = track_place (image_at b.site b.image) goes_on.place;
+          place = track_place (place_of_image b.site b.image) goes_on.place;
           found = ap (λ f. f || has_found q.line b.site b.image rn) (finds_none b q.line b.site b.image) ∙ ap (λ l. has_found l b.site b.image rn) further.line ∙ b.found;
           only = λ t i is. b.only t i (sym (ap (λ f. f || has_found q.line t i rn) (finds_none b q.line t i) ∙ ap (λ l. has_found l t i rn) further.line) ∙ is);
           labels = ap (λ (x : Standing). x.labels) further.request ∙ b.labels;
@@ -246,7 +246,7 @@ module _ {R : Type 0} (stands : R → Standing) (homes : ℕ → SiteId) (home :
         found_then = record {
           site = home;
           image = image;
-          place = track_place (image_at home image) (ap (λ (t : Track). t.place) track_then);
+          place = track_place (place_of_image home image) (ap (λ (t : Track). t.place) track_then);
           found = ap (λ l. has_found l home image (does ∷ rn)) further.line ∙ ap (λ f. f || has_found r.line home image rn) finds_it;
           only = λ t i is. found_only t i (sym (ap (λ l. has_found l t i (does ∷ rn)) further.line) ∙ is);
           labels = ap (λ (x : Standing). x.labels) further.request ∙ ap (λ (x : Standing). x.labels) b.changes.stand;
@@ -266,7 +266,7 @@ module _ {R : Type 0} (stands : R → Standing) (homes : ℕ → SiteId) (home :
     in_its_place x q is t i found (inl b) = absurd (true≢false (sym found ∙ b.unfound t i))
     in_its_place x q is t i found (inr b) =
         let at = b.only t i found in
-        in_its_line stands c sound x q is t i (b.place ∙ sym (ap (λ u. Some (image_at u b.image)) at.0) ∙ sym (ap (λ j. Some (image_at t j)) at.1))
+        in_its_line stands c sound x q is t i (b.place ∙ sym (ap (λ u. Some (place_of_image u b.image)) at.0) ∙ sym (ap (λ j. Some (place_of_image t j)) at.1))
 
     module _ (x y : ℕ) (q p : Running R) (writes : IsSome q.extent) (other_writes : IsSome p.extent) (t : SiteId) (i : ℕ)
         (earlier : found_before q.line p.line t i (does ∷ rn) ≡ true) (member : is_member y (lines_of d.lines t i) ≡ true) where
@@ -293,13 +293,13 @@ module _ {R : Type 0} (stands : R → Standing) (homes : ℕ → SiteId) (home :
           let unfound = other_unfound r.line p.line t i does rn (b.unfound t i) (sym (ap (λ l. found_before l p.line t i (does ∷ rn)) further.line) ∙ earlier) in
           absurd (not_there unfound (member_was y y_other t i member))
         where
-          placed : (IsBeforeFinding stands home rn p) ⊎ (IsBehindFinding stands rn p) → p.place ≡ Some (image_at t i) → has_found p.line t i rn ≡ true
-          placed (inl v) place = absurd (none-some (image_at t i) (sym v.place ∙ place))
+          placed : (IsBeforeFinding stands home rn p) ⊎ (IsBehindFinding stands rn p) → p.place ≡ Some (place_of_image t i) → has_found p.line t i rn ≡ true
+          placed (inl v) place = absurd (none-some (place_of_image t i) (sym v.place ∙ place))
           placed (inr v) place =
-              let at = same_Some (image_at v.site v.image) (image_at t i) (sym v.place ∙ place) in
+              let at = same_Some (place_of_image v.site v.image) (place_of_image t i) (sym v.place ∙ place) in
               subst (λ (w : ImageAt). has_found p.line w.site w.image rn ≡ true) at v.found
 
-          found_one : (m : Option Member) → member_of y (lines_of c.lines t i) ≡ m → is_some m ≡ true → p.place ≡ Some (image_at t i)
+          found_one : (m : Option Member) → member_of y (lines_of c.lines t i) ≡ m → is_some m ≡ true → p.place ≡ Some (place_of_image t i)
           found_one None at is = absurd (true≢false (sym is))
           found_one (Some m) at is =
               let held = members_run_there stands c y t i m sound at in
@@ -332,17 +332,17 @@ module _ {R : Type 0} (stands : R → Standing) (homes : ℕ → SiteId) (home :
               let before_that = found_earlier q.line p.line t i does rn (finds_nothing q.line t i does (silent x q x_other one)) earlier in
               (in_its_place x q one t i (found_has q.line p.line t i rn before_that) (old.comes x q one writes)).is
 
-          member_now : is_member slot (cond (is_at home (image p further b) t i) (lines_of c.lines t i ++ joined slot (up b).sharing ∷ []) (lines_of c.lines t i)) ≡ true
+          member_now : is_member slot (cond (is_at home (image p further b) t i) (lines_of c.lines t i ++ new_member slot (up b).sharing ∷ []) (lines_of c.lines t i)) ≡ true
           member_now =
               sym (ap (λ (ls : SiteId → ℕ → List Member). is_member slot (ls t i)) joined_lines) ∙ ap (λ n. is_member n (lines_of d.lines t i)) (sym same) ∙ member
 
           by : (f : Bool) → is_at home (image p further b) t i ≡ f
-              → is_member x (ahead slot (cond f (lines_of c.lines t i ++ joined slot (up b).sharing ∷ []) (lines_of c.lines t i))) ≡ true
-          by true here = ap (is_member x) (ahead_last (lines_of c.lines t i) (joined slot (up b).sharing) outside) ∙ inside
+              → is_member x (ahead slot (cond f (lines_of c.lines t i ++ new_member slot (up b).sharing ∷ []) (lines_of c.lines t i))) ≡ true
+          by true here = ap (is_member x) (ahead_last (lines_of c.lines t i) (new_member slot (up b).sharing) outside) ∙ inside
           by false other =
               absurd
               (true≢false
-              (sym (sym (ap (λ f. is_member slot (cond f (lines_of c.lines t i ++ joined slot (up b).sharing ∷ []) (lines_of c.lines t i))) other) ∙ member_now) ∙ outside))
+              (sym (sym (ap (λ f. is_member slot (cond f (lines_of c.lines t i ++ new_member slot (up b).sharing ∷ []) (lines_of c.lines t i))) other) ∙ member_now) ∙ outside))
       own_later x_other one same further (inr b) =
           ahead_stays p further b (λ was.
           old.in_line x y q r one (ap (λ n. running_at n c) same ∙ runs) writes (subst IsSome further.extent other_writes) t i
@@ -433,7 +433,7 @@ module _ {R : Type 0} (stands : R → Standing) (homes : ℕ → SiteId) (home :
 
     -- ---- so the session is in order
 
-    pub did_order : IsInOrder stands home who (does ∷ rn) d
+    pub did_order : AreWritesInOrder stands home who (does ∷ rn) d
     did_order = record {
       extents = λ x q is asked asks. extents_then x q asked asks (where_is x q is);
       comes = λ x q is writes. comes_then x q writes (where_is x q is);

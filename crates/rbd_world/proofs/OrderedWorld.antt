@@ -8,18 +8,18 @@ use Rattle.rbd_client.specs.Feeding.{IsGivenUp}
 use Rattle.rbd_kinds.specs.declared.id.Instance.{Instance}
 use Rattle.rbd_kinds.specs.declared.id.SiteId.{SiteId}
 use Rattle.rbd_kinds.specs.declared.reply.Reply.{Reply}
-use Rattle.rbd_line.specs.Line.{Member, member_of}
+use Rattle.rbd_queue.specs.Line.{Member, member_of}
 use Rattle.rbd_machine.specs.Plan.{Standing}
-use Rattle.rbd_session.specs.declared.running.Occupant.{Occupant}
-use Rattle.rbd_session.specs.declared.running.Occupant.TheVariants as occupant
-use Rattle.rbd_session.specs.declared.running.Running.{Running}
-use Rattle.rbd_session.specs.Advance.{IsSameStand, track_of}
-use Rattle.rbd_session.specs.Lines.{LinesView, lines_of}
-use Rattle.rbd_session.specs.OnTrack.{LeavesOthers}
-use Rattle.rbd_session.specs.Session.{SessionView, IsAlike, IsAlikeIn, held_in, running_at, running_in, script_line}
-use Rattle.rbd_session.specs.Track.{ended_by}
-use Rattle.rbd_session.proofs.Others.{ended_leaves}
-use Rattle.rbd_world.specs.Order.{IsInOrder, IsInTurn, IsWriterOf}
+use Rattle.rbd_slots.specs.declared.running.Occupant.{Occupant}
+use Rattle.rbd_slots.specs.declared.running.Occupant.TheVariants as occupant
+use Rattle.rbd_slots.specs.declared.running.Running.{Running}
+use Rattle.rbd_slots.specs.Advance.{IsSameStand, track_of}
+use Rattle.rbd_slots.specs.Lines.{LinesView, lines_of}
+use Rattle.rbd_slots.specs.OnTrack.{LeavesOthers}
+use Rattle.rbd_slots.specs.Session.{SessionView, IsAlike, IsAlikeIn, held_in, running_at, running_in, script_line}
+use Rattle.rbd_slots.specs.Track.{ended_by}
+use Rattle.rbd_slots.proofs.Others.{ended_leaves}
+use Rattle.rbd_world.specs.Order.{AreWritesInOrder, IsInTurn, IsWriterOf}
 use Rattle.rbd_world.specs.Run.{Asked, Did, Happening, Operation, asked_by, is_own, or_asked, steps_in}
 use Rattle.rbd_world.specs.Seats.{seat_at}
 use Rattle.rbd_machine.specs.declared.seat.Seat.{Seat}
@@ -48,7 +48,7 @@ module _ {R : Type 0} (stands : R → Standing) where
   module _ (home : SiteId) (who : Instance) (run : List Happening) where
     -- ---- a session without requests
 
-    pub none_in_order : (c : SessionView R) → ((x : ℕ) → running_at x c ≡ None) → IsInOrder stands home who run c
+    pub none_in_order : (c : SessionView R) → ((x : ℕ) → running_at x c ≡ None) → AreWritesInOrder stands home who run c
     none_in_order c none = record {
       extents = λ x r runs. absurd (none-some r (sym (none x) ∙ runs));
       comes = λ x r runs. absurd (none-some r (sym (none x) ∙ runs));
@@ -66,7 +66,7 @@ module _ {R : Type 0} (stands : R → Standing) where
         by (inl same) = absurd (none-some q (sym none ∙ sym (ap (λ i. running_at i d) same) ∙ runs))
         by (inr differ) = (differ, sym (ap running_in (slots x differ)) ∙ runs)
 
-    pub freed_order : (slot : ℕ) (c d : SessionView R) → AreSlotsBut slot c d → d.lines ≡ c.lines → running_at slot d ≡ None → IsInOrder stands home who run c → IsInOrder stands home who run d
+    pub freed_order : (slot : ℕ) (c d : SessionView R) → AreSlotsBut slot c d → d.lines ≡ c.lines → running_at slot d ≡ None → AreWritesInOrder stands home who run c → AreWritesInOrder stands home who run d
     freed_order slot c d slots lines none =
         same_order stands home who run c d
         (λ x q runs. record { was = q; there = (ran_elsewhere slot c d slots none x q runs).1; same = same_itself q })
@@ -74,7 +74,7 @@ module _ {R : Type 0} (stands : R → Standing) where
 
     -- so it is where it left its line
     pub left_order : (slot : ℕ) (c d : SessionView R) → AreSlotsBut slot c d → LeavesOthers slot (lines_of c.lines) (lines_of d.lines) → KeepsAhead slot (lines_of c.lines) (lines_of d.lines)
-        → running_at slot d ≡ None → IsInOrder stands home who run c → IsInOrder stands home who run d
+        → running_at slot d ≡ None → AreWritesInOrder stands home who run c → AreWritesInOrder stands home who run d
     left_order slot c d slots leaves keeps none old = record {
       extents = λ x q runs. old.extents x q (was x q runs).1;
       comes = λ x q runs. old.comes x q (was x q runs).1;
@@ -92,7 +92,7 @@ module _ {R : Type 0} (stands : R → Standing) where
         was = ran_elsewhere slot c d slots none
 
     -- a request that was refused on its way
-    pub given_up_order : (slot : ℕ) (c d : SessionView R) (r : Running R) → running_at slot c ≡ Some r → IsGivenUp slot c d → AreSlotsBut slot c d → IsInOrder stands home who run c → IsInOrder stands home who run d
+    pub given_up_order : (slot : ℕ) (c d : SessionView R) (r : Running R) → running_at slot c ≡ Some r → IsGivenUp slot c d → AreSlotsBut slot c d → AreWritesInOrder stands home who run c → AreWritesInOrder stands home who run d
     given_up_order slot c d r runs given slots =
         left_order slot c d slots
         (λ other differ s image. ap (λ (ls : SiteId → ℕ → List Member). member_of other (ls s image)) left ∙ ended_leaves slot (track_of r c.lines) other differ s image)
@@ -116,7 +116,7 @@ module _ {R : Type 0} (stands : R → Standing) where
     alike_in (Some (occupant.Refused line refusal)) p q alike is = absurd (none-some q (sym (ap running_in alike) ∙ is))
     alike_in None p q alike is = absurd (none-some q (sym (ap running_in alike) ∙ is))
 
-    pub alike_order : (c d : SessionView R) → IsAlike stands c d → IsInOrder stands home who run c → IsInOrder stands home who run d
+    pub alike_order : (c d : SessionView R) → IsAlike stands c d → AreWritesInOrder stands home who run c → AreWritesInOrder stands home who run d
     alike_order c d alike =
         same_order stands home who run c d
         (λ x q runs. by x q (alike_in (held_in x c.slots) (held_in x d.slots) q (alike.slots x) runs))
@@ -127,12 +127,12 @@ module _ {R : Type 0} (stands : R → Standing) where
 
   -- a client that is the same but for that
   pub alike_order_if : (home : SiteId) (run : List Happening) (o n : Option (ClientView R)) → IsClientAlikeIf stands o n
-      → ((c : ClientView R) → o ≡ Some c → IsInOrder stands home c.session.instance run c.session) → (d : ClientView R) → n ≡ Some d → IsInOrder stands home d.session.instance run d.session
+      → ((c : ClientView R) → o ≡ Some c → AreWritesInOrder stands home c.session.instance run c.session) → (d : ClientView R) → n ≡ Some d → AreWritesInOrder stands home d.session.instance run d.session
   alike_order_if home run None n alike old d is = absurd (none-some d (sym alike ∙ is))
   alike_order_if home run (Some c) None alike old d is = elim alike [ ]
   alike_order_if home run (Some c) (Some e) alike old d is =
-      subst (λ (v : ClientView R). IsInOrder stands home v.session.instance run v.session) (same_Some e d is)
-      (subst (λ i. IsInOrder stands home i run e.session) (sym alike.session.instance)
+      subst (λ (v : ClientView R). AreWritesInOrder stands home v.session.instance run v.session) (same_Some e d is)
+      (subst (λ i. AreWritesInOrder stands home i run e.session) (sym alike.session.instance)
       (alike_order home c.session.instance run c.session e.session alike.session (old c refl)))
 
   -- the request that a slot holds is under way
@@ -147,7 +147,7 @@ module _ {R : Type 0} (stands : R → Standing) where
   module _ (old new : WorldView R) (w : IsSoundWorld stands old) (h : Happening) (due : IsDue w.told.homes h w.told.run) where
     -- a client for whose requests it is nothing
     pub order_on : (m : ℕ) (q : ClientView R) → client_in m old.lives ≡ Some q → ((x line : ℕ) → script_line (held_in x q.session.slots) ≡ Some line → IsQuiet line h)
-        → ((other : ℕ) → IsWriterOf q.session.instance other (h ∷ w.told.run) → steps_in other h ≡ []) → IsInOrder stands (w.told.homes m) q.session.instance (h ∷ w.told.run) q.session
+        → ((other : ℕ) → IsWriterOf q.session.instance other (h ∷ w.told.run) → steps_in other h ≡ []) → AreWritesInOrder stands (w.told.homes m) q.session.instance (h ∷ w.told.run) q.session
     order_on m q there quiet foreign =
         quiet_order stands w.told.homes (w.told.homes m) q.session.instance h w.told.run q.session due w.told.right foreign
         (λ x r runs. quiet x r.line (running_line (held_in x q.session.slots) r runs)) (w.in_order m q there)
@@ -155,13 +155,13 @@ module _ {R : Type 0} (stands : R → Standing) where
     -- one whose requests stay, where it is no operation of a write itself: on the way to a lock, of
     -- its house, or none
     pub still_in_order : (m : ℕ) (c d : ClientView R) → client_in m old.lives ≡ Some c → d.session ≡ c.session → ((line : ℕ) (before : Option Asked) → or_asked line h before ≡ before)
-        → ((other : ℕ) → IsWriterOf c.session.instance other (h ∷ w.told.run) → steps_in other h ≡ []) → IsInOrder stands (w.told.homes m) d.session.instance (h ∷ w.told.run) d.session
+        → ((other : ℕ) → IsWriterOf c.session.instance other (h ∷ w.told.run) → steps_in other h ≡ []) → AreWritesInOrder stands (w.told.homes m) d.session.instance (h ∷ w.told.run) d.session
     still_in_order m c d there same asks foreign =
-        subst (λ (v : SessionView R). IsInOrder stands (w.told.homes m) v.instance (h ∷ w.told.run) v) (sym same)
+        subst (λ (v : SessionView R). AreWritesInOrder stands (w.told.homes m) v.instance (h ∷ w.told.run) v) (sym same)
         (still_order stands w.told.homes (w.told.homes m) c.session.instance h w.told.run c.session due w.told.right foreign
         (λ x r runs. asks r.line (asked_by r.line w.told.run)) (λ x r runs writes. foreign r.line (writer x r runs writes)) in_order)
       where
-        in_order : IsInOrder stands (w.told.homes m) c.session.instance w.told.run c.session
+        in_order : AreWritesInOrder stands (w.told.homes m) c.session.instance w.told.run c.session
         in_order = w.in_order m c there
 
         writer : (x : ℕ) (r : Running R) → running_at x c.session ≡ Some r → IsSome r.extent → IsWriterOf c.session.instance r.line (h ∷ w.told.run)
@@ -176,7 +176,7 @@ module _ {R : Type 0} (stands : R → Standing) where
 
     -- a session itself, where its slot's request doesn't run
     pub order_beside : (home : SiteId) (who : Instance) (slot : ℕ) (c : SessionView R) → ((x line : ℕ) → x ≢ slot → script_line (held_in x c.slots) ≡ Some line → IsQuiet line h)
-        → running_at slot c ≡ None → ((other : ℕ) → IsWriterOf who other (h ∷ w.told.run) → steps_in other h ≡ []) → IsInOrder stands home who w.told.run c → IsInOrder stands home who (h ∷ w.told.run) c
+        → running_at slot c ≡ None → ((other : ℕ) → IsWriterOf who other (h ∷ w.told.run) → steps_in other h ≡ []) → AreWritesInOrder stands home who w.told.run c → AreWritesInOrder stands home who (h ∷ w.told.run) c
     order_beside home who slot c quiet none foreign =
         quiet_order stands w.told.homes home who h w.told.run c due w.told.right foreign
         (λ x r runs. quiet x r.line (λ same. none-some r (sym none ∙ sym (ap (λ i. running_at i c) same) ∙ runs)) (running_line (held_in x c.slots) r runs))
@@ -185,13 +185,13 @@ module _ {R : Type 0} (stands : R → Standing) where
     pub orders_of : (session : ℕ) → ((m : ℕ) → m ≢ session → client_in m new.lives ≡ client_in m old.lives)
         → ((m : ℕ) (q : ClientView R) → m ≢ session → client_in m old.lives ≡ Some q → (x line : ℕ) → script_line (held_in x q.session.slots) ≡ Some line → IsQuiet line h)
         → ((m : ℕ) (q : ClientView R) → m ≢ session → client_in m old.lives ≡ Some q → (other : ℕ) → IsWriterOf q.session.instance other (h ∷ w.told.run) → steps_in other h ≡ [])
-        → ((d : ClientView R) → client_in session new.lives ≡ Some d → IsInOrder stands (w.told.homes session) d.session.instance (h ∷ w.told.run) d.session)
-        → (m : ℕ) (q : ClientView R) → client_in m new.lives ≡ Some q → IsInOrder stands (w.told.homes m) q.session.instance (h ∷ w.told.run) q.session
+        → ((d : ClientView R) → client_in session new.lives ≡ Some d → AreWritesInOrder stands (w.told.homes session) d.session.instance (h ∷ w.told.run) d.session)
+        → (m : ℕ) (q : ClientView R) → client_in m new.lives ≡ Some q → AreWritesInOrder stands (w.told.homes m) q.session.instance (h ∷ w.told.run) q.session
     orders_of session others quiet foreign own m q is = by (same_or_other m session)
       where
-        by : (m ≡ session) ⊎ (m ≢ session) → IsInOrder stands (w.told.homes m) q.session.instance (h ∷ w.told.run) q.session
+        by : (m ≡ session) ⊎ (m ≢ session) → AreWritesInOrder stands (w.told.homes m) q.session.instance (h ∷ w.told.run) q.session
         by (inl here) =
-            subst (λ i. IsInOrder stands (w.told.homes i) q.session.instance (h ∷ w.told.run) q.session) (sym here)
+            subst (λ i. AreWritesInOrder stands (w.told.homes i) q.session.instance (h ∷ w.told.run) q.session) (sym here)
             (own q (ap (λ i. client_in i new.lives) (sym here) ∙ is))
         by (inr differ) =
             let before = sym (others m differ) ∙ is in

@@ -3,15 +3,15 @@ use Rattle.std.proofs.Common.{◌≡◌, ◌⊎◌, inl, inr, ℕ, ◌||◌, tru
 use Rattle.std.specs.Prelude.{IsSome}
 use Rattle.rbd_kinds.specs.declared.id.Instance.{Instance}
 use Rattle.rbd_kinds.specs.declared.id.SiteId.{SiteId}
-use Rattle.rbd_line.specs.Line.{ahead, is_member}
+use Rattle.rbd_queue.specs.Line.{ahead, is_member}
 use Rattle.rbd_machine.specs.Plan.{Standing}
-use Rattle.rbd_session.specs.declared.running.Running.{Running}
-use Rattle.rbd_session.specs.Advance.{IsSameStand}
-use Rattle.rbd_session.specs.Lines.{lines_of}
-use Rattle.rbd_session.specs.Session.{SessionView, running_at}
+use Rattle.rbd_slots.specs.declared.running.Running.{Running}
+use Rattle.rbd_slots.specs.Advance.{IsSameStand}
+use Rattle.rbd_slots.specs.Lines.{lines_of}
+use Rattle.rbd_slots.specs.Session.{SessionView, running_at}
 use Rattle.rbd_world.specs.InLine.{IsPastWithout}
-use Rattle.rbd_requests.specs.InLine.{KeepsTo, ChangesInLine}
-use Rattle.rbd_world.specs.Order.{IsBeforeFinding, IsBehindFinding, IsInOrder, IsWriterOf, found_before, has_found, has_written, writes_in}
+use Rattle.rbd_catalog.specs.InLine.{KeepsTo, ChangesInLine}
+use Rattle.rbd_world.specs.Order.{IsBeforeFinding, IsBehindFinding, AreWritesInOrder, IsWriterOf, found_before, has_found, has_written, writes_in}
 use Rattle.rbd_world.specs.Run.{Happening, asked_by, or_asked, steps_in}
 use Rattle.rbd_world.specs.Sound.{IsDue, IsRight}
 use Rattle.rbd_world.proofs.FoundFirst.{finds_nothing, found_earlier, writes_nothing, wrote_was}
@@ -54,7 +54,7 @@ module _ {R : Type 0} (stands : R → Standing) (homes : ℕ → SiteId) (home :
     (due : IsDue homes h run) (right : IsRight homes run) (foreign : (other : ℕ) → IsWriterOf who other (h ∷ run) → steps_in other h ≡ []) where
   -- it is no step of its writes, and begins none of its requests
   pub still_order : ((x : ℕ) (r : Running R) → running_at x c ≡ Some r → or_asked r.line h (asked_by r.line run) ≡ asked_by r.line run)
-      → ((x : ℕ) (r : Running R) → running_at x c ≡ Some r → IsSome r.extent → steps_in r.line h ≡ []) → IsInOrder stands home who run c → IsInOrder stands home who (h ∷ run) c
+      → ((x : ℕ) (r : Running R) → running_at x c ≡ Some r → IsSome r.extent → steps_in r.line h ≡ []) → AreWritesInOrder stands home who run c → AreWritesInOrder stands home who (h ∷ run) c
   still_order same none old = record {
     extents = λ x r runs asked is. old.extents x r runs asked (sym (same x r runs) ∙ is);
     comes = λ x r runs writes. comes_still stands home h run r (none x r runs writes) (old.comes x r runs writes);
@@ -67,7 +67,7 @@ module _ {R : Type 0} (stands : R → Standing) (homes : ℕ → SiteId) (home :
         (found_earlier r.line other s image h run (finds_nothing r.line s image h (none x r runs writes)) before) earlier;
   }
 
-  pub quiet_order : ((x : ℕ) (r : Running R) → running_at x c ≡ Some r → IsQuiet r.line h) → IsInOrder stands home who run c → IsInOrder stands home who (h ∷ run) c
+  pub quiet_order : ((x : ℕ) (r : Running R) → running_at x c ≡ Some r → IsQuiet r.line h) → AreWritesInOrder stands home who run c → AreWritesInOrder stands home who (h ∷ run) c
   quiet_order quiet = still_order (λ x r runs. (quiet x r runs).asked (asked_by r.line run)) (λ x r runs writes. (quiet x r runs).steps)
 
 -- ---- a session that holds the same requests in the same lines, or fewer
@@ -104,7 +104,7 @@ module _ {R : Type 0} (stands : R → Standing) (home : SiteId) (who : Instance)
     pub same : IsSameStand stands was q
 
   pub same_order : (c d : SessionView R) → ((x : ℕ) (q : Running R) → running_at x d ≡ Some q → WasThere x c q)
-      → ((s : SiteId) (image : ℕ) → lines_of d.lines s image ≡ lines_of c.lines s image) → IsInOrder stands home who run c → IsInOrder stands home who run d
+      → ((s : SiteId) (image : ℕ) → lines_of d.lines s image ≡ lines_of c.lines s image) → AreWritesInOrder stands home who run c → AreWritesInOrder stands home who run d
   same_order c d there lines old = record {
     extents = λ x q runs asked is.
         let w = there x q runs in w.same.extent ∙ old.extents x w.was w.there asked (sym (ap (λ l. asked_by l run) w.same.line) ∙ is);

@@ -1,15 +1,16 @@
--- Who does an operation pays what it owes by it, who removes an object owes its state or has removed
--- the header of its image, and where a snapshot is taken nobody owes an object of its image.
+-- Who does an operation pays what it owes by it, who removes an object owes its state or has
+-- removed the header of its image, and where a snapshot is taken nobody owes an object of its
+-- image.
 use Rattle.std.proofs.Common.{◌≡◌, ◌≢◌, ◌⊎◌, inl, inr, ℕ, zero, suc, ◌<◌, ◌==◌, ◌&&◌, Bool, true, false, List, ◌∷◌, Option, Some, None, is_some, refl, sym, ap, ◌∙◌, subst, arith}
 use Rattle.std.specs.Prelude.{IsSome}
 use Rattle.std.proofs.lemmas.Bool.{and_from, and_parts, eq-eqb, eqb-true, true≢false}
 use Rattle.std.proofs.lemmas.Option.{none-some, same_Some}
 use Rattle.rbd_client.specs.Client.{ClientView}
-use Rattle.rbd_exact.specs.Exact.{AreExact, IsOwed, makes_object, removes_object, sets_state, state_of, takes_snap}
-use Rattle.rbd_exact.specs.Owed.{Due, Made, Gone, Lowered, IsClearing, IsPayment, PaysItsStates, Spot, due_behind, due_by, is_due, makes, owed_at, owed_behind, owed_by, removes}
-use Rattle.rbd_exact.proofs.Exactly.{all_exact}
-use Rattle.rbd_exact.proofs.Pays.{request_pays}
-use Rattle.rbd_exact.proofs.Walks.{walk_pays}
+use Rattle.rbd_interference.specs.Exact.{AreExact, IsOwed, makes_object, removes_object, sets_state, state_of, takes_snap}
+use Rattle.rbd_interference.specs.Owed.{Due, Made, Gone, Lowered, IsClearing, IsPayment, PaysItsStates, Spot, due_behind, due_by, pays_due, makes, owed_at, owed_behind, owed_by, removes}
+use Rattle.rbd_interference.proofs.Exactly.{all_exact}
+use Rattle.rbd_interference.proofs.Pays.{request_pays}
+use Rattle.rbd_interference.proofs.Walks.{walk_pays}
 use Rattle.rbd_kinds.specs.declared.answer.Answer.{Answer}
 use Rattle.rbd_kinds.specs.declared.answer.Answer.TheVariants as answer
 use Rattle.rbd_kinds.specs.declared.data_op.DataOp.{DataOp}
@@ -25,7 +26,7 @@ use Rattle.rbd_kinds.specs.declared.operation.Op.{Op}
 use Rattle.rbd_kinds.specs.declared.operation.Op.TheVariants as op
 use Rattle.rbd_kinds.specs.declared.reply.Reply.{Reply}
 use Rattle.rbd_kinds.proofs.Images.{same_site_itself}
-use Rattle.rbd_known.specs.Knowing.{KnowsBy, KnowsIn}
+use Rattle.rbd_knowledge.specs.Knowing.{KnowsBy, KnowsIn}
 use Rattle.rbd_machine.specs.Knowledge.{Knowledge, is_gone, learned, same_site}
 use Rattle.rbd_machine.specs.Label.{Label}
 use Rattle.rbd_machine.specs.Lawful.{IsLawful}
@@ -34,30 +35,30 @@ use Rattle.rbd_machine.specs.Plan.{Plan, Ask, Await, Note, Return, Goto, Standin
 use Rattle.rbd_machine.specs.Refused.{IsGiven}
 use Rattle.rbd_machine.specs.declared.reason.Reason.{Reason}
 use Rattle.rbd_machine.specs.declared.seat.Seat.{Seat}
-use Rattle.rbd_owner.specs.Acquire.{op_at, op_of}
-use Rattle.rbd_owner.specs.Release.{release_op, release_op_at}
-use Rattle.rbd_owner.specs.declared.acquire.Acquire.{Acquire}
-use Rattle.rbd_owner.specs.declared.acquire.Stage.{Stage}
-use Rattle.rbd_owner.specs.declared.acquire.Stage.TheVariants as stage
-use Rattle.rbd_owner.specs.declared.release.Release.{Release}
-use Rattle.rbd_owner.specs.declared.release.Stage.{Stage as Part_of}
-use Rattle.rbd_owner.specs.declared.release.Stage.TheVariants as part
-use Rattle.rbd_rely.specs.Beside.{AreBeside}
-use Rattle.rbd_rely.specs.Truth.{header_of_own, is_alone_on, is_own_alone, known_header}
-use Rattle.rbd_rely.proofs.Headers.{unknown_while_waiting}
-use Rattle.rbd_session.specs.declared.running.Occupant.{Occupant}
-use Rattle.rbd_session.specs.declared.running.Occupant.TheVariants as occupant
-use Rattle.rbd_session.specs.declared.running.Running.{Running}
-use Rattle.rbd_session.specs.Session.{held_in, running_in, script_line}
+use Rattle.rbd_lock.specs.Acquire.{op_at_stage, op_of}
+use Rattle.rbd_lock.specs.Release.{release_op, release_op_at}
+use Rattle.rbd_lock.specs.declared.acquire.Acquire.{Acquire}
+use Rattle.rbd_lock.specs.declared.acquire.Stage.{Stage}
+use Rattle.rbd_lock.specs.declared.acquire.Stage.TheVariants as stage
+use Rattle.rbd_lock.specs.declared.release.Release.{Release}
+use Rattle.rbd_lock.specs.declared.release.Stage.{Stage as Part_of}
+use Rattle.rbd_lock.specs.declared.release.Stage.TheVariants as part
+use Rattle.rbd_interference.specs.Beside.{AreBeside}
+use Rattle.rbd_interference.specs.Truth.{header_of_own, is_alone_on, is_own_alone, known_header}
+use Rattle.rbd_interference.proofs.Headers.{unknown_while_waiting}
+use Rattle.rbd_slots.specs.declared.running.Occupant.{Occupant}
+use Rattle.rbd_slots.specs.declared.running.Occupant.TheVariants as occupant
+use Rattle.rbd_slots.specs.declared.running.Running.{Running}
+use Rattle.rbd_slots.specs.Session.{held_in, running_in, script_line}
 use Rattle.rbd_site.specs.Records.{Records, object_at}
 use Rattle.rbd_site.specs.Step.{answer_to, is_fenced}
 use Rattle.rbd_site.proofs.FenceLemmas.{refused_is_fenced}
-use Rattle.rbd_world.specs.Owing.{IsUnhindered, has_worked, owed_in}
+use Rattle.rbd_world.specs.Owing.{HasNoHindrance, has_worked, owed_in}
 use Rattle.rbd_world.specs.Run.{Itself, Happening, Did, Operation, is_own, records_after, steps_of}
 use Rattle.rbd_world.specs.Seats.{seat_at}
 use Rattle.rbd_world.specs.Sound.{InSlot, IsHeldRightly, IsInSlot, IsOpen, IsRefusedAtOnce, IsSoundWorld, IsUnderWay, held_of}
 use Rattle.rbd_world.specs.Step.{operation_at}
-use Rattle.rbd_world.specs.World.{WorldView, client_in, records_in, session_of, site_in}
+use Rattle.rbd_world.specs.World.{WorldView, client_in, records_in, session_of_client, site_in}
 use Rattle.rbd_world.proofs.Changed.{same_or_other}
 use Rattle.rbd_world.proofs.Debts.{debt_open, none_fenced, others_owe, own_steps, worked}
 use Rattle.rbd_world.proofs.Exactly.{OwesAsItGoes}
@@ -163,7 +164,7 @@ clears_gone at site image (Note s i event next) k clears lawful = absurd clears
 clears_gone at site image (Return reply) k clears lawful = absurd clears
 clears_gone at site image (Goto label) k clears lawful = absurd clears
 
-removes_due : (due : Due) (context : SnapContext) → is_due due (object.Remove context) ≡ true → due ≡ Gone
+removes_due : (due : Due) (context : SnapContext) → pays_due due (object.Remove context) ≡ true → due ≡ Gone
 removes_due Made context is = absurd (true≢false (sym is))
 removes_due Gone context is = refl
 removes_due Lowered context is = absurd (true≢false (sym is))
@@ -187,7 +188,7 @@ removal_owes at k owed s why (op.Data i n (object.Read snap parts)) next a image
 removal_owes at k owed s why (op.Data i n o) next a image number pays lawful given free removes = absurd (true≢false (sym removes))
 removal_owes at k owed s why o next a image number pays lawful given free removes = absurd (true≢false (sym removes))
 
-reads_none : (due : Due) (snap : Option ℕ) (parts : List Part) → is_due due (object.Read snap parts) ≡ true → ⊥
+reads_none : (due : Due) (snap : Option ℕ) (parts : List Part) → pays_due due (object.Read snap parts) ≡ true → ⊥
 reads_none Made snap parts is = true≢false (sym is)
 reads_none Gone snap parts is = true≢false (sym is)
 reads_none Lowered snap parts is = true≢false (sym is)
@@ -196,7 +197,7 @@ reads_none Lowered snap parts is = true≢false (sym is)
 abbrev KnowsOrGone : Knowledge → SiteId → (image : ℕ) → Type 0
 KnowsOrGone k s image = IsSome (known_header k s image) ⊎ (is_gone k.gone s image ≡ true)
 
-object_knows : (k : Knowledge) (s : SiteId) (image number : ℕ) (due : Due) (o : DataOp) → is_due due o ≡ true → PermitsOnObject k s image number o → KnowsOrGone k s image
+object_knows : (k : Knowledge) (s : SiteId) (image number : ℕ) (due : Due) (o : DataOp) → pays_due due o ≡ true → PermitsOnObject k s image number o → KnowsOrGone k s image
 object_knows k s image number due (object.Read snap parts) is permits = absurd (reads_none due snap parts is)
 object_knows k s image number due (object.Write context must parts bytes) is permits = inl (ap (λ o. is_some (header_of_own o)) permits.is)
 object_knows k s image number due (object.WriteFull context bytes) is permits = inl (ap (λ o. is_some (header_of_own o)) permits.is)
@@ -240,7 +241,7 @@ pub way_pays : {R : Type 0} (stands : R → Standing) (seat : Seat) (who : Insta
 way_pays stands seat who run r way =
     walk_pays way.start way.feds (steps_of r.line run) (stands r.request).plan (request_pays seat way.begun.asked.command way.start way.plan) way.given way.standalone way.walk
 
-module _ {R : Type 0} (stands : R → Standing) (old : WorldView R) (w : IsSoundWorld stands old) (calm : IsUnhindered w.told.run) where
+module _ {R : Type 0} (stands : R → Standing) (old : WorldView R) (w : IsSoundWorld stands old) (calm : HasNoHindrance w.told.run) where
   all_free : (s : SiteId) (i : Instance) → is_fenced (records_in s old.sites) i ≡ false
   all_free s i = ap (λ r. is_fenced r i) (w.told.records s) ∙ none_fenced w.told.homes w.told.run w.told.right calm s i
 
@@ -300,7 +301,7 @@ module _ {R : Type 0} (stands : R → Standing) (old : WorldView R) (w : IsSound
               (way_pays stands (seat_at w.told.homes at.session) c.session.instance w.told.run r
               (subst (IsHeldRightly stands (seat_at w.told.homes at.session) c.session.instance w.told.run) held ((w.clients at.session c there).held at.slot)))
 
-      in_slot : (o : Option (ClientView R)) → client_in at.session old.lives ≡ o → script_line (held_of at.slot (session_of o)) ≡ Some is.who → IsOwing s image
+      in_slot : (o : Option (ClientView R)) → client_in at.session old.lives ≡ o → script_line (held_of at.slot (session_of_client o)) ≡ Some is.who → IsOwing s image
       in_slot None there line = absurd (none-some is.who line)
       in_slot (Some c) there line = holding c there (held_in at.slot c.session.slots) refl line
 
@@ -468,7 +469,7 @@ plain_owes o reply run others plain = record {
     still : (t : SiteId) (image number state : ℕ) → IsOwed (owed_in run) t image number state → IsOwed (owed_in (Did o reply ∷ run)) t image number state
     still t image number state is = record { who = is.who; due = is.due; owes = others_owe is.who o reply run (others is.who) ∙ is.owes; is = is.is }
 
-plain_stage : (at : Stage) (image : ℕ) → IsPlain (op_at at image)
+plain_stage : (at : Stage) (image : ℕ) → IsPlain (op_at_stage at image)
 plain_stage stage.Watching image = record { sets = λ i n to. refl; removes = λ i n. refl; takes = λ i. refl }
 plain_stage stage.Taking image = record { sets = λ i n to. refl; removes = λ i n. refl; takes = λ i. refl }
 plain_stage (stage.Looking owner) image = record { sets = λ i n to. refl; removes = λ i n. refl; takes = λ i. refl }

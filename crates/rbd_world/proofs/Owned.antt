@@ -17,8 +17,8 @@ use Rattle.rbd_kinds.specs.declared.operation.Op.{Op}
 use Rattle.rbd_kinds.specs.declared.operation.Op.TheVariants as op
 use Rattle.rbd_machine.specs.Knowledge.{Knowledge}
 use Rattle.rbd_machine.specs.Permits.{IsLeftOver, OwnsBy, Permits, PermitsOnHeader, PermitsOnMap, PermitsOnObject}
-use Rattle.rbd_rely.specs.Locks.{KnowsByLock}
-use Rattle.rbd_rely.specs.Truth.{IsTrueAt, header_of_own}
+use Rattle.rbd_interference.specs.Locks.{KnowsByLock}
+use Rattle.rbd_interference.specs.Truth.{IsTrueAt, header_of_own}
 use Rattle.rbd_site.specs.Records.{Records}
 use Rattle.rbd_site.specs.Step.{answer_served, answer_to, is_fenced}
 use Rattle.rbd_stands.specs.Owned.{HasLock, IsOwnedStep, IsOwner, changes_data, changes_header, changes_image, changes_map, was_done}

@@ -19,14 +19,14 @@ use Rattle.rbd_kinds.specs.Images.{is_at, same_site}
 use Rattle.rbd_kinds.specs.Instances.{same_instance}
 use Rattle.rbd_kinds.proofs.Images.{same_site_is}
 use Rattle.rbd_kinds.proofs.Instances.{same_instance_is, same_instance_itself}
-use Rattle.rbd_locks.specs.Comings.{ByAnswer, owned_since, owns_after}
-use Rattle.rbd_locks.specs.Locks.{state_at}
+use Rattle.rbd_lock.specs.Comings.{ByAnswer, owned_since, owns_after}
+use Rattle.rbd_lock.specs.Locks.{lock_state_at}
 use Rattle.rbd_machine.specs.Knowledge.{Knowledge}
 use Rattle.rbd_machine.specs.Permits.{Permits}
 use Rattle.rbd_machine.specs.Plan.{Standing}
-use Rattle.rbd_owner.specs.Steps.{lock_take}
-use Rattle.rbd_rely.proofs.Fenced.{was_free}
-use Rattle.rbd_session.specs.Session.{held_in}
+use Rattle.rbd_lock.specs.Steps.{lock_take}
+use Rattle.rbd_interference.proofs.Fenced.{was_free}
+use Rattle.rbd_slots.specs.Session.{held_in}
 use Rattle.rbd_site.specs.HeaderStep.{header_after, header_answer, is_owner, lock_left, lock_taken}
 use Rattle.rbd_site.specs.Log.{expired, trimmed}
 use Rattle.rbd_site.specs.Records.{Records}
@@ -34,7 +34,7 @@ use Rattle.rbd_site.specs.Step.{after, after_served, answer_served, answer_to, i
 use Rattle.rbd_world.specs.Late.{is_late}
 use Rattle.rbd_world.specs.Owning.{owns_in}
 use Rattle.rbd_world.specs.Run.{Doer, Itself, OnWay, House, AfterStop, Happening, Nothing, Waited, Began, Did, Refused, Trimmed, Expired, Heard, Stopped, Restarted, Life, Operation, Sent, comes_of, life_after, records_after, sent_after, sent_of}
-use Rattle.rbd_world.specs.Sound.{IsDone, IsDue, IsOf, IsRestart, IsRight, IsSoundWorld}
+use Rattle.rbd_world.specs.Sound.{IsRightlyDone, IsDue, IsOf, IsRestart, IsRight, IsSoundWorld}
 use Rattle.rbd_world.specs.World.{WorldView, client_in, records_in}
 use Rattle.rbd_world.proofs.Alive.{only_lives_that_run_act}
 use Rattle.rbd_world.proofs.OwnersWatch.{HadOrTook, MakesUnowned, header_owner, makes_unowned, owner_at, owner_of, owner_then}
@@ -113,7 +113,7 @@ module _ (r : Records) (who : Instance) (k : Knowledge) (t s : SiteId) (image : 
 -- ---- along a run
 
 module _ (homes : ℕ → SiteId) (s : SiteId) (image : ℕ) (who : Instance) where
-  module _ (o : Operation) (reply : Option Reply) (run : List Happening) (done : IsDone o run)
+  module _ (o : Operation) (reply : Option Reply) (run : List Happening) (done : IsRightlyDone o run)
       (before : owner_at (records_after s run) image ≡ Some who → is_fenced (records_after s run) who ≡ false → owns_in who s image run ≡ true) where
     abbrev r : Records
     r = records_after s run
@@ -282,7 +282,7 @@ module _ (homes : ℕ → SiteId) where
 
 module _ {R : Type 0} (stands : R → Standing) (w : WorldView R) (sound : IsSoundWorld stands w) (session : ℕ) (c : ClientView R) (is : client_in session w.lives ≡ Some c) (s : SiteId) (image : ℕ) where
   -- who has the lock, and doesn't count it, is fenced
-  pub owner_is_fenced : owner_at (records_in s w.sites) image ≡ Some c.session.instance → (state_at s image c.locks).owned ≡ false → is_fenced (records_in s w.sites) c.session.instance ≡ true
+  pub owner_is_fenced : owner_at (records_in s w.sites) image ≡ Some c.session.instance → (lock_state_at s image c.locks).owned ≡ false → is_fenced (records_in s w.sites) c.session.instance ≡ true
   owner_is_fenced has none = by (is_fenced (records_in s w.sites) c.session.instance) refl
     where
       by : (b : Bool) → is_fenced (records_in s w.sites) c.session.instance ≡ b → b ≡ true

@@ -17,8 +17,8 @@ use Rattle.rbd_kinds.specs.Instances.{same_instance}
 use Rattle.rbd_kinds.proofs.Images.{same_site_is, same_site_itself}
 use Rattle.rbd_machine.specs.Knowledge.{Knowledge, is_drawn}
 use Rattle.rbd_machine.specs.Permits.{Permits}
-use Rattle.rbd_owner.specs.Steps.{lock_take}
-use Rattle.rbd_owner.specs.declared.release.Release.{Release}
+use Rattle.rbd_lock.specs.Steps.{lock_take}
+use Rattle.rbd_lock.specs.declared.release.Release.{Release}
 use Rattle.rbd_site.specs.HeaderStep.{header_after, header_answer}
 use Rattle.rbd_site.specs.Log.{expired, trimmed}
 use Rattle.rbd_site.specs.Records.{Records}
@@ -27,10 +27,10 @@ use Rattle.rbd_watch.specs.Watching.{watches}
 use Rattle.rbd_world.specs.LetGo.{release_of}
 use Rattle.rbd_world.specs.Past.{HadNoHeader}
 use Rattle.rbd_world.specs.Run.{Doer, Itself, OnWay, House, AfterStop, Happening, Nothing, Waited, Began, Did, Refused, Trimmed, Expired, Heard, Stopped, Restarted, Operation, records_after}
-use Rattle.rbd_world.specs.Sound.{IsDone, IsDue, IsNextOf, IsOf, IsRight, RecallsBy}
+use Rattle.rbd_world.specs.Sound.{IsRightlyDone, IsDue, IsNextOf, IsOf, IsRight, RecallsBy}
 use Rattle.rbd_world.specs.Watched.{TakesBehindWatch, ends_it, ends_own, ends_watch, expires, has_watched, is_watch, keeps_watch, unwatches_by, watch_expired, watches_by}
 use Rattle.rbd_world.specs.Ways.{IsNextOfRelease}
-use Rattle.rbd_requests.specs.Follows.{TakesNoLock}
+use Rattle.rbd_catalog.specs.Follows.{TakesNoLock}
 use Rattle.rbd_world.proofs.OwnersWatch.{Takes, owned_before, owner_at, owner_of}
 use Rattle.rbd_world.proofs.Runs.{done_of}
 use Rattle.rbd_world.proofs.Sent.{sent_rightly}
@@ -41,7 +41,7 @@ use Rattle.rbd_world.proofs.Watching.{ends_own_is, keeps_on}
 
 -- ---- who takes a lock keeps its watch
 
-pub takes_watched : (homes : ℕ → SiteId) (o : Operation) (run : List Happening) → IsRight homes run → IsDone o run → TakesBehindWatch o.instance o.site o.op run
+pub takes_watched : (homes : ℕ → SiteId) (o : Operation) (run : List Happening) → IsRight homes run → IsRightlyDone o run → TakesBehindWatch o.instance o.site o.op run
 takes_watched homes o run right done = by o.by done.next done.recalls done.whose
   where
     by : (d : Doer) → IsNextOf d o.instance o.site o.op run → RecallsBy d o.site o.op done.knows run → IsOf d o.instance o.site o.op run → TakesBehindWatch o.instance o.site o.op run

@@ -16,13 +16,13 @@ use Rattle.rbd_kinds.specs.Images.{same_site}
 use Rattle.rbd_kinds.proofs.Images.{same_site_is}
 use Rattle.rbd_machine.specs.Knowledge.{Knowledge}
 use Rattle.rbd_machine.specs.Permits.{Permits}
-use Rattle.rbd_owner.specs.Steps.{lock_take}
+use Rattle.rbd_lock.specs.Steps.{lock_take}
 use Rattle.rbd_site.specs.HeaderStep.{header_after, is_owner, where_made}
 use Rattle.rbd_site.specs.Log.{expired, trimmed}
 use Rattle.rbd_site.specs.Records.{Records}
 use Rattle.rbd_site.specs.Step.{after, after_served, is_fenced}
 use Rattle.rbd_world.specs.Run.{Happening, Nothing, Waited, Began, Did, Refused, Trimmed, Expired, Heard, Stopped, Restarted, Operation, records_after}
-use Rattle.rbd_world.specs.Sound.{IsDone, IsDue}
+use Rattle.rbd_world.specs.Sound.{IsRightlyDone, IsDue}
 use Rattle.rbd_world.proofs.Runs.{done_of}
 
 -- ---- the owner of an image's lock
@@ -119,7 +119,7 @@ pub record Takes (who : Instance) (s : SiteId) (image : ℕ) (h : Happening) (ru
   pub o : Operation
   pub reply : Option Reply
   pub is : h ≡ Did o reply
-  pub done : IsDone o run
+  pub done : IsRightlyDone o run
   pub takes : o.op ≡ lock_take image
   pub mine : o.instance ≡ who
   pub here : o.site ≡ s
@@ -144,7 +144,7 @@ pub none_taken : (h : Happening) → is_did h ≡ false → (run : List Happenin
 none_taken h none run who s image took = true≢false (sym (ap is_did took.is) ∙ none)
 
 module _ (homes : ℕ → SiteId) (s : SiteId) (image : ℕ) (who : Instance) (run : List Happening) where
-  did_own : (o : Operation) (reply : Option Reply) → IsDone o run → owner_at (records_after s (Did o reply ∷ run)) image ≡ Some who → (owner_at (records_after s run) image ≡ Some who) ⊎ Takes who s image (Did o reply) run
+  did_own : (o : Operation) (reply : Option Reply) → IsRightlyDone o run → owner_at (records_after s (Did o reply ∷ run)) image ≡ Some who → (owner_at (records_after s run) image ≡ Some who) ⊎ Takes who s image (Did o reply) run
   did_own o reply done is = by (same_site o.site s) refl is
     where
       by : (b : Bool) → same_site o.site s ≡ b → owner_at (cond b (after (records_after s run) o.instance o.op) (records_after s run)) image ≡ Some who

@@ -9,7 +9,7 @@ use Rattle.rbd_client.specs.Client.{ClientView}
 use Rattle.rbd_client.specs.Feeding.{CountsAll, IsFedBy, comings_of}
 use Rattle.rbd_commands.specs.declared.quiescing.Quiescing.{Quiescing}
 use Rattle.rbd_commands.specs.declared.quiescing.Quiescing.TheVariants as quiescing
-use Rattle.rbd_held.proofs.LocksHeld.{counted_since, owned_then}
+use Rattle.rbd_knowledge.proofs.LocksHeld.{counted_since, owned_then}
 use Rattle.rbd_kinds.specs.declared.answer.Answer.{Answer}
 use Rattle.rbd_kinds.specs.declared.id.Instance.{Instance}
 use Rattle.rbd_kinds.specs.declared.id.SiteId.{SiteId}
@@ -22,19 +22,19 @@ use Rattle.rbd_kinds.specs.declared.reply.Reply.{Reply}
 use Rattle.rbd_kinds.specs.Images.{is_at}
 use Rattle.rbd_kinds.specs.Instances.{same_instance}
 use Rattle.rbd_kinds.proofs.Instances.{same_instance_is, same_instance_itself}
-use Rattle.rbd_locks.specs.declared.lock_state.LockState.{LockState}
-use Rattle.rbd_locks.specs.Comings.{ByAnswer, owned_since}
-use Rattle.rbd_locks.specs.Locks.{LocksView, heard, state_at}
-use Rattle.rbd_locks.specs.States.{told}
-use Rattle.rbd_locks.proofs.Lasting.{owned_is, told_owned}
+use Rattle.rbd_lock.specs.declared.lock_state.LockState.{LockState}
+use Rattle.rbd_lock.specs.Comings.{ByAnswer, owned_since}
+use Rattle.rbd_lock.specs.Locks.{LocksView, heard, lock_state_at}
+use Rattle.rbd_lock.specs.States.{told_state}
+use Rattle.rbd_lock.proofs.Lasting.{owned_is, told_owned}
 use Rattle.rbd_machine.specs.Label.{Label}
 use Rattle.rbd_machine.specs.Plan.{Plan, Ask, Await, Note, Return, Goto, Standing}
-use Rattle.rbd_session.specs.declared.running.Occupant.{Occupant}
-use Rattle.rbd_session.specs.declared.running.Occupant.TheVariants as occupant
-use Rattle.rbd_session.specs.declared.running.Running.{Running}
-use Rattle.rbd_session.specs.Advance.{track_of}
-use Rattle.rbd_session.specs.Session.{held_in}
-use Rattle.rbd_session.specs.Waits.{waits}
+use Rattle.rbd_slots.specs.declared.running.Occupant.{Occupant}
+use Rattle.rbd_slots.specs.declared.running.Occupant.TheVariants as occupant
+use Rattle.rbd_slots.specs.declared.running.Running.{Running}
+use Rattle.rbd_slots.specs.Advance.{track_of}
+use Rattle.rbd_slots.specs.Session.{held_in}
+use Rattle.rbd_slots.specs.Waits.{waits}
 use Rattle.rbd_world.specs.declared.event.Event.{Event}
 use Rattle.rbd_world.specs.declared.event.Event.TheVariants as event
 use Rattle.rbd_world.specs.declared.sites.Sites.{Sites}
@@ -108,20 +108,20 @@ then_since there s image o a b = refl
 heard_owned : (n : Notice) (s : SiteId) (image : ℕ) (st : LockState) → (heard n s image st).owned ≡ st.owned
 heard_owned n s image st = by (is_at n.site n.image s image)
   where
-    by : (b : Bool) → (cond b (told n.kind st) st).owned ≡ st.owned
+    by : (b : Bool) → (cond b (told_state n.kind st) st).owned ≡ st.owned
     by true = told_owned n.kind st
     by false = refl
 
 module _ (there : SiteId) (o : Op) (a : Answer) (old new : LocksView) where
   fed_owned : (q : Quiescing) (look : Option ImageAt) → CountsAll (comings_of q look there o (fed.Answer a)) old new → (s : SiteId) (image : ℕ)
-      → (state_at s image new).owned ≡ owned_since s image (state_at s image old).owned (ByAnswer there o a ∷ [])
+      → (lock_state_at s image new).owned ≡ owned_since s image (lock_state_at s image old).owned (ByAnswer there o a ∷ [])
   fed_owned q look counts s image =
-      ap (λ (st : LockState). st.owned) (counts s image) ∙ owned_is s image (comings_of q look there o (fed.Answer a)) (state_at s image old)
-      ∙ counted_since q look there s o a image (state_at s image old).owned ∙ then_since there s image o a (state_at s image old).owned
+      ap (λ (st : LockState). st.owned) (counts s image) ∙ owned_is s image (comings_of q look there o (fed.Answer a)) (lock_state_at s image old)
+      ∙ counted_since q look there s o a image (lock_state_at s image old).owned ∙ then_since there s image o a (lock_state_at s image old).owned
 
 module _ {R : Type 0} (stands : R → Standing) (run : List Happening) (c d : ClientView R) (before : CountsItsLocks c.session.instance run c) (instance : d.session.instance ≡ c.session.instance) where
   -- it counts what it did
-  counts_same : (h : Happening) → IsOthers d.session.instance h → ((s : SiteId) (image : ℕ) → (state_at s image d.locks).owned ≡ (state_at s image c.locks).owned) → CountsItsLocks d.session.instance (h ∷ run) d
+  counts_same : (h : Happening) → IsOthers d.session.instance h → ((s : SiteId) (image : ℕ) → (lock_state_at s image d.locks).owned ≡ (lock_state_at s image c.locks).owned) → CountsItsLocks d.session.instance (h ∷ run) d
   counts_same h other same s image = same s image ∙ before s image ∙ ap (λ i. owns_in i s image run) (sym instance) ∙ sym (unaffected d.session.instance s image h run other)
 
   -- it counts what it is told
@@ -133,7 +133,7 @@ module _ {R : Type 0} (stands : R → Standing) (run : List Happening) (c d : Cl
       (ap (λ i. same_instance i d.session.instance) (mine ∙ sym instance) ∙ same_instance_itself d.session.instance))
     where
       by : (m : Actor) → IsFedBy stands slot o.site o.op (fed.Answer o.answer) result c d m
-          → (state_at s image d.locks).owned ≡ owned_since s image (state_at s image c.locks).owned (ByAnswer o.site o.op o.answer ∷ [])
+          → (lock_state_at s image d.locks).owned ≡ owned_since s image (lock_state_at s image c.locks).owned (ByAnswer o.site o.op o.answer ∷ [])
       by actor.Nobody is_fed = absurd is_fed
       by actor.Request is_fed = fed_owned o.site o.op o.answer c.locks d.locks _ _ is_fed.counts s image
       by (actor.Way a) is_fed = fed_owned o.site o.op o.answer c.locks d.locks quiescing.Leaves None is_fed.counts s image
@@ -203,17 +203,17 @@ module _ {R : Type 0} (stands : R → Standing) (old new : WorldView R) (w : IsS
 
     becomes : (e : Event) (h : Happening) → names_session e h m ≡ true → IsDue w.told.homes h w.told.run → IsOfEvent e h → IsByItsClient old e h → Becomes stands e h c d → CountsItsLocks d.session.instance (h ∷ w.told.run) d
     becomes (event.Submit session line command) (Began asked slot) here due of client b =
-        counts_same stands w.told.run c d before b.begins.client.instance (Began asked slot) tt (λ s image. ap (λ (x : LocksView). (state_at s image x).owned) b.house.locks)
+        counts_same stands w.told.run c d before b.begins.client.instance (Began asked slot) tt (λ s image. ap (λ (x : LocksView). (lock_state_at s image x).owned) b.house.locks)
     becomes (event.Submit session line command) Nothing here due of client b = stays Nothing tt b
     becomes (event.Poll session slot) (Did o reply) here due of client b =
         counts_told stands w.told.run c d before b.client.instance slot o reply reply (client c (ap (λ n. client_in n old.lives) (eqb-true session m here) ∙ was)) (actor_at stands slot c) b.fed
     becomes (event.Poll session slot) (Refused s line reply) here due of client b =
-        counts_same stands w.told.run c d before b.client.instance (Refused s line reply) tt (λ s image. ap (λ (x : LocksView). (state_at s image x).owned) b.house.locks)
+        counts_same stands w.told.run c d before b.client.instance (Refused s line reply) tt (λ s image. ap (λ (x : LocksView). (lock_state_at s image x).owned) b.house.locks)
     becomes (event.Poll session slot) Nothing here due of client b = stays Nothing tt b
     becomes (event.Poll session slot) Waited here due of client b = stays Waited tt b
     becomes (event.Deliver number) (Heard notice) here due of client b =
         counts_same stands w.told.run c d before (ap (λ x. x.instance) b.session) (Heard notice) tt
-        (λ s image. ap (λ (st : LockState). st.owned) (b.locks s image) ∙ heard_owned notice s image (state_at s image c.locks))
+        (λ s image. ap (λ (st : LockState). st.owned) (b.locks s image) ∙ heard_owned notice s image (lock_state_at s image c.locks))
     becomes (event.Deliver number) Nothing here due of client b = stays Nothing tt b
     becomes (event.Late session slot) (Did o reply) here due of client b =
         stays (Did o reply) (late_others slot o reply due (subst (λ n. IsLateOf n slot o reply) (eqb-true session m here) of)) b

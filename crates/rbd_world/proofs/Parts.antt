@@ -15,13 +15,13 @@ use Rattle.rbd_kinds.specs.declared.notice.Notice.{Notice}
 use Rattle.rbd_kinds.specs.Instances.{same_instance}
 use Rattle.rbd_machine.specs.Label.{Label}
 use Rattle.rbd_machine.specs.Plan.{Plan, Ask, Await, Note, Return, Goto, Standing}
-use Rattle.rbd_session.specs.declared.running.Occupant.{Occupant}
-use Rattle.rbd_session.specs.declared.running.Occupant.TheVariants as occupant
-use Rattle.rbd_session.specs.declared.running.Running.{Running}
-use Rattle.rbd_session.specs.Advance.{track_of}
-use Rattle.rbd_session.specs.Session.{held_in}
-use Rattle.rbd_session.specs.Waits.{waits}
-use Rattle.rbd_watch.specs.Posting.{numbered}
+use Rattle.rbd_slots.specs.declared.running.Occupant.{Occupant}
+use Rattle.rbd_slots.specs.declared.running.Occupant.TheVariants as occupant
+use Rattle.rbd_slots.specs.declared.running.Running.{Running}
+use Rattle.rbd_slots.specs.Advance.{track_of}
+use Rattle.rbd_slots.specs.Session.{held_in}
+use Rattle.rbd_slots.specs.Waits.{waits}
+use Rattle.rbd_watch.specs.Posting.{notice_numbered}
 use Rattle.rbd_watch.specs.Watching.{oldest_of}
 use Rattle.rbd_world.specs.declared.event.Event.{Event}
 use Rattle.rbd_world.specs.declared.event.Event.TheVariants as event
@@ -29,7 +29,7 @@ use Rattle.rbd_world.specs.declared.event.Outcome.{Outcome}
 use Rattle.rbd_world.specs.declared.sites.Sites.{Sites}
 use Rattle.rbd_world.specs.Begun.{has_line}
 use Rattle.rbd_world.specs.declared.begun.BegunLines.{BegunLines}
-use Rattle.rbd_world.specs.Noted.{IsNotedStep, noted_by}
+use Rattle.rbd_world.specs.Noted.{IsNotedStep, history_with}
 use Rattle.rbd_world.specs.Run.{Happening, Nothing, Waited, Began, Did, Refused, Trimmed, Expired, Heard, Stopped, Restarted, Sent, entries_of, ending_entries, outcome_of}
 use Rattle.rbd_world.specs.Step.{AreSameSites, DoesAtSites, DoesToLives, DoesToParts, LeavesLives, LeavesParts, begins_of, begun_behind, come, delivered, done_by, ended_watch, expired_at, goes_on_by, happens, heard_by, is_begun, last_life, next_life, next_number, polled, polled_in, releases, restarted, restarted_of, stopped, submitted, trimmed_at}
 use Rattle.rbd_world.specs.World.{LivesView, client_in, late_at, lives_in, records_in, site_in}
@@ -83,7 +83,7 @@ left_by (Heard notice) none sites = left_sites (Heard notice) sites (λ q. recor
 left_by (Stopped who wanted lost) none sites = left_sites (Stopped who wanted lost) sites (λ q. record { lines = refl; records = λ r. refl }) refl
 left_by (Restarted who) none sites = left_sites (Restarted who) sites (λ q. record { lines = refl; records = λ r. refl }) refl
 
-unnoted_by : (h : Happening) → IsUnnoted h → (history : List Entry) → history ≡ noted_by history h
+unnoted_by : (h : Happening) → IsUnnoted h → (history : List Entry) → history ≡ history_with history h
 unnoted_by Nothing none history = refl
 unnoted_by Waited none history = refl
 unnoted_by (Began asked slot) none history = elim none [ ]
@@ -208,11 +208,11 @@ module _ {R : Type 0} (stands : R → Standing) where
     abbrev Does : Event → (new_sites : Sites) → (new : List (LivesView R)) → (after : BegunLines) → (later : List Entry) → Type 0
     Does e new_sites new after later = IfOk r (IsNotedStep stands e (happens stands e (λ l. has_line l b) sites old) sites new_sites old new b after history later)
 
-    noted_step : (e : Event) (h : Happening) (new_sites : Sites) (new : List (LivesView R)) (after : BegunLines) (later : List Entry) → IfOk r (λ o. o ≡ outcome_of h) → OnOk r (later ≡ noted_by history h)
+    noted_step : (e : Event) (h : Happening) (new_sites : Sites) (new : List (LivesView R)) (after : BegunLines) (later : List Entry) → IfOk r (λ o. o ≡ outcome_of h) → OnOk r (later ≡ history_with history h)
         → OnOk r (DoesToParts stands e h sites new_sites old new b after) → IfOk r (IsNotedStep stands e h sites new_sites old new b after history later)
     noted_step e h new_sites new after later outcome noted parts = by r outcome noted parts
       where
-        by : (r : Result Outcome F) → IfOk r (λ o. o ≡ outcome_of h) → OnOk r (later ≡ noted_by history h) → OnOk r (DoesToParts stands e h sites new_sites old new b after)
+        by : (r : Result Outcome F) → IfOk r (λ o. o ≡ outcome_of h) → OnOk r (later ≡ history_with history h) → OnOk r (DoesToParts stands e h sites new_sites old new b after)
             → IfOk r (IsNotedStep stands e h sites new_sites old new b after history later)
         by (Ok o) outcome noted parts = record { parts = parts; history = noted; outcome = outcome }
         by (Err x) outcome noted parts = tt
@@ -246,7 +246,7 @@ module _ {R : Type 0} (stands : R → Standing) where
         (where_ok _ _ (λ does. parts_of e h sites sites old new b is.begins (left_by h leaves sites) does) lives)
 
     pub submission_noted : (session line : ℕ) (c : Command) (new : List (LivesView R)) (after : BegunLines) (later : List Entry)
-        → IfOk r (λ o. o ≡ outcome_of (submitted (has_line line b) line c (client_in session old))) → OnOk r (later ≡ noted_by history (submitted (has_line line b) line c (client_in session old)))
+        → IfOk r (λ o. o ≡ outcome_of (submitted (has_line line b) line c (client_in session old))) → OnOk r (later ≡ history_with history (submitted (has_line line b) line c (client_in session old)))
         → OnOk r (DoesToLives stands (event.Submit session line c) (submitted (has_line line b) line c (client_in session old)) old new)
         → OnOk r ((l : ℕ) → has_line l after ≡ begun_behind (λ l. has_line l b) (submitted (has_line line b) line c (client_in session old)) l)
         → Does (event.Submit session line c) sites new after later
@@ -256,7 +256,7 @@ module _ {R : Type 0} (stands : R → Standing) where
         (both_ok _ _ _ (λ does lines. record { sites = left_by h (submission_leaves_sites (has_line line b) line c (client_in session old)) sites; lives = does; begun = lines }) lives begun)
 
     pub poll_noted : (session slot : ℕ) (new_sites : Sites) (new : List (LivesView R)) (later : List Entry)
-        → IfOk r (λ o. o ≡ outcome_of (polled stands sites slot (client_in session old))) → OnOk r (later ≡ noted_by history (polled stands sites slot (client_in session old)))
+        → IfOk r (λ o. o ≡ outcome_of (polled stands sites slot (client_in session old))) → OnOk r (later ≡ history_with history (polled stands sites slot (client_in session old)))
         → OnOk r (DoesAtSites (polled stands sites slot (client_in session old)) sites new_sites)
         → OnOk r (DoesToLives stands (event.Poll session slot) (polled stands sites slot (client_in session old)) old new)
         → Does (event.Poll session slot) new_sites new b later
@@ -264,11 +264,11 @@ module _ {R : Type 0} (stands : R → Standing) where
         noted_step (event.Poll session slot) (polled stands sites slot (client_in session old)) new_sites new b later outcome noted
         (both_ok _ _ _ (λ at does. poll_does session slot sites new_sites old new b at does) at_sites lives)
 
-    pub delivery_noted : (number : ℕ) (new : List (LivesView R)) → IfOk r (λ o. o ≡ outcome_of (delivered (numbered number sites.mail) old))
-        → OnOk r (DoesToLives stands (event.Deliver number) (delivered (numbered number sites.mail) old) old new) → Does (event.Deliver number) sites new b history
+    pub delivery_noted : (number : ℕ) (new : List (LivesView R)) → IfOk r (λ o. o ≡ outcome_of (delivered (notice_numbered number sites.mail) old))
+        → OnOk r (DoesToLives stands (event.Deliver number) (delivered (notice_numbered number sites.mail) old) old new) → Does (event.Deliver number) sites new b history
     delivery_noted number new outcome lives =
-        let is = delivery_is_still (numbered number sites.mail) old in
-        still_step (event.Deliver number) (delivered (numbered number sites.mail) old) new is.0 is.1 outcome lives
+        let is = delivery_is_still (notice_numbered number sites.mail) old in
+        still_step (event.Deliver number) (delivered (notice_numbered number sites.mail) old) new is.0 is.1 outcome lives
 
     pub expiry_noted : (session image : ℕ) (s : SiteId) (new_sites : Sites) → IfOk r (λ o. o ≡ outcome_of (expired_at sites session s image)) → OnOk r (DoesAtSites (expired_at sites session s image) sites new_sites)
         → Does (event.Expire session s image) new_sites old b history
@@ -287,7 +287,7 @@ module _ {R : Type 0} (stands : R → Standing) where
         (does_to_nobody stands (event.Trim s image object) (trimmed_at sites s image object) old (λ n. refl))) at_sites)
 
     pub stop_noted : (session : ℕ) (new : List (LivesView R)) (later : List Entry)
-        → IfOk r (λ o. o ≡ outcome_of (stopped stands (client_in session old))) → OnOk r (later ≡ noted_by history (stopped stands (client_in session old)))
+        → IfOk r (λ o. o ≡ outcome_of (stopped stands (client_in session old))) → OnOk r (later ≡ history_with history (stopped stands (client_in session old)))
         → OnOk r (DoesToLives stands (event.Stop session) (stopped stands (client_in session old)) old new) → Does (event.Stop session) sites new b later
     stop_noted session new later outcome noted lives =
         let is = stop_begins_nothing (client_in session old) in
@@ -295,7 +295,7 @@ module _ {R : Type 0} (stands : R → Standing) where
         (where_ok _ _ (λ does. parts_of (event.Stop session) (stopped stands (client_in session old)) sites sites old new b is.0 (left_by _ is.1 sites) does) lives)
 
     pub coming_noted : (session slot : ℕ) (new_sites : Sites) (new : List (LivesView R)) (later : List Entry)
-        → IfOk r (λ o. o ≡ outcome_of (come sites slot (late_at session slot old))) → OnOk r (later ≡ noted_by history (come sites slot (late_at session slot old)))
+        → IfOk r (λ o. o ≡ outcome_of (come sites slot (late_at session slot old))) → OnOk r (later ≡ history_with history (come sites slot (late_at session slot old)))
         → OnOk r (DoesAtSites (come sites slot (late_at session slot old)) sites new_sites)
         → OnOk r (DoesToLives stands (event.Late session slot) (come sites slot (late_at session slot old)) old new) → Does (event.Late session slot) new_sites new b later
     coming_noted session slot new_sites new later outcome noted at_sites lives =

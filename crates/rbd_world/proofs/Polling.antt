@@ -6,8 +6,8 @@ use Rattle.rbd_client.specs.declared.actor.Actor.{Actor}
 use Rattle.rbd_client.specs.declared.actor.Actor.TheVariants as actor
 use Rattle.rbd_client.specs.declared.slot_state.Way.{Way}
 use Rattle.rbd_client.specs.declared.slot_state.Way.TheVariants as way
-use Rattle.rbd_client.specs.Actor.{actor_at, actor_on, due_release, op_by, op_wanted, releasing}
-use Rattle.rbd_client.specs.Client.{ClientView, state_in}
+use Rattle.rbd_client.specs.Actor.{actor_at, actor_on, due_release, op_by, op_wanted, release_actor}
+use Rattle.rbd_client.specs.Client.{ClientView, slot_state}
 use Rattle.rbd_client.specs.Feeding.{IsFedBy, WayComesTo, RefusesIt}
 use Rattle.rbd_client.specs.Sound.{IsSoundClient}
 use Rattle.rbd_client.proofs.OnWay.{on_way_no_release, releases_no_way, is_release, is_way}
@@ -24,31 +24,31 @@ use Rattle.rbd_kinds.proofs.Images.{same_site_itself}
 use Rattle.rbd_machine.specs.Knowledge.{same_site}
 use Rattle.rbd_machine.specs.Label.{Label, Lock}
 use Rattle.rbd_machine.specs.Path.{at_operation}
-use Rattle.rbd_machine.specs.Plan.{Plan, Ask, Await, Note, Return, Goto, Standing, IsAsking, IsLive, plan_after, settled}
+use Rattle.rbd_machine.specs.Plan.{Plan, Ask, Await, Note, Return, Goto, Standing, IsAsking, IsLive, plan_after, past_label}
 use Rattle.rbd_machine.specs.Steps.{IsGoing}
-use Rattle.rbd_owner.specs.Acquire.{lock_of, op_of, rest_at, rest_of_acquire, taking}
-use Rattle.rbd_owner.specs.declared.acquire.Acquire.{Acquire}
-use Rattle.rbd_owner.specs.declared.acquire.Stage.{Stage}
-use Rattle.rbd_owner.specs.declared.release.Release.{Release}
-use Rattle.rbd_owner.specs.Release.{release_op}
-use Rattle.rbd_session.specs.declared.running.Occupant.{Occupant}
-use Rattle.rbd_session.specs.declared.running.Occupant.TheVariants as occupant
-use Rattle.rbd_session.specs.declared.running.Running.{Running}
-use Rattle.rbd_session.specs.Advance.{ComesTo, track_of}
-use Rattle.rbd_session.specs.Lines.{LinesView}
-use Rattle.rbd_session.specs.Session.{ComesToIn, OfRunning, going_in, held_in, of_going, op_asked, op_at, own_look_at, refusal_in, reply_of, running_in, script_line}
-use Rattle.rbd_session.specs.Track.{Track}
-use Rattle.rbd_session.specs.Waits.{waits}
-use Rattle.rbd_site.specs.Log.{line_of}
+use Rattle.rbd_lock.specs.Acquire.{lock_of, op_of, rest_at, rest_of_acquire, taking}
+use Rattle.rbd_lock.specs.declared.acquire.Acquire.{Acquire}
+use Rattle.rbd_lock.specs.declared.acquire.Stage.{Stage}
+use Rattle.rbd_lock.specs.declared.release.Release.{Release}
+use Rattle.rbd_lock.specs.Release.{release_op}
+use Rattle.rbd_slots.specs.declared.running.Occupant.{Occupant}
+use Rattle.rbd_slots.specs.declared.running.Occupant.TheVariants as occupant
+use Rattle.rbd_slots.specs.declared.running.Running.{Running}
+use Rattle.rbd_slots.specs.Advance.{AdvancesTo, track_of}
+use Rattle.rbd_slots.specs.Lines.{LinesView}
+use Rattle.rbd_slots.specs.Session.{ComesToIn, OfRunning, going_in, held_in, of_going, op_asked, op_at, look_under_lock_at, refusal_in, reply_of, running_in, script_line}
+use Rattle.rbd_slots.specs.Track.{Track}
+use Rattle.rbd_slots.specs.Waits.{waits}
+use Rattle.rbd_site.specs.Log.{log_line}
 use Rattle.rbd_site.specs.Step.{after, answer_to}
 use Rattle.rbd_world.specs.declared.event.Event.TheVariants as event
 use Rattle.rbd_world.specs.declared.event.Outcome.{Outcome}
 use Rattle.rbd_world.specs.declared.sites.Sites.{Sites}
-use Rattle.rbd_world.specs.Noted.{noted_by}
+use Rattle.rbd_world.specs.Noted.{history_with}
 use Rattle.rbd_world.specs.Operate.{IsLogged, IsNoted, IsOperatedAt, IsSameElsewhere}
 use Rattle.rbd_world.specs.Run.{Doer, Itself, OnWay, House, Happening, Nothing, Waited, Did, Operation, outcome_of}
-use Rattle.rbd_world.specs.Sending.{ActsAt, IsHeldUp, doer_at}
-use Rattle.rbd_world.specs.Step.{Becomes, DoesAt, DoesAtSites, Goes, done_by, goes_on_by, gone_by, operation_at, polled_in, released_by, releases, reply_at, reply_on_way, with_lines}
+use Rattle.rbd_world.specs.Sending.{ActsAt, OnlyWaits, doer_at}
+use Rattle.rbd_world.specs.Step.{Becomes, DoesAt, DoesAtSites, Goes, done_by, goes_on_by, gone_by, operation_at, polled_in, release_done, releases, reply_at, reply_on_way, with_log_lines}
 use Rattle.rbd_world.specs.World.{records_in, site_in}
 use Rattle.rbd_world.proofs.BothSites.{IsNothingAt, done_at, left_sites}
 
@@ -56,14 +56,14 @@ use Rattle.rbd_world.proofs.BothSites.{IsNothingAt, done_at, left_sites}
 
 nothing_else : (o : Operation) (reply : Option Reply) (q : SiteId) → same_site o.site q ≡ false → IsNothingAt q (Did o reply)
 nothing_else o reply q other = record {
-  lines = ap (λ b. cond b (line_of o.number o.instance o.op o.answer ∷ []) []) other;
+  lines = ap (λ b. cond b (log_line o.number o.instance o.op o.answer ∷ []) []) other;
   records = λ r. ap (λ b. cond b (after r o.instance o.op) r) other;
 }
 
 -- It was done there, and so it is noted.
 pub record IsDone (before behind : Sites) (earlier later : List Entry) (h : Happening) (result : Outcome) : Type 0 where
   pub outcome : result ≡ outcome_of h
-  pub noted : later ≡ noted_by earlier h
+  pub noted : later ≡ history_with earlier h
   pub sites : DoesAtSites h before behind
 
 module _ (who : Instance) (by : Doer) (s : SiteId) (o : Op) (before behind : Sites) where
@@ -72,7 +72,7 @@ module _ (who : Instance) (by : Doer) (s : SiteId) (o : Op) (before behind : Sit
 
   here : (reply : Option Reply) → IsLogged who o (site_in s before) (site_in s behind) before.mail behind.mail → DoesAt s (Did operates reply) (site_in s before) (site_in s behind)
   here reply logged = record {
-    site = logged.log ∙ sym (ap (λ b. with_lines (cond b (line_of operates.number operates.instance o operates.answer ∷ []) []) (site_in s before)) (same_site_itself s));
+    site = logged.log ∙ sym (ap (λ b. with_log_lines (cond b (log_line operates.number operates.instance o operates.answer ∷ []) []) (site_in s before)) (same_site_itself s));
     records = logged.records ∙ sym (ap (λ b. cond b (after (records_in s before) who o) (records_in s before)) (same_site_itself s));
     form = λ form. logged.form;
   }
@@ -81,13 +81,13 @@ module _ (who : Instance) (by : Doer) (s : SiteId) (o : Op) (before behind : Sit
       → IsNoted who by s o (site_in s before) reply earlier later result → IsSameElsewhere s before behind → reply ≡ told → IsDone before behind earlier later (Did operates told) result
   done_there reply told earlier later result logged noted elsewhere is = record {
     outcome = noted.outcome ∙ ap (λ (r : Option Reply). outcome_of (Did operates r)) is;
-    noted = noted.history ∙ ap (λ (r : Option Reply). noted_by earlier (Did operates r)) is;
+    noted = noted.history ∙ ap (λ (r : Option Reply). history_with earlier (Did operates r)) is;
     sites = done_at s (Did operates told) before behind (here told logged) (λ q other. nothing_else operates told q other) elsewhere logged.mail;
   }
 
 -- ---- the reply of a way
 
-live_reply : (labels : Label → Plan) (plan left : Plan) → IsGoing (settled labels plan) left → reply_at plan ≡ None
+live_reply : (labels : Label → Plan) (plan left : Plan) → IsGoing (past_label labels plan) left → reply_at plan ≡ None
 live_reply labels (Return reply) left going = absurd (subst IsLive going.is going.live)
 live_reply labels (Ask site why o next) left going = refl
 live_reply labels (Await w next) left going = refl
@@ -111,7 +111,7 @@ module _ {R : Type 0} (stands : R → Standing) where
   -- ---- the reply is that of the plan
 
   comes_reply : (slot : ℕ) (labels : Label → Plan) (plan : Plan) (t : Track) (result : Option Reply) (r q : Running R) (lines : LinesView)
-      → ComesTo stands slot labels plan t result r q lines → result ≡ reply_at plan
+      → AdvancesTo stands slot labels plan t result r q lines → result ≡ reply_at plan
   comes_reply slot labels (Return reply) t result r q lines comes = comes.reply
   comes_reply slot labels (Ask site why o next) t result r q lines comes = comes.none
   comes_reply slot labels (Await w next) t result r q lines comes = comes.none
@@ -131,7 +131,7 @@ module _ {R : Type 0} (stands : R → Standing) where
   -- it is noted, and sites and client are as it says
   pub record IsPolled (before behind : Sites) (slot : ℕ) (c t : ClientView R) (earlier later : List Entry) (h : Happening) (result : Outcome) : Type 0 where
     pub outcome : result ≡ outcome_of h
-    pub noted : later ≡ noted_by earlier h
+    pub noted : later ≡ history_with earlier h
     pub sites : DoesAtSites h before behind
     pub becomes : (session : ℕ) → Becomes stands (event.Poll session slot) h c t
 
@@ -142,7 +142,7 @@ module _ {R : Type 0} (stands : R → Standing) where
     abbrev Polls : Happening → Type 0
     Polls h = IsPolled before behind slot c t earlier later h result
 
-    held_up : IsHeldUp before behind c t earlier later result → Polls Waited
+    held_up : OnlyWaits before behind c t earlier later result → Polls Waited
     held_up is = record {
       outcome = is.outcome;
       noted = is.history;
@@ -196,9 +196,9 @@ module _ {R : Type 0} (stands : R → Standing) where
     way_acts line a acts_is acts =
         let told = answer_to (records_in a.site before) c.session.instance (op_of a) in
         let is_fed = subst (IsFedBy stands slot a.site (op_of a) (fed.Answer told) acts.here.reply c t) acts_is acts.here.goes.fed in
-        operated (OnWay line) a.site (op_of a) (reply_on_way a told) acts (way_reply a told acts.here.reply (state_in slot t.slots).way is_fed.comes)
+        operated (OnWay line) a.site (op_of a) (reply_on_way a told) acts (way_reply a told acts.here.reply (slot_state slot t.slots).way is_fed.comes)
 
-    release_acts : (r : Release) → actor_at stands slot c ≡ actor.Release r → Acts House (Some (r.site, release_op r)) → Polls (released_by before c.session.instance r)
+    release_acts : (r : Release) → actor_at stands slot c ≡ actor.Release r → Acts House (Some (r.site, release_op r)) → Polls (release_done before c.session.instance r)
     release_acts r acts_is acts =
         let told = answer_to (records_in r.site before) c.session.instance (release_op r) in
         let is_fed = subst (IsFedBy stands slot r.site (release_op r) (fed.Answer told) acts.here.reply c t) acts_is acts.here.goes.fed in
@@ -212,8 +212,8 @@ module _ {R : Type 0} (stands : R → Standing) where
       acts_by actor.Request is asking acts = request_acts line r held line_is is asking acts
       acts_by (actor.Way a) is asking acts = subst (λ (l : ℕ). Polls (gone_by before c.session.instance l a)) line_is (way_acts line a is acts)
       acts_by (actor.Release x) is asking acts =
-          absurd (true≢false (sym (ap is_release is) ∙ ap (λ b. is_release (cond b (releasing c.release (due_release c)) (actor_on (state_in slot c.slots).way (own_look_at stands slot c.session) c.locks))) place
-          ∙ on_way_no_release (state_in slot c.slots).way (own_look_at stands slot c.session) c.locks))
+          absurd (true≢false (sym (ap is_release is) ∙ ap (λ b. is_release (cond b (release_actor c.release (due_release c)) (actor_on (slot_state slot c.slots).way (look_under_lock_at stands slot c.session) c.locks))) place
+          ∙ on_way_no_release (slot_state slot c.slots).way (look_under_lock_at stands slot c.session) c.locks))
 
     pub polled_so : (line : ℕ) (by : Doer) → (slot == 0) ≡ false → Some line ≡ script_line (held_in slot c.session.slots) → None ≡ reply_of (refusal_in (held_in slot c.session.slots))
         → by ≡ doer_at line (actor_at stands slot c) → IsSoundClient stands c → Acts by (op_wanted stands slot c) → Polls (polled_in stands before c slot (held_in slot c.session.slots))
@@ -242,9 +242,14 @@ module _ {R : Type 0} (stands : R → Standing) where
         by actor.Nobody acts_is a = held_up a
         by actor.Request acts_is a = held_up (subst (λ (o : Option (Occupant R)). Acts House (of_going stands op_asked (going_in slot o c.session.lines))) free a)
         by (actor.Way w) acts_is a =
-            absurd (true≢false (sym (ap is_way acts_is) ∙ ap (λ b. is_way (cond b (releasing c.release (due_release c)) (actor_on (state_in slot c.slots).way (own_look_at stands slot c.session) c.locks))) place
+            absurd (true≢false (sym (ap is_way acts_is) ∙ ap (λ b. is_way (cond b (release_actor c.release (due_release c)) (actor_on (slot_state slot c.slots).way (look_under_lock_at stands slot c.session) c.locks))) place
             ∙ releases_no_way c.release (due_release c)))
         by (actor.Release r) acts_is a = release_acts r acts_is a
+
+    -- and where nobody acts there
+    pub nobody_so : slot ≡ 0 → IsSoundClient stands c → actor_at stands slot c ≡ actor.Nobody → OnlyWaits before behind c t earlier later result
+        → Polls (polled_in stands before c slot (held_in slot c.session.slots))
+    nobody_so is sound nobody held = released_so is sound (subst (Acts House) (sym (ap (op_by stands slot c.session) nobody)) held)
 
 pub not_zero : (n : ℕ) → (n ≡ 0 → ⊥) → (n == 0) ≡ false
 not_zero n apart = by (n == 0) refl

@@ -8,19 +8,19 @@ use Rattle.rbd_kinds.specs.declared.id.SiteId.{SiteId}
 use Rattle.rbd_kinds.specs.declared.notice.Notice.{Notice}
 use Rattle.rbd_kinds.specs.declared.operation.Op.{Op}
 use Rattle.rbd_kinds.specs.declared.reply.Reply.{Reply}
-use Rattle.rbd_requests.specs.Profile.{joins_a_line, profile}
+use Rattle.rbd_catalog.specs.Profile.{joins_a_line, profile}
 use Rattle.rbd_machine.specs.Knowledge.{Knowledge}
 use Rattle.rbd_machine.specs.Path.{IsWalk}
 use Rattle.rbd_machine.specs.Plan.{Standing}
 use Rattle.rbd_machine.specs.Refused.{AreGiven}
 use Rattle.rbd_machine.specs.Standalone.{TellAllStandalone}
 use Rattle.rbd_machine.specs.declared.seat.Seat.{Seat}
-use Rattle.rbd_requests.specs.Plans.{IsPlanFor}
-use Rattle.rbd_session.specs.declared.running.Occupant.{Occupant}
-use Rattle.rbd_session.specs.declared.running.Occupant.TheVariants as occupant
-use Rattle.rbd_session.specs.declared.running.Running.{Running}
-use Rattle.rbd_session.specs.Session.{running_in, script_line}
-use Rattle.rbd_world.specs.Run.{Asked, Doer, Itself, OnWay, House, AfterStop, Happening, Nothing, Waited, Began, Did, Refused, Trimmed, Expired, Heard, Stopped, Restarted, Operation, ends, is_among, is_for, is_on_way, is_own, or_asked, step_of, steps_in, steps_of, way_in, way_of}
+use Rattle.rbd_catalog.specs.Plans.{IsPlanFor}
+use Rattle.rbd_slots.specs.declared.running.Occupant.{Occupant}
+use Rattle.rbd_slots.specs.declared.running.Occupant.TheVariants as occupant
+use Rattle.rbd_slots.specs.declared.running.Running.{Running}
+use Rattle.rbd_slots.specs.Session.{running_in, script_line}
+use Rattle.rbd_world.specs.Run.{Asked, Doer, Itself, OnWay, House, AfterStop, Happening, Nothing, Waited, Began, Did, Refused, Trimmed, Expired, Heard, Stopped, Restarted, Operation, ends, is_line_among, is_for, is_on_way, is_own, or_asked, step_of, steps_in, steps_of, way_in, way_of}
 use Rattle.rbd_world.specs.Sound.{HasLearned, HasLearnedIf, IsHeldRightly, IsOpen, IsRefusedAtOnce, IsUnderWay, has_ended}
 
 -- it is no start, no operation and no end of the line
@@ -48,7 +48,7 @@ quiet_heard line notice = record { steps = refl; way = refl; silent = refl; aske
 pub quiet_restarted : (line : ℕ) (who : Instance) → IsQuiet line (Restarted who)
 quiet_restarted line who = record { steps = refl; way = refl; silent = refl; asked = λ before. refl }
 
-pub quiet_stopped : (line : ℕ) (who : Instance) (wanted : List (Option (SiteId × Op))) (lost : List ℕ) → is_among line lost ≡ false → IsQuiet line (Stopped who wanted lost)
+pub quiet_stopped : (line : ℕ) (who : Instance) (wanted : List (Option (SiteId × Op))) (lost : List ℕ) → is_line_among line lost ≡ false → IsQuiet line (Stopped who wanted lost)
 quiet_stopped line who wanted lost other = record { steps = refl; way = refl; silent = other; asked = λ before. refl }
 
 pub quiet_began : (line : ℕ) (asked : Asked) (slot : ℕ) → (asked.line == line) ≡ false → IsQuiet line (Began asked slot)

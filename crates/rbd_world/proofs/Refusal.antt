@@ -3,28 +3,28 @@ use Rattle.std.proofs.Common.{◌≡◌, ◌≢◌, inl, inr, ℕ, ◌==◌, ◌
 use Rattle.std.proofs.lemmas.Bool.{true≢false, eq-eqb}
 use Rattle.std.proofs.lemmas.Option.{none-some, same_Some}
 use Rattle.rbd_client.specs.declared.slot_state.SlotState.{SlotState}
-use Rattle.rbd_client.specs.Client.{ClientView, state_in}
+use Rattle.rbd_client.specs.Client.{ClientView, slot_state}
 use Rattle.rbd_commands.specs.declared.refusal.Refusal.{Refusal}
-use Rattle.rbd_held.specs.Truth.{IsTrueOf}
-use Rattle.rbd_held.proofs.Calls.{freed_is_true}
+use Rattle.rbd_knowledge.specs.Truth.{IsTrueOf}
+use Rattle.rbd_knowledge.proofs.Calls.{freed_is_true}
 use Rattle.rbd_kinds.specs.declared.id.Instance.{Instance}
 use Rattle.rbd_kinds.specs.declared.id.SiteId.{SiteId}
 use Rattle.rbd_kinds.specs.declared.reply.Reply.TheVariants as reply
-use Rattle.rbd_known.specs.Knowing.{KnowsIn}
+use Rattle.rbd_knowledge.specs.Knowing.{KnowsIn}
 use Rattle.rbd_machine.specs.Knowledge.{Knowledge, nothing_known}
 use Rattle.rbd_machine.specs.Plan.{Return, Standing}
 use Rattle.rbd_meaning.specs.Meant.{IsMeantBy}
-use Rattle.rbd_rely.specs.Beside.{AreBeside}
-use Rattle.rbd_requests.specs.CommandsMeant.{command_is_meant}
-use Rattle.rbd_session.specs.declared.running.Occupant.TheVariants as occupant
-use Rattle.rbd_session.specs.Session.{held_in, running_in, script_line}
+use Rattle.rbd_interference.specs.Beside.{AreBeside}
+use Rattle.rbd_catalog.specs.CommandsMeant.{command_is_meant}
+use Rattle.rbd_slots.specs.declared.running.Occupant.TheVariants as occupant
+use Rattle.rbd_slots.specs.Session.{held_in, running_in, script_line}
 use Rattle.rbd_world.specs.declared.event.Event.TheVariants as event
-use Rattle.rbd_world.specs.Order.{IsInOrder}
+use Rattle.rbd_world.specs.Order.{AreWritesInOrder}
 use Rattle.rbd_world.specs.Run.{Happening, Refused, steps_of}
 use Rattle.rbd_world.specs.Seats.{seat_at}
 use Rattle.rbd_world.specs.Sound.{InSlot, Sending, IsHeldRightly, IsInSlot, IsLedTo, IsLiving, IsOpen, IsRefusedAtOnce, IsReplyMeant, IsSoundWorld, KeepsToItsWay, held_of, known_in, HasLearnedIf}
 use Rattle.rbd_world.specs.Step.{Does, DoesAtSites, IsSoundIf, Serves}
-use Rattle.rbd_world.specs.World.{WorldView, client_in, records_in, session_of}
+use Rattle.rbd_world.specs.World.{WorldView, client_in, records_in, session_of_client}
 use Rattle.rbd_world.proofs.Carried.{IsCarried, whole_in}
 use Rattle.rbd_world.proofs.Changed.{GoesOnAs, all_but, apart_of, client_is, has_become, line_apart, living_of}
 use Rattle.rbd_world.proofs.GoesOn.{goes_carries}
@@ -34,7 +34,7 @@ use Rattle.rbd_world.proofs.Rest.{StaysTrue, same_true, still_may_come, where_st
 use Rattle.rbd_world.proofs.Slots.{not_open, open_back, other_slots}
 use Rattle.rbd_world.proofs.Watching.{counts_but, counts_on}
 use Rattle.rbd_world.specs.Closes.{StandsFirst, StandsFirstIf}
-use Rattle.rbd_session.specs.Lines.{lines_of}
+use Rattle.rbd_slots.specs.Lines.{lines_of}
 
 module _ {R : Type 0} (stands : R → Standing) (old new : WorldView R) (w : IsSoundWorld stands old) (session slot : ℕ) (c : ClientView R) (there : client_in session old.lives ≡ Some c)
     (line : ℕ) (refusal : Refusal) (holds : held_in slot c.session.slots ≡ Some (occupant.Refused line refusal)) where
@@ -79,12 +79,12 @@ module _ {R : Type 0} (stands : R → Standing) (old new : WorldView R) (w : IsS
     quiet : (x other : ℕ) → x ≢ slot → script_line (held_in x c.session.slots) ≡ Some other → IsQuiet other does_refuse
     quiet x other differ is =
         quiet_refused other c.session.home line (reply.Refused refusal)
-        (line_apart old new session c d goes slot serves.slots w.apart line (ap script_line holds) session x other (inr differ) (ap (λ o. script_line (held_of x (session_of o))) there ∙ is))
+        (line_apart old new session c d goes slot serves.slots w.apart line (ap script_line holds) session x other (inr differ) (ap (λ o. script_line (held_of x (session_of_client o))) there ∙ is))
 
     quiet_others : (m : ℕ) (q : ClientView R) → m ≢ session → client_in m old.lives ≡ Some q → (x other : ℕ) → script_line (held_in x q.session.slots) ≡ Some other → IsQuiet other does_refuse
     quiet_others m q differ at x other is =
         quiet_refused other c.session.home line (reply.Refused refusal)
-        (line_apart old new session c d goes slot serves.slots w.apart line (ap script_line holds) m x other (inl differ) (ap (λ o. script_line (held_of x (session_of o))) at ∙ is))
+        (line_apart old new session c d goes slot serves.slots w.apart line (ap script_line holds) m x other (inl differ) (ap (λ o. script_line (held_of x (session_of_client o))) at ∙ is))
 
     slots_then : (l : ℕ) → IsOpen l (does_refuse ∷ w.told.run) → (b : Bool) → (line == l) ≡ b → IsInSlot l new.lives
     slots_then l begun true own = absurd (not_open l does_refuse w.told.run (ap (λ b. b || false) own) begun)
@@ -106,7 +106,7 @@ module _ {R : Type 0} (stands : R → Standing) (old new : WorldView R) (w : IsS
         (where_standing w.told.homes w.told.run w.told.right) refusal_meant (λ s. (stays s).whole (whole_in stands old w s))
         (living_of stands home session does_refuse w.told.run (λ m l. refl) knew knew slot c d living serves.slots serves.states serves.client quiet
         (subst (IsSoundIf stands) (client_is old new session c d goes) (sound session)) all (subst (IsHeldRightly stands (seat_at w.told.homes session) me (does_refuse ∷ w.told.run)) (sym serves.held) tt)
-        (subst (λ o. KeepsToItsWay stands (does_refuse ∷ w.told.run) (state_in slot d.slots).way (running_in o)) (sym serves.held) tt)
+        (subst (λ o. KeepsToItsWay stands (does_refuse ∷ w.told.run) (slot_state slot d.slots).way (running_in o)) (sym serves.held) tt)
         (λ x differ. refl) (subst (λ o. HasLearnedIf stands (does_refuse ∷ w.told.run) (running_in o) (knew slot)) (sym serves.held) tt) (serves.house.release ∙ living.releases)
         (counts_but me (does_refuse ∷ w.told.run) c d slot serves.house.locks serves.states
         (ap (λ (s : SlotState). s.way) ((subst (IsSoundIf stands) (client_is old new session c d goes) (sound session)).free slot serves.held)) (counts_on me does_refuse w.told.run c (λ s image. refl) living.watches))
@@ -120,7 +120,7 @@ module _ {R : Type 0} (stands : R → Standing) (old new : WorldView R) (w : IsS
         (λ m q apart is s. (stays s).clients q.session.instance (known_in w.knows m) q (w.truth m q is s))
         (λ m x y is. still_may_come stands old new w (λ s. records_in s new.sites) stays m y (w.knows (Sending m x)) ((w.sending m x y is).1))
         tt tt (λ m q apart is other writer. refl)
-        (subst (λ i. IsInOrder stands home i (does_refuse ∷ w.told.run) d.session) (sym serves.client.instance)
+        (subst (λ i. AreWritesInOrder stands home i (does_refuse ∷ w.told.run) d.session) (sym serves.client.instance)
         (freed_order stands home me (does_refuse ∷ w.told.run) slot c.session d.session serves.slots serves.lines (ap running_in serves.held)
         (order_beside stands old new w does_refuse refusal_meant home me slot c.session quiet (ap running_in holds) (λ other writer. refl) (w.in_order session c there))))
         (λ x t image drawn. w.new (InSlot session x) t image drawn) (λ m q apart is. (refl, λ s i. refl))

@@ -18,8 +18,8 @@ use Rattle.rbd_kinds.specs.declared.image_at.ImageAt.{ImageAt}
 use Rattle.rbd_kinds.specs.declared.machine.Fed.TheVariants as fed
 use Rattle.rbd_kinds.specs.declared.operation.Op.TheVariants as op
 use Rattle.rbd_kinds.specs.declared.reply.Reply.{Reply}
-use Rattle.rbd_requests.specs.Profile.{joins_a_line, profile}
-use Rattle.rbd_known.proofs.NoReads.{changes_are_no_reads}
+use Rattle.rbd_catalog.specs.Profile.{joins_a_line, profile}
+use Rattle.rbd_knowledge.proofs.NoReads.{changes_are_no_reads}
 use Rattle.rbd_machine.specs.Answers.{CanGive, gives}
 use Rattle.rbd_machine.specs.Knowledge.{same_site}
 use Rattle.rbd_machine.specs.Label.{Label, Lock}
@@ -30,16 +30,16 @@ use Rattle.rbd_machine.specs.Steps.{EndsIt, not_there}
 use Rattle.rbd_machine.specs.declared.reason.Reason.{Reason}
 use Rattle.rbd_machine.specs.declared.seat.Seat.{Seat}
 use Rattle.rbd_meaning.specs.Meant.{IsMeantBy}
-use Rattle.rbd_owner.specs.Acquire.{asking, fencing, op_at, op_of, rest_at}
-use Rattle.rbd_owner.specs.Steps.{is_among}
-use Rattle.rbd_owner.specs.declared.acquire.Acquire.{Acquire}
-use Rattle.rbd_owner.specs.declared.acquire.Stage.{Stage}
-use Rattle.rbd_owner.specs.declared.acquire.Stage.TheVariants as stage
-use Rattle.rbd_requests.specs.Looking.{is_read}
-use Rattle.rbd_requests.specs.CommandsMeant.{command_is_meant}
-use Rattle.rbd_requests.proofs.Looks.{looks_refuse}
-use Rattle.rbd_session.specs.declared.running.Running.{Running}
-use Rattle.rbd_session.specs.Session.{SessionView, is_look_at, kind_asked, running_at}
+use Rattle.rbd_lock.specs.Acquire.{asking, fencing, op_at_stage, op_of, rest_at}
+use Rattle.rbd_lock.specs.Steps.{is_instance_among}
+use Rattle.rbd_lock.specs.declared.acquire.Acquire.{Acquire}
+use Rattle.rbd_lock.specs.declared.acquire.Stage.{Stage}
+use Rattle.rbd_lock.specs.declared.acquire.Stage.TheVariants as stage
+use Rattle.rbd_catalog.specs.Looking.{is_read}
+use Rattle.rbd_catalog.specs.CommandsMeant.{command_is_meant}
+use Rattle.rbd_catalog.proofs.Looks.{looks_refuse}
+use Rattle.rbd_slots.specs.declared.running.Running.{Running}
+use Rattle.rbd_slots.specs.Session.{SessionView, is_look_at, kind_asked, running_at}
 use Rattle.rbd_world.specs.Run.{Happening, Operation, step_of, steps_of, way_of}
 use Rattle.rbd_world.specs.Seats.{seat_at}
 use Rattle.rbd_world.specs.Sound.{IsLedTo, IsRefusedOnWay, IsUnderWay, look_answered}
@@ -60,7 +60,7 @@ ends_so answer.Absent reply tells is = record { tells = tt; refuses = ap Return 
 ends_so answer.Fenced reply tells is = record { tells = tt; refuses = ap Return (same_Some _ reply is) }
 ends_so _ reply tells is = absurd tells
 
-way_ends : (s : Stage) (site : SiteId) (image : ℕ) (told : Answer) (reply : Reply) → gives (op_at s image) told ≡ true
+way_ends : (s : Stage) (site : SiteId) (image : ℕ) (told : Answer) (reply : Reply) → gives (op_at_stage s image) told ≡ true
     → reply_at (plan_after (rest_at s site image (Goto Lock)) (fed.Answer told)) ≡ Some reply → EndsSo told reply
 way_ends stage.Watching site image answer.Done reply word is = absurd (none-some reply is)
 way_ends stage.Watching site image answer.Absent reply word is = ends_so answer.Absent reply tt is
@@ -71,7 +71,7 @@ way_ends stage.Taking site image (answer.Held owner) reply word is = absurd (non
 way_ends stage.Taking site image answer.Absent reply word is = ends_so answer.Absent reply tt is
 way_ends stage.Taking site image answer.Fenced reply word is = ends_so answer.Fenced reply tt is
 way_ends stage.Taking site image _ reply word is = absurd (true≢false (sym word))
-way_ends (stage.Looking owner) site image (answer.Instances watchers) reply word is = by (is_among watchers owner) is
+way_ends (stage.Looking owner) site image (answer.Instances watchers) reply word is = by (is_instance_among watchers owner) is
   where
     by : (b : Bool) → reply_at (cond b (asking site image) (fencing site image owner)) ≡ Some reply → EndsSo (answer.Instances watchers) reply
     by true is = absurd (none-some reply is)

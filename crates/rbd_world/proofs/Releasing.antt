@@ -3,18 +3,18 @@ use Rattle.std.proofs.Common.{◌≡◌, ℕ, ◌∷◌, Some, None, refl, sym, 
 use Rattle.std.proofs.lemmas.Option.{none-some}
 use Rattle.rbd_client.specs.declared.actor.Actor.TheVariants as actor
 use Rattle.rbd_client.specs.Actor.{actor_at, op_by, op_wanted}
-use Rattle.rbd_client.specs.Client.{ClientView, state_in}
+use Rattle.rbd_client.specs.Client.{ClientView, slot_state}
 use Rattle.rbd_client.specs.Feeding.{IsFedBy, ReleaseIsFed}
 use Rattle.rbd_kinds.specs.declared.answer.Answer.{Answer}
 use Rattle.rbd_kinds.specs.declared.id.Instance.{Instance}
 use Rattle.rbd_kinds.specs.declared.id.SiteId.{SiteId}
 use Rattle.rbd_kinds.specs.declared.machine.Fed.TheVariants as fed
 use Rattle.rbd_machine.specs.Plan.{Standing}
-use Rattle.rbd_owner.specs.Release.{release_op}
-use Rattle.rbd_owner.specs.declared.release.Release.{Release}
-use Rattle.rbd_session.specs.Session.{SessionView, held_in, running_in, script_line}
+use Rattle.rbd_lock.specs.Release.{release_op}
+use Rattle.rbd_lock.specs.declared.release.Release.{Release}
+use Rattle.rbd_slots.specs.Session.{SessionView, held_in, running_in, script_line}
 use Rattle.rbd_site.specs.Step.{answer_to}
-use Rattle.rbd_session.specs.Lines.{lines_of}
+use Rattle.rbd_slots.specs.Lines.{lines_of}
 use Rattle.rbd_world.specs.declared.event.Event.TheVariants as event
 use Rattle.rbd_world.specs.Closes.{StandsFirst, StandsFirstIf}
 use Rattle.rbd_world.specs.LetGo.{release_of}
@@ -86,7 +86,7 @@ module _ {R : Type 0} (stands : R → Standing) (old new : WorldView R) (w : IsS
         (knows_now stands old new w session slot c there x.site (release_op x) wanted House None d became at_sites sound_then) slot c d living became.slots became.states became.client (λ y line apart is. quiet line)
         sound_then (all_know stands old new w session slot c there x.site (release_op x) wanted House None d became at_sites sound_then)
         (subst (IsHeldRightly stands (seat_at w.told.homes session) me (does_it ∷ w.told.run)) (sym still_free) tt)
-        (subst (λ o. KeepsToItsWay stands (does_it ∷ w.told.run) (state_in slot d.slots).way (running_in o)) (sym still_free) tt)
+        (subst (λ o. KeepsToItsWay stands (does_it ∷ w.told.run) (slot_state slot d.slots).way (running_in o)) (sym still_free) tt)
         (others_know stands old new w session slot c there x.site (release_op x) wanted House None d became at_sites sound_then)
         (subst (λ o. HasLearnedIf stands (does_it ∷ w.told.run) (running_in o) (knows_now stands old new w session slot c there x.site (release_op x) wanted House None d became at_sites sound_then slot)) (sym still_free) tt)
         (is_fed.release ∙ sym (releases_then operation None w.told.run x refl refl refl))

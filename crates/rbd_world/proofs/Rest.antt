@@ -1,19 +1,19 @@
 -- Where no session changes: nothing happened, a slot waits, or the store did a step of its own.
 use Rattle.std.proofs.Common.{◌≡◌, ℕ, Bool, true, false, cond, List, [], ◌∷◌, length, ◌+◌, is_some, Option, Some, None, refl, sym, ap, ◌∙◌, subst}
 use Rattle.rbd_client.specs.Client.{ClientView}
-use Rattle.rbd_held.specs.Truth.{IsTrueOf}
-use Rattle.rbd_held.proofs.Others.{expiries_leave_it_true, trims_leave_it_true}
+use Rattle.rbd_knowledge.specs.Truth.{IsTrueOf}
+use Rattle.rbd_knowledge.proofs.Others.{expiries_leave_it_true, trims_leave_it_true}
 use Rattle.rbd_kinds.specs.declared.id.Instance.{Instance}
 use Rattle.rbd_kinds.specs.declared.id.SiteId.{SiteId}
 use Rattle.rbd_machine.specs.Knowledge.{Knowledge, same_site}
 use Rattle.rbd_machine.specs.Plan.{Standing}
-use Rattle.rbd_rely.specs.Beside.{AreBeside}
-use Rattle.rbd_rely.specs.Locks.{KnowsByLock}
-use Rattle.rbd_rely.proofs.Together.{still_beside}
-use Rattle.rbd_rely.specs.Truth.{IsTrueAt}
-use Rattle.rbd_rely.proofs.Kept.{expiries_keep, trims_keep}
-use Rattle.rbd_rely.proofs.Maps.{mapped_expired, mapped_trimmed}
-use Rattle.rbd_session.specs.Session.{script_line}
+use Rattle.rbd_interference.specs.Beside.{AreBeside}
+use Rattle.rbd_interference.specs.Locks.{KnowsByLock}
+use Rattle.rbd_interference.proofs.Together.{still_beside}
+use Rattle.rbd_interference.specs.Truth.{IsTrueAt}
+use Rattle.rbd_interference.proofs.Kept.{expiries_keep, trims_keep}
+use Rattle.rbd_interference.proofs.Maps.{mapped_expired, mapped_trimmed}
+use Rattle.rbd_slots.specs.Session.{script_line}
 use Rattle.rbd_site.specs.Log.{expired, trimmed}
 use Rattle.rbd_site.specs.Records.{Records}
 use Rattle.rbd_stands.specs.Site.{StandsFor}
@@ -25,7 +25,7 @@ use Rattle.rbd_world.specs.Order.{IsInTurn}
 use Rattle.rbd_world.specs.Run.{Happening, Nothing, Waited, Trimmed, Expired, Sent, life_after, records_after, flat_after, sent_after}
 use Rattle.rbd_world.specs.Sound.{AreLivesOf, IsDue, IsExpired, IsRight, IsSoundWorld, IsTrimmed, MayStillCome, held_of, known_in, line_at}
 use Rattle.rbd_world.specs.Step.{Does, DoesAtSites, LivesOn, LivesOnIf, names_session, next_number}
-use Rattle.rbd_world.specs.World.{LivesView, WorldView, client_in, late_at, late_of, lives_in, records_in, running_of, sent_in, session_of, site_in}
+use Rattle.rbd_world.specs.World.{LivesView, WorldView, client_in, late_at, late_of, lives_in, records_in, running_of, sent_in, session_of_client, site_in}
 use Rattle.rbd_world.proofs.Carried.{HasWholeImages, IsCarried, StandFlat, whole_in}
 use Rattle.rbd_world.proofs.Changed.{IsLifeless, SendsNothing, living_on}
 use Rattle.rbd_world.proofs.Exactly.{IsOwedFor}
@@ -140,7 +140,7 @@ module _ {R : Type 0} (stands : R → Standing) (old new : WorldView R) (w : IsS
       client_was session c is = sym (client_same session) ∙ is
 
       line_same : (session slot : ℕ) → line_at session slot new.lives ≡ line_at session slot old.lives
-      line_same session slot = ap (λ o. script_line (held_of slot (session_of o))) (client_same session)
+      line_same session slot = ap (λ o. script_line (held_of slot (session_of_client o))) (client_same session)
 
       late_same : (session slot : ℕ) → late_at session slot new.lives ≡ late_at session slot old.lives
       late_same session slot = ap (λ o. sent_in slot (late_of o)) (same session)

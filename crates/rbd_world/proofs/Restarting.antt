@@ -4,20 +4,20 @@ use Rattle.std.proofs.Common.{◌≡◌, ◌≢◌, ◌⊎◌, inl, inr, ℕ, �
 use Rattle.std.proofs.lemmas.Bool.{eq-eqb, ne_eqb}
 use Rattle.std.proofs.lemmas.Option.{same_Some}
 use Rattle.rbd_client.specs.Client.{ClientView}
-use Rattle.rbd_held.specs.Truth.{IsTrueOf}
+use Rattle.rbd_knowledge.specs.Truth.{IsTrueOf}
 use Rattle.rbd_kinds.specs.declared.id.Instance.{Instance}
 use Rattle.rbd_kinds.specs.declared.id.SiteId.{SiteId}
 use Rattle.rbd_kinds.proofs.Instances.{same_instance_itself}
 use Rattle.rbd_machine.specs.Knowledge.{Knowledge, nothing_known}
 use Rattle.rbd_machine.specs.Plan.{Standing}
-use Rattle.rbd_session.specs.Session.{script_line}
+use Rattle.rbd_slots.specs.Session.{script_line}
 use Rattle.rbd_world.specs.declared.event.Event.TheVariants as event
-use Rattle.rbd_world.specs.Order.{IsInOrder}
+use Rattle.rbd_world.specs.Order.{AreWritesInOrder}
 use Rattle.rbd_world.specs.Run.{Happening, Life, Restarted, life_after, life_behind}
 use Rattle.rbd_world.specs.Past.{HadNoHeader}
 use Rattle.rbd_world.specs.Sound.{AreLivesOf, Holder, InSlot, Sending, IsLiving, IsRestart, IsSoundWorld, held_of, known_in, line_at}
 use Rattle.rbd_world.specs.Step.{Does, DoesAtSites, IsFresh, IsFreshIf, LivesOnIf, next_life}
-use Rattle.rbd_world.specs.World.{LateView, LivesView, WorldView, client_in, late_at, late_of, lives_in, records_in, running_of, sent_in, session_of}
+use Rattle.rbd_world.specs.World.{LateView, LivesView, WorldView, client_in, late_at, late_of, lives_in, records_in, running_of, sent_in, session_of_client}
 use Rattle.rbd_world.proofs.Beginning.{fresh_living, fresh_runs_none, fresh_true}
 use Rattle.rbd_world.proofs.Carried.{IsCarried, whole_in}
 use Rattle.rbd_world.proofs.Changed.{same_or_other}
@@ -97,10 +97,10 @@ module _ {R : Type 0} (stands : R → Standing) (old new : WorldView R) (w : IsS
   line_same m x = by (same_or_other m session)
     where
       by : (m ≡ session) ⊎ (m ≢ session) → line_at m x new.lives ≡ line_at m x old.lives
-      by (inr differ) = ap (λ o. script_line (held_of x (session_of (running_of o)))) (others m differ)
+      by (inr differ) = ap (λ o. script_line (held_of x (session_of_client (running_of o)))) (others m differ)
       by (inl same) =
           subst (λ i. line_at i x new.lives ≡ line_at i x old.lives) (sym same)
-          (ap (λ o. script_line (held_of x (session_of o))) client_here ∙ ap script_line (born.fresh.slots x) ∙ sym (ap (λ o. script_line (held_of x (session_of o))) gone))
+          (ap (λ o. script_line (held_of x (session_of_client o))) client_here ∙ ap script_line (born.fresh.slots x) ∙ sym (ap (λ o. script_line (held_of x (session_of_client o))) gone))
 
   lives_now : (m : ℕ) (k : LivesView R) → lives_in m new.lives ≡ Some k → AreLivesOf (h ∷ w.told.run) (w.told.homes m) m k
   lives_now m k is = by (same_or_other m session)
@@ -182,10 +182,10 @@ module _ {R : Type 0} (stands : R → Standing) (old new : WorldView R) (w : IsS
   nobody_now m is x (inr differ) =
       ap (λ b. cond b nothing_known (w.knows (InSlot m x))) (ne_eqb m session differ) ∙ w.nobody m (sym (ap running_of (others m differ)) ∙ is) x
 
-  order_now : (m : ℕ) (q : ClientView R) → client_in m new.lives ≡ Some q → (m ≡ session) ⊎ (m ≢ session) → IsInOrder stands (w.told.homes m) q.session.instance (h ∷ w.told.run) q.session
+  order_now : (m : ℕ) (q : ClientView R) → client_in m new.lives ≡ Some q → (m ≡ session) ⊎ (m ≢ session) → AreWritesInOrder stands (w.told.homes m) q.session.instance (h ∷ w.told.run) q.session
   order_now m q is (inr differ) = order_on stands old new w h due m q (was m q differ is) (λ x line at. quiet_restarted line next) (λ other writer. refl)
   order_now m q is (inl same) =
-      subst (λ (v : ClientView R). IsInOrder stands (w.told.homes m) v.session.instance (h ∷ w.told.run) v.session) (is_it m q same is)
+      subst (λ (v : ClientView R). AreWritesInOrder stands (w.told.homes m) v.session.instance (h ∷ w.told.run) v.session) (is_it m q same is)
       (none_in_order stands (w.told.homes m) born.client.session.instance (h ∷ w.told.run) born.client.session (fresh_runs_none stands next l.home born.client born.fresh))
 
   reborn_keeps : IsCarried stands old new w h

@@ -10,8 +10,8 @@ use Rattle.rbd_kinds.specs.declared.reply.Reply.{Reply}
 use Rattle.rbd_flat.specs.declared.entry.Cause.{Cause}
 use Rattle.rbd_flat.specs.declared.entry.Entry.TheVariants as entry
 use Rattle.rbd_kinds.specs.declared.id.Instance.{Instance}
-use Rattle.rbd_world.specs.Run.{Asked, Doer, Itself, OnWay, House, AfterStop, Happening, Nothing, Waited, Began, Did, Refused, Trimmed, Expired, Heard, Stopped, Restarted, Operation, asked_by, ending_entries, ends, entries_of, entry_by, entry_unfenced, history_of, is_among, is_for, or_asked, reply_entries, steps_in, steps_of, way_in, way_of}
-use Rattle.rbd_world.specs.Sound.{EndsWith, GoesOnBehind, IsDue, IsOpen, IsRight, has_ended, AreStanding, IsDone}
+use Rattle.rbd_world.specs.Run.{Asked, Doer, Itself, OnWay, House, AfterStop, Happening, Nothing, Waited, Began, Did, Refused, Trimmed, Expired, Heard, Stopped, Restarted, Operation, asked_by, ending_entries, ends, entries_of, entry_by, entry_unfenced, history_of, is_line_among, is_for, or_asked, reply_entries, steps_in, steps_of, way_in, way_of}
+use Rattle.rbd_world.specs.Sound.{EndsItsLine, LineGoesOn, IsDue, IsOpen, IsRight, has_ended, AreStanding, IsRightlyDone}
 use Rattle.rbd_world.specs.Step.{is_begun, is_start_of}
 use Rattle.rbd_world.proofs.Quiet.{IsQuiet, quiet_began, quiet_did, quiet_expired, quiet_heard, quiet_nothing, quiet_refused, quiet_restarted, quiet_stopped, quiet_trimmed, quiet_waited}
 
@@ -23,7 +23,7 @@ standing_at homes [] right = right
 standing_at homes (h ∷ run) right = right.0
 
 -- an operation that is due is done, with a reply or without
-pub done_of : (homes : ℕ → SiteId) (o : Operation) (reply : Option Reply) (run : List Happening) → IsDue homes (Did o reply) run → IsDone o run
+pub done_of : (homes : ℕ → SiteId) (o : Operation) (reply : Option Reply) (run : List Happening) → IsDue homes (Did o reply) run → IsRightlyDone o run
 done_of homes o None run due = due.0
 done_of homes o (Some reply) run due = due.0
 
@@ -118,22 +118,22 @@ unheard_more line h run u quiet = record {
 }
 
 -- an operation whose line goes on is for no line that nobody began
-goes_for_another : (homes : ℕ → SiteId) (s : SiteId) (line : ℕ) (run : List Happening) (by : Doer) → asked_by line run ≡ None → GoesOnBehind homes s by run → is_for line by ≡ false
+goes_for_another : (homes : ℕ → SiteId) (s : SiteId) (line : ℕ) (run : List Happening) (by : Doer) → asked_by line run ≡ None → LineGoesOn homes s by run → is_for line by ≡ false
 goes_for_another homes s line run (Itself other) none begun = ap (λ b. b || false) (other_line line other run none begun)
 goes_for_another homes s line run (OnWay other) none goes = other_line line other run none goes.begun
 goes_for_another homes s line run House none begun = refl
 goes_for_another homes s line run (AfterStop slot) none begun = refl
 
-ends_another : (homes : ℕ → SiteId) (line : ℕ) (run : List Happening) (o : Operation) (reply : Reply) (by : Doer) → asked_by line run ≡ None → EndsWith homes o reply run by → is_for line by ≡ false
+ends_another : (homes : ℕ → SiteId) (line : ℕ) (run : List Happening) (o : Operation) (reply : Reply) (by : Doer) → asked_by line run ≡ None → EndsItsLine homes o reply run by → is_for line by ≡ false
 ends_another homes line run o reply (Itself other) none ends = ap (λ b. b || false) (other_line line other run none ends.begun)
 ends_another homes line run o reply (OnWay other) none ends = other_line line other run none ends.begun
 ends_another homes line run o reply House none ends = refl
 ends_another homes line run o reply (AfterStop slot) none ends = refl
 
-lost_another : (line : ℕ) (run : List Happening) (lost : List ℕ) → asked_by line run ≡ None → (is_among line lost ≡ true → IsOpen line run) → is_among line lost ≡ false
-lost_another line run lost none each = by (is_among line lost) refl
+lost_another : (line : ℕ) (run : List Happening) (lost : List ℕ) → asked_by line run ≡ None → (is_line_among line lost ≡ true → IsOpen line run) → is_line_among line lost ≡ false
+lost_another line run lost none each = by (is_line_among line lost) refl
   where
-    by : (b : Bool) → is_among line lost ≡ b → is_among line lost ≡ false
+    by : (b : Bool) → is_line_among line lost ≡ b → is_line_among line lost ≡ false
     by true is = let begun = each is in absurd (none-some begun.asked (sym none ∙ begun.is))
     by false is = is
 

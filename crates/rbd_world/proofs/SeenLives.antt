@@ -21,21 +21,21 @@ use Rattle.rbd_kinds.specs.declared.notice.Notice.{Notice}
 use Rattle.rbd_kinds.specs.declared.operation.Op.{Op}
 use Rattle.rbd_kinds.specs.declared.reply.Reply.{Reply}
 use Rattle.rbd_machine.specs.Plan.{Standing}
-use Rattle.rbd_requests.specs.Plans.{IsPlanFor}
-use Rattle.rbd_requests.specs.Profile.{changed_extent}
-use Rattle.rbd_session.specs.declared.running.Occupant.{Occupant}
-use Rattle.rbd_session.specs.declared.running.Occupant.TheVariants as occupant
-use Rattle.rbd_session.specs.declared.running.Running.{Running}
-use Rattle.rbd_session.specs.Session.{SessionView, held_in, script_line, seat_of}
-use Rattle.rbd_watch.specs.Posting.{numbered}
+use Rattle.rbd_catalog.specs.Plans.{IsPlanFor}
+use Rattle.rbd_catalog.specs.Profile.{changed_extent}
+use Rattle.rbd_slots.specs.declared.running.Occupant.{Occupant}
+use Rattle.rbd_slots.specs.declared.running.Occupant.TheVariants as occupant
+use Rattle.rbd_slots.specs.declared.running.Running.{Running}
+use Rattle.rbd_slots.specs.Session.{SessionView, held_in, script_line, seat_of}
+use Rattle.rbd_watch.specs.Posting.{notice_numbered}
 use Rattle.rbd_world.specs.declared.event.Event.{Event}
 use Rattle.rbd_world.specs.declared.event.Event.TheVariants as event
 use Rattle.rbd_world.specs.declared.sites.Sites.{Sites}
 use Rattle.rbd_world.specs.Run.{Happening, Nothing, Waited, Began, Did, Refused, Trimmed, Expired, Heard, Stopped, Restarted, Operation}
 use Rattle.rbd_world.specs.Seen.{seen_life, seen_lives}
 use Rattle.rbd_world.specs.Sound.{AreAtHome, AreFirst, IsAtHome, IsFirst, first_life, held_of, line_at}
-use Rattle.rbd_world.specs.Step.{AreLivesAlike, AreSlotsBut, Becomes, BecomesOf, BeginsIn, DoesToLives, DropsWhatItMay, Goes, Hears, IsAlikeOf, IsClientAlikeIf, IsFresh, IsFreshIf, IsSameClient, IsSameHouse, IsSoundIf, LeavesLives, LivesOn, LivesOnIf, RunsOn, Serves, WantsWhatItMay, all_slots, ascending, come, delivered, goes_on_by, happens, heard_by, listed, lost_by, polled, polled_in, releases, restarted, restarted_of, stopped, submitted, wanted_by}
-use Rattle.rbd_world.specs.World.{LivesView, client_in, free_in, heard_in, kind_in, late_at, late_of, lives_in, running_of, sent_in, session_of}
+use Rattle.rbd_world.specs.Step.{AreLivesAlike, AreSlotsBut, Becomes, BecomesOf, BeginsIn, DoesToLives, DropsWhatItMay, Goes, Hears, IsAlikeOf, IsClientAlikeIf, IsFresh, IsFreshIf, IsSameClient, IsSameHouse, IsSoundIf, LeavesLives, LivesOn, LivesOnIf, RunsOn, Serves, WantsWhatItMay, all_slots, ascending, come, delivered, goes_on_by, happens, heard_by, line_or_none, lost_by, polled, polled_in, releases, restarted, restarted_of, stopped, submitted, wanted_in_slots}
+use Rattle.rbd_world.specs.World.{LivesView, client_in, free_in, heard_in, kind_in, late_at, late_of, lives_in, running_of, sent_in, session_of_client}
 
 module _ {R : Type 0} (stands : R → Standing) where
   -- ---- what is there
@@ -59,13 +59,13 @@ module _ {R : Type 0} (stands : R → Standing) where
 
   -- ---- what is asked of a session
 
-  line_of_seen : (slot : ℕ) (o : Option (ClientView R)) → script_line (held_of slot (session_of (option_map (seen stands) o))) ≡ script_line (held_of slot (session_of o))
+  line_of_seen : (slot : ℕ) (o : Option (ClientView R)) → script_line (held_of slot (session_of_client (option_map (seen stands) o))) ≡ script_line (held_of slot (session_of_client o))
   line_of_seen slot None = refl
   line_of_seen slot (Some c) = ap script_line (held_seen stands slot c.session.slots) ∙ line_seen stands (held_in slot c.session.slots)
 
   pub line_at_seen : (session slot : ℕ) (lives : List (LivesView R)) → line_at session slot (seen_lives stands lives) ≡ line_at session slot lives
   line_at_seen session slot lives =
-      ap (λ (o : Option (ClientView Standing)). script_line (held_of slot (session_of o))) (client_in_seen session lives) ∙ line_of_seen slot (client_in session lives)
+      ap (λ (o : Option (ClientView Standing)). script_line (held_of slot (session_of_client o))) (client_in_seen session lives) ∙ line_of_seen slot (client_in session lives)
 
   kind_of_seen : (slot : ℕ) (o : Option (ClientView R)) → kind_in as_is slot (option_map (seen stands) o) ≡ kind_in stands slot o
   kind_of_seen slot None = refl
@@ -122,15 +122,15 @@ module _ {R : Type 0} (stands : R → Standing) where
   wanted_seen : (slots : List ℕ) (c : ClientView R) → map (λ slot. op_wanted as_is slot (seen stands c)) slots ≡ map (λ slot. op_wanted stands slot c) slots
   wanted_seen slots c = ap (λ (f : ℕ → Option (SiteId × Op)). map f slots) (fun_ext (λ slot. op_wanted_seen stands slot c))
 
-  lost_line_seen : (c : ClientView R) (slot : ℕ) → listed (script_line (held_in slot (map (seen_slot stands) c.session.slots))) ≡ listed (script_line (held_in slot c.session.slots))
-  lost_line_seen c slot = ap (λ (o : Option (Occupant Standing)). listed (script_line o)) (held_seen stands slot c.session.slots) ∙ ap listed (line_seen stands (held_in slot c.session.slots))
+  lost_line_seen : (c : ClientView R) (slot : ℕ) → line_or_none (script_line (held_in slot (map (seen_slot stands) c.session.slots))) ≡ line_or_none (script_line (held_in slot c.session.slots))
+  lost_line_seen c slot = ap (λ (o : Option (Occupant Standing)). line_or_none (script_line o)) (held_seen stands slot c.session.slots) ∙ ap line_or_none (line_seen stands (held_in slot c.session.slots))
 
   lost_seen : (c : ClientView R) → lost_by as_is (seen stands c) ≡ lost_by stands c
   lost_seen c = ap (λ (f : ℕ → List ℕ). ascending (flat_map f all_slots)) (fun_ext (lost_line_seen c))
 
   stopped_seen : (o : Option (ClientView R)) → stopped as_is (option_map (seen stands) o) ≡ stopped stands o
   stopped_seen None = refl
-  stopped_seen (Some c) = ap (λ wanted. Stopped c.session.instance wanted (lost_by as_is (seen stands c))) (wanted_seen all_slots c) ∙ ap (Stopped c.session.instance (wanted_by stands c)) (lost_seen c)
+  stopped_seen (Some c) = ap (λ wanted. Stopped c.session.instance wanted (lost_by as_is (seen stands c))) (wanted_seen all_slots c) ∙ ap (Stopped c.session.instance (wanted_in_slots stands c)) (lost_seen c)
 
   restarted_of_seen : (latest : Instance) (o : Option (ClientView R)) → restarted_of latest (option_map (seen stands) o) ≡ restarted_of latest o
   restarted_of_seen latest None = refl
@@ -143,7 +143,7 @@ module _ {R : Type 0} (stands : R → Standing) where
   pub happens_seen : (e : Event) (begun : (line : ℕ) → Bool) (sites : Sites) (lives : List (LivesView R)) → happens as_is e begun sites (seen_lives stands lives) ≡ happens stands e begun sites lives
   happens_seen (event.Submit session line c) begun sites lives = ap (submitted (begun line) line c) (client_in_seen session lives) ∙ submitted_seen (begun line) line c (client_in session lives)
   happens_seen (event.Poll session slot) begun sites lives = polled_seen sites session slot lives
-  happens_seen (event.Deliver number) begun sites lives = delivered_seen (numbered number sites.mail) lives
+  happens_seen (event.Deliver number) begun sites lives = delivered_seen (notice_numbered number sites.mail) lives
   happens_seen (event.Expire session s image) begun sites lives = refl
   happens_seen (event.Stop session) begun sites lives = ap (stopped as_is) (client_in_seen session lives) ∙ stopped_seen (client_in session lives)
   happens_seen (event.Late session slot) begun sites lives = ap (come sites slot) (late_at_seen session slot lives)
@@ -304,7 +304,7 @@ module _ {R : Type 0} (stands : R → Standing) where
   sound_if_unseen None sound = sound
   sound_if_unseen (Some c) sound = sound_unseen stands c sound
 
-  sound_in_unseen : (session : ℕ) (lives : List (LivesView R)) → IsSoundIf as_is (client_in session (seen_lives stands lives)) → IsSoundIf stands (client_in session lives)
+  pub sound_in_unseen : (session : ℕ) (lives : List (LivesView R)) → IsSoundIf as_is (client_in session (seen_lives stands lives)) → IsSoundIf stands (client_in session lives)
   sound_in_unseen session lives sound = sound_if_unseen (client_in session lives) (subst (IsSoundIf as_is) (client_in_seen session lives) sound)
 
   pub leaves_lives_seen : (old new : List (LivesView R)) → LeavesLives stands old new → LeavesLives as_is (seen_lives stands old) (seen_lives stands new)

@@ -6,8 +6,8 @@ use Rattle.rbd_client.specs.Seen.{as_is}
 use Rattle.rbd_client.specs.Seen as of_client
 use Rattle.rbd_kinds.specs.declared.id.Instance.{Instance}
 use Rattle.rbd_machine.specs.Plan.{Standing}
-use Rattle.rbd_requests.specs.declared.request.SessionRequest.{SessionRequest}
-use Rattle.rbd_requests.specs.Session.{stands_of}
+use Rattle.rbd_catalog.specs.declared.request.SessionRequest.{SessionRequest}
+use Rattle.rbd_catalog.specs.Session.{stands_of}
 use Rattle.rbd_world.specs.Seen.{seen}
 use Rattle.rbd_world.specs.Sound.{line_at}
 use Rattle.rbd_world.specs.World.{WorldView, client_in, free_in, heard_in, kind_in}

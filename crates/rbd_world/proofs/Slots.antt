@@ -2,11 +2,11 @@
 use Rattle.std.proofs.Common.{◌≡◌, ◌≢◌, ◌⊎◌, inl, inr, ℕ, ◌||◌, true, List, ◌∷◌, Some, sym, ap, ◌∙◌}
 use Rattle.std.proofs.lemmas.Bool.{true≢false}
 use Rattle.rbd_client.specs.Client.{ClientView}
-use Rattle.rbd_session.specs.Session.{held_in, script_line}
+use Rattle.rbd_slots.specs.Session.{held_in, script_line}
 use Rattle.rbd_world.specs.Run.{Happening, asked_by, ends}
 use Rattle.rbd_world.specs.Sound.{IsInSlot, IsOpen, has_ended, held_of, line_at}
 use Rattle.rbd_world.specs.Step.{AreSlotsBut}
-use Rattle.rbd_world.specs.World.{LivesView, WorldView, session_of}
+use Rattle.rbd_world.specs.World.{LivesView, WorldView, session_of_client}
 use Rattle.rbd_world.proofs.Changed.{GoesOnAs, client_was, here_or_elsewhere, line_elsewhere, line_is}
 use Rattle.rbd_world.proofs.Quiet.{IsQuiet}
 
@@ -40,7 +40,7 @@ module _ {R : Type 0} (old new : WorldView R) (session : ℕ) (c d : ClientView 
       by (inl (same, here)) =
           absurd
           (other
-          (sym (ap (λ i. line_at i in_slot.slot old.lives) same ∙ ap (λ i. line_at session i old.lives) here ∙ ap (λ o. script_line (held_of slot (session_of o))) (client_was old new session c d goes)) ∙ in_slot.is))
+          (sym (ap (λ i. line_at i in_slot.slot old.lives) same ∙ ap (λ i. line_at session i old.lives) here ∙ ap (λ o. script_line (held_of slot (session_of_client o))) (client_was old new session c d goes)) ∙ in_slot.is))
 
   -- the slot has the line
   pub in_this_slot : (line : ℕ) → script_line (held_in slot d.session.slots) ≡ Some line → IsInSlot line new.lives

@@ -5,20 +5,20 @@ use Rattle.rbd_client.specs.declared.actor.Actor.TheVariants as actor
 use Rattle.rbd_client.specs.Actor.{op_by}
 use Rattle.rbd_client.specs.Client.{ClientView}
 use Rattle.rbd_client.specs.Sound.{IsSoundClient, WaitsForLook}
-use Rattle.rbd_held.proofs.Drops.{alone_goes_first, may, membership, waiting}
+use Rattle.rbd_knowledge.proofs.Drops.{alone_goes_first, may, membership, waiting}
 use Rattle.rbd_kinds.specs.declared.id.SiteId.{SiteId}
-use Rattle.rbd_known.specs.Knowing.{AllKnow}
-use Rattle.rbd_line.specs.Line.{Member, is_past, may_pass, member_of}
+use Rattle.rbd_knowledge.specs.Knowing.{AllKnow}
+use Rattle.rbd_queue.specs.Line.{Member, is_past, may_pass, member_of}
 use Rattle.rbd_machine.specs.Knowledge.{Knowledge}
 use Rattle.rbd_machine.specs.Permits.{HoldsUnlooked}
 use Rattle.rbd_machine.specs.Plan.{Standing}
-use Rattle.rbd_owner.specs.Steps.{lock_drop}
-use Rattle.rbd_session.specs.declared.running.Occupant.{Occupant}
-use Rattle.rbd_session.specs.declared.running.Occupant.TheVariants as occupant
-use Rattle.rbd_session.specs.declared.running.Running.{Running}
-use Rattle.rbd_session.specs.Lines.{LinesView, lines_of}
-use Rattle.rbd_session.specs.Session.{running_in, script_line}
-use Rattle.rbd_session.proofs.OwnLooks.{at_own_look}
+use Rattle.rbd_lock.specs.Steps.{lock_drop}
+use Rattle.rbd_slots.specs.declared.running.Occupant.{Occupant}
+use Rattle.rbd_slots.specs.declared.running.Occupant.TheVariants as occupant
+use Rattle.rbd_slots.specs.declared.running.Running.{Running}
+use Rattle.rbd_slots.specs.Lines.{LinesView, lines_of}
+use Rattle.rbd_slots.specs.Session.{running_in, script_line}
+use Rattle.rbd_slots.proofs.LooksUnderLock.{at_look_under_lock}
 use Rattle.rbd_world.specs.Closes.{StandsFirst, StandsFirstIf, has_let_go}
 use Rattle.rbd_world.specs.Run.{Happening}
 use Rattle.rbd_world.proofs.Quiet.{IsQuiet, steps_on}
@@ -35,7 +35,7 @@ module _ {R : Type 0} (stands : R → Standing) (c : ClientView R) (sound : IsSo
   -- so no other request of the session is on its way to the lock
   pub no_way_beside : (slot other : ℕ) (s : SiteId) (image : ℕ) → slot ≢ other → StandsFirst slot (lines_of c.session.lines s image) → WaitsForLook stands other s image c.session → ⊥
   no_way_beside slot other s image differ first waits =
-      let look = at_own_look stands c.session other (record { site = s; image = image }) waits.at_look in
+      let look = at_look_under_lock stands c.session other (record { site = s; image = image }) waits.at_look in
       alone_goes_first (lines_of c.session.lines s image) slot other first.member look.member differ first.found look.found first.alone first.waits first.may look.may
 
   -- who drops a lock stands first

@@ -12,23 +12,23 @@ use Rattle.rbd_world.specs.declared.sites.Sites.{Sites}
 use Rattle.rbd_world.specs.Begun.{has_line}
 use Rattle.rbd_world.specs.declared.begun.BegunLines.{BegunLines}
 use Rattle.rbd_world.specs.Run.{Happening, entries_of}
-use Rattle.rbd_world.specs.Sound.{IsKept, IsSoundWorld}
-use Rattle.rbd_world.specs.Step.{AreSameSites, Does, IsBuiltEvent, IsSoundIf, IsStep, IsUndone, LeavesParts, StepsParts, happening, happens, is_begun, is_start_of, names_session}
+use Rattle.rbd_world.specs.Sound.{IsKeptWorld, IsSoundWorld}
+use Rattle.rbd_world.specs.Step.{AreSameSites, Does, IsBuiltEvent, IsSoundIf, IsWorldStep, IsUndone, LeavesParts, StepsParts, happening, happens, is_begun, is_start_of, names_session}
 use Rattle.rbd_world.specs.World.{WorldView, client_in, running_of}
 use Rattle.rbd_world.proofs.Steps.{steps_keep}
 use Rattle.rbd_world.proofs.Undone.{undone_is_sound}
 
 module _ {R : Type 0} (stands : R → Standing) where
-  clients_sound : (w : WorldView R) → IsSoundWorld stands w → (session : ℕ) (o : Option (ClientView R)) → client_in session w.lives ≡ o → IsSoundIf stands o
+  pub clients_sound : (w : WorldView R) → IsSoundWorld stands w → (session : ℕ) (o : Option (ClientView R)) → client_in session w.lives ≡ o → IsSoundIf stands o
   clients_sound w sound session None is = tt
   clients_sound w sound session (Some c) is = (sound.clients session c is).sound
 
   -- the table of lines tells what the history does
-  same_happening : (e : Event) (b : BegunLines) (w : WorldView R) → IsKept stands b w
+  same_happening : (e : Event) (b : BegunLines) (w : WorldView R) → IsKeptWorld stands b w
       → happens stands e (λ line. has_line line b) w.sites w.lives ≡ happening stands e w
   same_happening e b w kept = ap (λ begun. happens stands e begun w.sites w.lives) (fun_ext kept.lines)
 
-  module _ (e : Event) (b after : BegunLines) (old new : WorldView R) (result : Outcome) (k : IsKept stands b old)
+  module _ (e : Event) (b after : BegunLines) (old new : WorldView R) (result : Outcome) (k : IsKeptWorld stands b old)
       (did : StepsParts stands e (happens stands e (λ line. has_line line b) old.sites old.lives) old.sites new.sites old.lives new.lives b after old.history new.history old.calls new.calls result) where
     abbrev what : Happening
     what = happening stands e old
@@ -46,7 +46,7 @@ module _ {R : Type 0} (stands : R → Standing) where
       others = steps.parts.lives.others;
     }
 
-    pub stepped : IsStep stands e old result new
+    pub stepped : IsWorldStep stands e old result new
     stepped = (steps.outcome, does)
 
     -- the lines that were begun are those of the history
@@ -70,7 +70,7 @@ module _ {R : Type 0} (stands : R → Standing) where
     pub sound_again : IsBuiltEvent e → IsSoundWorld stands new
     sound_again built = steps_keep stands e old new k.sound built does steps.parts.sites lives_sound
 
-    pub kept_sound : IsSoundWorld stands new → IsKept stands after new
+    pub kept_sound : IsSoundWorld stands new → IsKeptWorld stands after new
     kept_sound sound = record { sound = sound; lines = lines_kept }
 
 -- ---- a step that is refused memory
@@ -91,14 +91,14 @@ module _ {R : Type 0} (stands : R → Standing) where
     calls = calls;
   }
 
-  pub undone_sound : (b after : BegunLines) (old new : WorldView R) → IsKept stands b old → LeavesParts stands old.sites new.sites old.lives new.lives b after
+  pub undone_sound : (b after : BegunLines) (old new : WorldView R) → IsKeptWorld stands b old → LeavesParts stands old.sites new.sites old.lives new.lives b after
       → new.history ≡ old.history → new.calls ≡ old.calls → IsSoundWorld stands new
   undone_sound b after old new k left history calls =
       undone_is_sound stands old new k.sound (undone b after old new left history calls)
       (λ session. left.lives.sound session (clients_sound stands old k.sound session (client_in session old.lives) refl))
 
-  pub undone_kept : (b after : BegunLines) (old new : WorldView R) → IsKept stands b old → LeavesParts stands old.sites new.sites old.lives new.lives b after
-      → new.history ≡ old.history → IsSoundWorld stands new → IsKept stands after new
+  pub undone_kept : (b after : BegunLines) (old new : WorldView R) → IsKeptWorld stands b old → LeavesParts stands old.sites new.sites old.lives new.lives b after
+      → new.history ≡ old.history → IsSoundWorld stands new → IsKeptWorld stands after new
   undone_kept b after old new k left history sound = record {
     sound = sound;
     lines = λ line. left.begun line ∙ k.lines line ∙ sym (ap (is_begun line) history);

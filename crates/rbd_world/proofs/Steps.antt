@@ -11,14 +11,14 @@ use Rattle.rbd_kinds.specs.declared.id.SiteId.{SiteId}
 use Rattle.rbd_kinds.specs.declared.notice.Notice.{Notice}
 use Rattle.rbd_kinds.specs.Instances.{same_instance}
 use Rattle.rbd_machine.specs.Plan.{Plan, Ask, Await, Note, Return, Goto, Standing}
-use Rattle.rbd_requests.specs.Plans.{is_built}
-use Rattle.rbd_session.specs.declared.running.Occupant.{Occupant}
-use Rattle.rbd_session.specs.declared.running.Occupant.TheVariants as occupant
-use Rattle.rbd_session.specs.declared.running.Running.{Running}
-use Rattle.rbd_session.specs.Advance.{track_of}
-use Rattle.rbd_session.specs.Session.{held_in}
-use Rattle.rbd_session.specs.Waits.{waits}
-use Rattle.rbd_watch.specs.Posting.{numbered}
+use Rattle.rbd_catalog.specs.Plans.{is_built}
+use Rattle.rbd_slots.specs.declared.running.Occupant.{Occupant}
+use Rattle.rbd_slots.specs.declared.running.Occupant.TheVariants as occupant
+use Rattle.rbd_slots.specs.declared.running.Running.{Running}
+use Rattle.rbd_slots.specs.Advance.{track_of}
+use Rattle.rbd_slots.specs.Session.{held_in}
+use Rattle.rbd_slots.specs.Waits.{waits}
+use Rattle.rbd_watch.specs.Posting.{notice_numbered}
 use Rattle.rbd_watch.specs.Watching.{oldest_of}
 use Rattle.rbd_world.specs.declared.event.Event.{Event}
 use Rattle.rbd_world.specs.declared.event.Event.TheVariants as event
@@ -144,7 +144,7 @@ module _ {R : Type 0} (stands : R → Standing) (old new : WorldView R) (w : IsS
     not_heard : Keeps deliver Nothing
     not_heard = nothing_keeps stands old new w deliver (leaves stands deliver Nothing (λ x y is. is) (λ at o n is. is) (λ l. refl) (λ l. refl))
 
-    heard : (notice : Notice) → numbered number old.sites.mail ≡ Some notice → (o : Option (ClientView R)) → client_in notice.to.session old.lives ≡ o → Keeps deliver (heard_by notice o)
+    heard : (notice : Notice) → notice_numbered number old.sites.mail ≡ Some notice → (o : Option (ClientView R)) → client_in notice.to.session old.lives ≡ o → Keeps deliver (heard_by notice o)
     heard notice is None there = not_heard
     heard notice is (Some c) there = by (same_instance c.session.instance notice.to) refl
       where
@@ -152,7 +152,7 @@ module _ {R : Type 0} (stands : R → Standing) (old new : WorldView R) (w : IsS
         by true same = λ does at_sites. heard_keeps stands old new w number notice c is there same does at_sites sound
         by false same = not_heard
 
-    delivery : (o : Option Notice) → numbered number old.sites.mail ≡ o → Keeps deliver (delivered o old.lives)
+    delivery : (o : Option Notice) → notice_numbered number old.sites.mail ≡ o → Keeps deliver (delivered o old.lives)
     delivery None is = not_heard
     delivery (Some notice) is = heard notice is (client_in notice.to.session old.lives) refl
 
@@ -210,7 +210,7 @@ module _ {R : Type 0} (stands : R → Standing) (old new : WorldView R) (w : IsS
   any : (e : Event) → IsBuiltEvent e → Keeps e (happening stands e old)
   any (event.Submit session line command) built = submission session line command built (client_in session old.lives) refl
   any (event.Poll session slot) built = poll_of session slot (client_in session old.lives) refl
-  any (event.Deliver number) built = delivery number (numbered number old.sites.mail) refl
+  any (event.Deliver number) built = delivery number (notice_numbered number old.sites.mail) refl
   any (event.Expire session s image) built = expiry session s image (oldest_of session ((records_in s old.sites).watchers image)) refl
   any (event.Stop session) built = stop_of session (client_in session old.lives) refl
   any (event.Late session slot) built = late_of session slot (late_at session slot old.lives) refl

@@ -26,7 +26,7 @@ use Rattle.rbd_watch.specs.Watching.{registered, watches, without}
 use Rattle.rbd_watch.proofs.Receivers.{others_stay, sender_left_out}
 use Rattle.rbd_world.specs.Run.{Happening, Nothing, Waited, Began, Did, Refused, Trimmed, Expired, Heard, Stopped, Restarted, Operation, records_after}
 use Rattle.rbd_world.specs.Sound.{IsDue, IsRight}
-use Rattle.rbd_world.specs.Watched.{ends_it, ends_watch, has_watched, is_watch, watch_ended, watches_by}
+use Rattle.rbd_world.specs.Watched.{ends_it, ends_watch, has_watched, is_watch, has_watch_ended, watches_by}
 use Rattle.rbd_world.proofs.Runs.{done_of}
 
 -- ---- one list of watchers
@@ -152,7 +152,7 @@ is_watch_there there o a s image is = absurd (true≢false (sym is))
 
 module _ (homes : ℕ → SiteId) (who : Instance) (s : SiteId) (image : ℕ) where
   abbrev Watches : List Happening → Type 0
-  Watches run = (watches who ((records_after s run).watchers image) ≡ true) ⊎ (watch_ended who s image run ≡ true)
+  Watches run = (watches who ((records_after s run).watchers image) ≡ true) ⊎ (has_watch_ended who s image run ≡ true)
 
   -- one that isn't its watch: what was so stays so, or its watch is ended
   later : (h : Happening) (run : List Happening) → watches_by who s image h ≡ false
@@ -161,9 +161,9 @@ module _ (homes : ℕ → SiteId) (who : Instance) (s : SiteId) (image : ℕ) wh
     where
       by : (watches who ((records_after s (h ∷ run)).watchers image) ≡ true) ⊎ (ends_watch who s image h ≡ true) → Watches (h ∷ run)
       by (inl is) = inl is
-      by (inr ends) = inr (ap (λ b. cond b false (ends_watch who s image h || watch_ended who s image run)) none ∙ or_keeps (ends_watch who s image h) (watch_ended who s image run) ends)
+      by (inr ends) = inr (ap (λ b. cond b false (ends_watch who s image h || has_watch_ended who s image run)) none ∙ or_keeps (ends_watch who s image h) (has_watch_ended who s image run) ends)
   later h run none keeps (inr ended) =
-      inr (ap (λ b. cond b false (ends_watch who s image h || watch_ended who s image run)) none ∙ or_gains (ends_watch who s image h) (watch_ended who s image run) ended)
+      inr (ap (λ b. cond b false (ends_watch who s image h || has_watch_ended who s image run)) none ∙ or_gains (ends_watch who s image h) (has_watch_ended who s image run) ended)
 
   did_stays : (o : Operation) (reply : Option Reply) (run : List Happening) → o.answer ≡ answer_to (records_after o.site run) o.instance o.op → watches who ((records_after s run).watchers image) ≡ true
       → (watches who ((records_after s (Did o reply ∷ run)).watchers image) ≡ true) ⊎ (ends_watch who s image (Did o reply) ≡ true)
@@ -253,7 +253,7 @@ module _ (homes : ℕ → SiteId) (who : Instance) (s : SiteId) (image : ℕ) wh
       by true is before = inl (watch_makes h run right.1 is)
       by false none before = later h run none (stays_or_ends h run right.1) (before (sym (ap (λ b. b || has_watched who s image run) none) ∙ has))
 
-  pub watches_still : (run : List Happening) → IsRight homes run → has_watched who s image run ≡ true → watch_ended who s image run ≡ false → watches who ((records_after s run).watchers image) ≡ true
+  pub watches_still : (run : List Happening) → IsRight homes run → has_watched who s image run ≡ true → has_watch_ended who s image run ≡ false → watches who ((records_after s run).watchers image) ≡ true
   watches_still run right has unended = by (watches_or_ended run right has)
     where
       by : Watches run → watches who ((records_after s run).watchers image) ≡ true
@@ -424,7 +424,7 @@ module _ (homes : ℕ → SiteId) (who : Instance) (s : SiteId) (image : ℕ) wh
   came_by (Stopped other wanted lost) run due is = inr (is, refl)
   came_by (Restarted other) run due is = inr (is, refl)
 
-  pub watcher_has_watched : (run : List Happening) → IsRight homes run → watches who ((records_after s run).watchers image) ≡ true → (has_watched who s image run ≡ true) × (watch_ended who s image run ≡ false)
+  pub watcher_has_watched : (run : List Happening) → IsRight homes run → watches who ((records_after s run).watchers image) ≡ true → (has_watched who s image run ≡ true) × (has_watch_ended who s image run ≡ false)
   watcher_has_watched [] right is = absurd (true≢false (sym is))
   watcher_has_watched (h ∷ run) right is = by (came_by h run right.1 is) (watcher_has_watched run right.2)
     where
@@ -432,8 +432,8 @@ module _ (homes : ℕ → SiteId) (who : Instance) (s : SiteId) (image : ℕ) wh
       unended true c d one two = refl
       unended false c d one two = ap (λ x. x || d) one ∙ two
 
-      by : CameBy h run → (watches who ((records_after s run).watchers image) ≡ true → (has_watched who s image run ≡ true) × (watch_ended who s image run ≡ false))
-          → ((watches_by who s image h || has_watched who s image run) ≡ true) × (cond (watches_by who s image h) false (ends_watch who s image h || watch_ended who s image run) ≡ false)
-      by (inl now) before = (ap (λ b. b || has_watched who s image run) now, ap (λ b. cond b false (ends_watch who s image h || watch_ended who s image run)) now)
+      by : CameBy h run → (watches who ((records_after s run).watchers image) ≡ true → (has_watched who s image run ≡ true) × (has_watch_ended who s image run ≡ false))
+          → ((watches_by who s image h || has_watched who s image run) ≡ true) × (cond (watches_by who s image h) false (ends_watch who s image h || has_watch_ended who s image run) ≡ false)
+      by (inl now) before = (ap (λ b. b || has_watched who s image run) now, ap (λ b. cond b false (ends_watch who s image h || has_watch_ended who s image run)) now)
       by (inr (was, none)) before =
-          let had = before was in (or_gains (watches_by who s image h) (has_watched who s image run) had.0, unended (watches_by who s image h) (ends_watch who s image h) (watch_ended who s image run) none had.1)
+          let had = before was in (or_gains (watches_by who s image h) (has_watched who s image run) had.0, unended (watches_by who s image h) (ends_watch who s image h) (has_watch_ended who s image run) none had.1)

@@ -10,46 +10,46 @@ use Rattle.rbd_client.specs.declared.actor.Actor.{Actor}
 use Rattle.rbd_client.specs.declared.actor.Actor.TheVariants as actor
 use Rattle.rbd_client.specs.Actor.{actor_at, op_wanted}
 use Rattle.rbd_client.specs.Client.{ClientView}
-use Rattle.rbd_held.specs.Knowing.{known_on_way, known_to, known_to_release}
-use Rattle.rbd_held.specs.Truth.{IsTrueOf}
-use Rattle.rbd_held.proofs.Acts.{acts_beside_own}
-use Rattle.rbd_held.proofs.Owned.{knows_by_lock}
-use Rattle.rbd_held.proofs.Permitted.{does_what_it_may, knows_truly}
-use Rattle.rbd_held.proofs.Releases.{beside_release, release_knows_no_header}
-use Rattle.rbd_held.proofs.Ways.{beside_way, way_knows_no_header}
+use Rattle.rbd_knowledge.specs.ClientsKnowing.{known_on_way, known_to, known_to_release}
+use Rattle.rbd_knowledge.specs.Truth.{IsTrueOf}
+use Rattle.rbd_knowledge.proofs.Acts.{acts_beside_own}
+use Rattle.rbd_knowledge.proofs.HeadersOwned.{knows_by_lock}
+use Rattle.rbd_knowledge.proofs.Permitted.{does_what_it_may, knows_truly}
+use Rattle.rbd_knowledge.proofs.Releases.{beside_release, release_knows_no_header}
+use Rattle.rbd_knowledge.proofs.Ways.{beside_way, way_knows_no_header}
 use Rattle.rbd_kinds.specs.declared.id.Instance.{Instance}
 use Rattle.rbd_kinds.specs.declared.id.SiteId.{SiteId}
 use Rattle.rbd_kinds.specs.declared.operation.Op.{Op}
 use Rattle.rbd_machine.specs.Knowledge.{Knowledge, nothing_known, is_drawn}
 use Rattle.rbd_machine.specs.Plan.{Standing}
 use Rattle.rbd_machine.specs.Refused.{AreGiven}
-use Rattle.rbd_rely.specs.Beside.{AreBeside, MayAct}
-use Rattle.rbd_rely.specs.Locks.{KnowsByLock}
-use Rattle.rbd_rely.proofs.Nothing.{nothing_is_beside}
-use Rattle.rbd_rely.proofs.Together.{beside_mutual}
-use Rattle.rbd_session.specs.declared.running.Occupant.{Occupant}
-use Rattle.rbd_session.specs.declared.running.Occupant.TheVariants as occupant
-use Rattle.rbd_session.specs.Session.{held_in, script_line}
+use Rattle.rbd_interference.specs.Beside.{AreBeside, MayAct}
+use Rattle.rbd_interference.specs.Locks.{KnowsByLock}
+use Rattle.rbd_interference.proofs.Nothing.{nothing_is_beside}
+use Rattle.rbd_interference.proofs.Together.{beside_mutual}
+use Rattle.rbd_slots.specs.declared.running.Occupant.{Occupant}
+use Rattle.rbd_slots.specs.declared.running.Occupant.TheVariants as occupant
+use Rattle.rbd_slots.specs.Session.{held_in, script_line}
 use Rattle.rbd_site.specs.Records.{Records}
 use Rattle.rbd_world.specs.declared.event.Event.TheVariants as event
-use Rattle.rbd_world.specs.Order.{IsInOrder}
-use Rattle.rbd_world.specs.Run.{Asked, Happening, Life, Sent, Stopped, asked_by, is_among, life_after, life_behind, sent_after, sent_of, steps_of}
+use Rattle.rbd_world.specs.Order.{AreWritesInOrder}
+use Rattle.rbd_world.specs.Run.{Asked, Happening, Life, Sent, Stopped, asked_by, is_line_among, life_after, life_behind, sent_after, sent_of, steps_of}
 use Rattle.rbd_machine.specs.Standalone.{TellAllStandalone}
 use Rattle.rbd_machine.specs.declared.seat.Seat.{Seat}
 use Rattle.rbd_world.specs.Seats.{seat_at}
 use Rattle.rbd_world.specs.Past.{HadNoHeader}
 use Rattle.rbd_world.specs.Sound.{AreLivesOf, AreStrangers, Holder, InSlot, Sending, IsHeldRightly, IsInSlot, IsLedTo, IsLiving, IsLostOf, IsOpen, IsSoundWorld, IsStop, MayStillCome, held_of, known_in, line_at, SendsRightly, TakesAlone}
-use Rattle.rbd_world.specs.Step.{Does, DoesAtSites, LivesOnIf, lost_by, stopped, wanted_by}
-use Rattle.rbd_world.specs.World.{LateView, LivesView, WorldView, client_in, late_at, late_of, lives_in, records_in, running_of, sent_in, session_of}
+use Rattle.rbd_world.specs.Step.{Does, DoesAtSites, LivesOnIf, lost_by, stopped, wanted_in_slots}
+use Rattle.rbd_world.specs.World.{LateView, LivesView, WorldView, client_in, late_at, late_of, lives_in, records_in, running_of, sent_in, session_of_client}
 use Rattle.rbd_world.proofs.Unborn.{acted_drawn}
 use Rattle.rbd_world.proofs.Acting.{by_no_lock}
 use Rattle.rbd_world.proofs.Carried.{IsCarried, whole_in}
 use Rattle.rbd_world.proofs.Changed.{lives_there, same_or_other}
 use Rattle.rbd_world.proofs.Elsewhere.{beside_as, known_but, known_there, lives_still, living_still, nothing_beside, unknown_looks}
 use Rattle.rbd_world.proofs.LetGo.{other_instance}
-use Rattle.rbd_owner.specs.Acquire.{op_of}
-use Rattle.rbd_owner.specs.declared.acquire.Acquire.{Acquire}
-use Rattle.rbd_session.specs.declared.running.Running.{Running}
+use Rattle.rbd_lock.specs.Acquire.{op_of}
+use Rattle.rbd_lock.specs.declared.acquire.Acquire.{Acquire}
+use Rattle.rbd_slots.specs.declared.running.Running.{Running}
 use Rattle.rbd_world.proofs.OnWay.{takes_alone}
 use Rattle.rbd_world.proofs.LeftWanted.{for_whom, left_of, whose_slot}
 use Rattle.rbd_world.proofs.Lost.{among_ascending, are_distinct, ascending_increases, found_from, is_found, lines_in}
@@ -59,8 +59,8 @@ use Rattle.rbd_world.proofs.Rest.{StaysTrue, same_true, still_may_come, where_st
 use Rattle.rbd_world.proofs.Slots.{not_open, open_back}
 use Rattle.rbd_world.proofs.TakesNone.{wanted_behind_watch}
 use Rattle.rbd_world.proofs.Unowned.{open_unowned}
-use Rattle.rbd_close.specs.Close.{unwatch}
-use Rattle.rbd_owner.specs.Steps.{lock_take}
+use Rattle.rbd_session.specs.Close.{unwatch}
+use Rattle.rbd_lock.specs.Steps.{lock_take}
 use Rattle.rbd_world.proofs.Closing.{none_takes_beside, who_unwatches}
 use Rattle.rbd_world.proofs.OwnersWatch.{owner_of}
 
@@ -131,7 +131,7 @@ pub record IsGone {R : Type 0} (new : WorldView R) (session : ℕ) (l : LivesVie
 
 module _ {R : Type 0} (stands : R → Standing) (old new : WorldView R) (w : IsSoundWorld stands old) (session : ℕ) (c : ClientView R) (there : client_in session old.lives ≡ Some c)
     (others : (m : ℕ) → m ≢ session → lives_in m new.lives ≡ lives_in m old.lives) (at_sites : DoesAtSites (stopped stands (Some c)) old.sites new.sites) (l : LivesView R)
-    (was_there : lives_in session old.lives ≡ Some l) (ran : l.running ≡ Some c) (gone : IsGone new session l (record { instance = c.session.instance; wanted = wanted_by stands c })) where
+    (was_there : lives_in session old.lives ≡ Some l) (ran : l.running ≡ Some c) (gone : IsGone new session l (record { instance = c.session.instance; wanted = wanted_in_slots stands c })) where
   abbrev who : Instance
   who = c.session.instance
 
@@ -139,7 +139,7 @@ module _ {R : Type 0} (stands : R → Standing) (old new : WorldView R) (w : IsS
   lost = lost_by stands c
 
   abbrev h : Happening
-  h = Stopped who (wanted_by stands c) lost
+  h = Stopped who (wanted_in_slots stands c) lost
 
   abbrev knew : ℕ → Knowledge
   knew = known_in w.knows session
@@ -159,18 +159,18 @@ module _ {R : Type 0} (stands : R → Standing) (old new : WorldView R) (w : IsS
   line_of x = script_line (held_in x c.session.slots)
 
   at_session : (x : ℕ) → line_at session x old.lives ≡ line_of x
-  at_session x = ap (λ o. script_line (held_of x (session_of o))) there
+  at_session x = ap (λ o. script_line (held_of x (session_of_client o))) there
 
-  is_lost : (x line : ℕ) → line_of x ≡ Some line → is_among line lost ≡ true
+  is_lost : (x line : ℕ) → line_of x ≡ Some line → is_line_among line lost ≡ true
   is_lost x line is = by (cases_lt x 65)
     where
-      by : (x < 65) ⊎ (65 ≤ x) → is_among line lost ≡ true
+      by : (x < 65) ⊎ (65 ≤ x) → is_line_among line lost ≡ true
       by (inl less) = among_ascending line (lines_in line_of (range_with_len 0 65)) ∙ is_found line_of 0 65 x line (omega arith) (omega (arith, less)) is
       by (inr past) =
           let long = living.sound.session.slots in
           absurd (none-some line (sym (ap script_line (get_or_past c.session.slots x None (omega (arith, long, past)))) ∙ is))
 
-  in_slot : (line : ℕ) → is_among line lost ≡ true → (x : ℕ) × (line_of x ≡ Some line)
+  in_slot : (line : ℕ) → is_line_among line lost ≡ true → (x : ℕ) × (line_of x ≡ Some line)
   in_slot line is =
       let found = found_from line_of 0 65 line (sym (among_ascending line (lines_in line_of (range_with_len 0 65))) ∙ is) in (found.slot, found.is)
 
@@ -183,7 +183,7 @@ module _ {R : Type 0} (stands : R → Standing) (old new : WorldView R) (w : IsS
   whose_line : (m x line : ℕ) (asked : Asked) → line_at m x old.lives ≡ Some line → asked_by line w.told.run ≡ Some asked → asked.who.session ≡ m
   whose_line m x line asked at is = by (client_in m old.lives) refl at
     where
-      by : (o : Option (ClientView R)) → client_in m old.lives ≡ o → script_line (held_of x (session_of o)) ≡ Some line → asked.who.session ≡ m
+      by : (o : Option (ClientView R)) → client_in m old.lives ≡ o → script_line (held_of x (session_of_client o)) ≡ Some line → asked.who.session ≡ m
       by None none at = absurd (none-some line at)
       by (Some q) runs at =
           let theirs = lost_in m x line q runs at in
@@ -194,10 +194,10 @@ module _ {R : Type 0} (stands : R → Standing) (old new : WorldView R) (w : IsS
   in_one line x y one two = (w.apart line session x session y (at_session x ∙ one) (at_session y ∙ two)).1
 
   -- what its slots want
-  wants_it : (slot : ℕ) (s : SiteId) (o : Op) → held_in slot (wanted_by stands c) ≡ Some (s, o) → op_wanted stands slot c ≡ Some (s, o)
+  wants_it : (slot : ℕ) (s : SiteId) (o : Op) → held_in slot (wanted_in_slots stands c) ≡ Some (s, o) → op_wanted stands slot c ≡ Some (s, o)
   wants_it slot s o is = wanted_at (λ x. op_wanted stands x c) 65 slot (s, o) is
 
-  sends : SendsRightly who (wanted_by stands c) w.told.run
+  sends : SendsRightly who (wanted_in_slots stands c) w.told.run
   sends = record {
     takes = λ slot s o is. wanted_behind_watch stands (seat_at w.told.homes session) slot c who w.told.run living.watches (living.held slot) s o (wants_it slot s o is);
     unowned = λ slot s image is lock.
@@ -212,7 +212,7 @@ module _ {R : Type 0} (stands : R → Standing) (old new : WorldView R) (w : IsS
   alone : (x : ℕ) (r : Running R) → held_in x c.session.slots ≡ Some (occupant.Running r) → (a : Acquire) → actor_at stands x c ≡ actor.Way a → TakesAlone who a.site (op_of a) w.told.run
   alone x r holds a acts = takes_alone stands old new w session x c there r holds a acts
 
-  due : IsStop w.told.homes who (wanted_by stands c) lost w.told.run
+  due : IsStop w.told.homes who (wanted_in_slots stands c) lost w.told.run
   due = record {
     runs = living.runs;
     each = λ line is. let (x, at) = in_slot line is in lost_in session x line c there at;
@@ -244,7 +244,7 @@ module _ {R : Type 0} (stands : R → Standing) (old new : WorldView R) (w : IsS
   elsewhere m q is same = not_here m q is same
 
   line_elsewhere : (m x : ℕ) → m ≢ session → line_at m x new.lives ≡ line_at m x old.lives
-  line_elsewhere m x differ = ap (λ o. script_line (held_of x (session_of (running_of o)))) (others m differ)
+  line_elsewhere m x differ = ap (λ o. script_line (held_of x (session_of_client (running_of o)))) (others m differ)
 
   line_was : (m x line : ℕ) → line_at m x new.lives ≡ Some line → line_at m x old.lives ≡ Some line
   line_was m x line is = by (same_or_other m session)
@@ -252,25 +252,25 @@ module _ {R : Type 0} (stands : R → Standing) (old new : WorldView R) (w : IsS
       by : (m ≡ session) ⊎ (m ≢ session) → line_at m x old.lives ≡ Some line
       by (inr differ) = sym (line_elsewhere m x differ) ∙ is
       by (inl same) =
-          absurd (none-some line (sym (ap (λ i. line_at i x new.lives) same ∙ ap (λ o. script_line (held_of x (session_of o))) client_gone) ∙ is))
+          absurd (none-some line (sym (ap (λ i. line_at i x new.lives) same ∙ ap (λ o. script_line (held_of x (session_of_client o))) client_gone) ∙ is))
 
   quiet_at : (m x line : ℕ) → m ≢ session → line_at m x old.lives ≡ Some line → IsQuiet line h
-  quiet_at m x line differ at = quiet_stopped line who (wanted_by stands c) lost (by (is_among line lost) refl)
+  quiet_at m x line differ at = quiet_stopped line who (wanted_in_slots stands c) lost (by (is_line_among line lost) refl)
     where
-      by : (b : Bool) → is_among line lost ≡ b → b ≡ false
+      by : (b : Bool) → is_line_among line lost ≡ b → b ≡ false
       by false is = refl
       by true is = let (y, own) = in_slot line is in absurd (differ (w.apart line m x session y at (at_session y ∙ own)).0)
 
   quiet_of : (m : ℕ) (q : ClientView R) → m ≢ session → client_in m old.lives ≡ Some q → (x line : ℕ) → script_line (held_in x q.session.slots) ≡ Some line → IsQuiet line h
-  quiet_of m q differ is x line at = quiet_at m x line differ (ap (λ o. script_line (held_of x (session_of o))) is ∙ at)
+  quiet_of m q differ is x line at = quiet_at m x line differ (ap (λ o. script_line (held_of x (session_of_client o))) is ∙ at)
 
   slots_now : (line : ℕ) → IsOpen line (h ∷ w.told.run) → IsInSlot line new.lives
-  slots_now line begun = by (is_among line lost) refl
+  slots_now line begun = by (is_line_among line lost) refl
     where
-      by : (b : Bool) → is_among line lost ≡ b → IsInSlot line new.lives
+      by : (b : Bool) → is_line_among line lost ≡ b → IsInSlot line new.lives
       by true is = absurd (not_open line h w.told.run is begun)
       by false is =
-          let found = w.slots line (open_back line h w.told.run (quiet_stopped line who (wanted_by stands c) lost is) begun) in
+          let found = w.slots line (open_back line h w.told.run (quiet_stopped line who (wanted_in_slots stands c) lost is) begun) in
           go found (same_or_other found.session session)
         where
           go : (found : IsInSlot line old.lives) → (found.session ≡ session) ⊎ (found.session ≢ session) → IsInSlot line new.lives
@@ -313,7 +313,7 @@ module _ {R : Type 0} (stands : R → Standing) (old new : WorldView R) (w : IsS
   -- ---- what is known then
 
   abbrev wanted : ℕ → Option (SiteId × Op)
-  wanted x = held_in x (wanted_by stands c)
+  wanted x = held_in x (wanted_in_slots stands c)
 
   -- what who acted at a slot knew
   abbrev knew_at : ℕ → Knowledge
@@ -542,7 +542,7 @@ module _ {R : Type 0} (stands : R → Standing) (old new : WorldView R) (w : IsS
   nobody_now m is x (inr differ) =
       ap (λ b. cond b nothing_known (w.knows (InSlot m x))) (ne_eqb m session differ) ∙ w.nobody m (sym (ap running_of (others m differ)) ∙ is) x
 
-  order_now : (m : ℕ) (q : ClientView R) → client_in m new.lives ≡ Some q → IsInOrder stands (w.told.homes m) q.session.instance (h ∷ w.told.run) q.session
+  order_now : (m : ℕ) (q : ClientView R) → client_in m new.lives ≡ Some q → AreWritesInOrder stands (w.told.homes m) q.session.instance (h ∷ w.told.run) q.session
   order_now m q is =
       let differ = elsewhere m q is in
       let before = was m q differ is in
@@ -596,13 +596,13 @@ module _ {R : Type 0} (stands : R → Standing) (old new : WorldView R) (w : IsS
 
 module _ {R : Type 0} (stands : R → Standing) where
   is_gone : (old new : WorldView R) (session : ℕ) (c : ClientView R) (l : LivesView R) → lives_in session old.lives ≡ Some l
-      → Does stands (event.Stop session) (stopped stands (Some c)) old new → IsGone new session l (record { instance = c.session.instance; wanted = wanted_by stands c })
+      → Does stands (event.Stop session) (stopped stands (Some c)) old new → IsGone new session l (record { instance = c.session.instance; wanted = wanted_in_slots stands c })
   is_gone old new session c l there does =
       by (lives_in session new.lives) refl
       (subst (λ o. LivesOnIf stands (event.Stop session) (stopped stands (Some c)) o (lives_in session new.lives)) there (does.named session (eq-eqb session session refl)))
     where
       by : (o : Option (LivesView R)) → lives_in session new.lives ≡ o → LivesOnIf stands (event.Stop session) (stopped stands (Some c)) (Some l) o
-          → IsGone new session l (record { instance = c.session.instance; wanted = wanted_by stands c })
+          → IsGone new session l (record { instance = c.session.instance; wanted = wanted_in_slots stands c })
       by None is on = absurd on
       by (Some m) is on = record { behind = m; is = is; home = on.home; latest = on.latest; runs = on.running; sends = on.late }
 

@@ -6,14 +6,14 @@ use Rattle.rbd_kinds.specs.declared.id.SiteId.TheVariants as site
 use Rattle.rbd_kinds.proofs.Images.{same_site_itself}
 use Rattle.rbd_machine.specs.Knowledge.{same_site}
 use Rattle.rbd_site.specs.InForm.{AreInForm}
-use Rattle.rbd_site.specs.Log.{SiteLog, expire_line, expired, expired_by, records_of, trimmed, trim_line, watch_ended}
+use Rattle.rbd_site.specs.Log.{SiteLog, expire_line, expired, expired_by, records_of, trimmed, trim_line, log_with_expiry}
 use Rattle.rbd_site.specs.Records.{Records}
 use Rattle.rbd_site.proofs.FormLemmas.{form_expired}
 use Rattle.rbd_site.proofs.TrimLemmas.{form_trimmed}
 use Rattle.rbd_watch.specs.Watching.{oldest_of}
 use Rattle.rbd_world.specs.declared.sites.Sites.{Sites}
 use Rattle.rbd_world.specs.Run.{Happening, Nothing, Trimmed}
-use Rattle.rbd_world.specs.Step.{DoesAt, DoesAtSites, ended_watch, expired_at, expired_of, mail_then, next_number, trimmed_at, trimmed_of, with_lines}
+use Rattle.rbd_world.specs.Step.{DoesAt, DoesAtSites, ended_watch, expired_at, expired_of, mail_then, next_number, trimmed_at, trimmed_of, with_log_lines}
 use Rattle.rbd_world.specs.World.{site_in}
 use Rattle.rbd_world.proofs.BothSites.{IsNothingAt, done_at, left_at, nothing_done}
 
@@ -45,11 +45,11 @@ expired_there at s image None = record { elsewhere = λ q other. nothing_done q;
 -- ---- at one site
 
 pub trimmed_here : (s : SiteId) (old new : SiteLog) (image object : ℕ) → is_some ((records_of old).objects image object) ≡ true
-    → new ≡ with_lines (trim_line (next_number old) image object ∷ []) old → records_of new ≡ trimmed image object (records_of old)
+    → new ≡ with_log_lines (trim_line (next_number old) image object ∷ []) old → records_of new ≡ trimmed image object (records_of old)
     → DoesAt s (trimmed_of old s image object) old new
 trimmed_here s old new image object there site records =
     subst (λ b. DoesAt s (cond b (Trimmed s (next_number old) image object) Nothing) old new) (sym there) (record {
-      site = site ∙ sym (ap (λ c. with_lines (cond c (trim_line (next_number old) image object ∷ []) []) old) (same_site_itself s));
+      site = site ∙ sym (ap (λ c. with_log_lines (cond c (trim_line (next_number old) image object ∷ []) []) old) (same_site_itself s));
       records = records ∙ sym (ap (λ c. cond c (trimmed image object (records_of old)) (records_of old)) (same_site_itself s));
       form = λ form.
           subst (λ (r : Records). AreInForm r (length new.log)) (sym records)
@@ -58,15 +58,15 @@ trimmed_here s old new image object there site records =
     })
 
 pub expired_here : (s : SiteId) (old new : SiteLog) (session image : ℕ)
-    → new ≡ record old { log = watch_ended (length old.log + 1) image (oldest_of session ((records_of old).watchers image)) old.log }
+    → new ≡ record old { log = log_with_expiry (length old.log + 1) image (oldest_of session ((records_of old).watchers image)) old.log }
     → records_of new ≡ expired_by image (oldest_of session ((records_of old).watchers image)) (records_of old)
     → DoesAt s (expired_of old session s image) old new
 expired_here s old new session image site records = by (oldest_of session ((records_of old).watchers image)) site records
   where
-    by : (o : Option Instance) → new ≡ record old { log = watch_ended (length old.log + 1) image o old.log } → records_of new ≡ expired_by image o (records_of old) → DoesAt s (ended_watch old s image o) old new
+    by : (o : Option Instance) → new ≡ record old { log = log_with_expiry (length old.log + 1) image o old.log } → records_of new ≡ expired_by image o (records_of old) → DoesAt s (ended_watch old s image o) old new
     by None site records = left_at s Nothing old new (nothing_done s) site
     by (Some who) site records = record {
-      site = site ∙ sym (ap (λ c. with_lines (cond c (expire_line (next_number old) image who ∷ []) []) old) (same_site_itself s));
+      site = site ∙ sym (ap (λ c. with_log_lines (cond c (expire_line (next_number old) image who ∷ []) []) old) (same_site_itself s));
       records = records ∙ sym (ap (λ c. cond c (expired image who (records_of old)) (records_of old)) (same_site_itself s));
       form = λ form.
           subst (λ (r : Records). AreInForm r (length new.log)) (sym records)

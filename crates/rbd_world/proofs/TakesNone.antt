@@ -12,21 +12,21 @@ use Rattle.rbd_kinds.specs.declared.id.Instance.{Instance}
 use Rattle.rbd_kinds.specs.declared.id.SiteId.{SiteId}
 use Rattle.rbd_kinds.specs.declared.machine.Fed.{Fed}
 use Rattle.rbd_kinds.specs.declared.operation.Op.{Op}
-use Rattle.rbd_known.proofs.Wanting.{Wants, wants}
+use Rattle.rbd_knowledge.proofs.Wanting.{Wants, wants}
 use Rattle.rbd_machine.specs.Path.{Answered, IsWalk}
 use Rattle.rbd_machine.specs.Plan.{Plan, Ask, Standing}
 use Rattle.rbd_machine.specs.declared.reason.Reason.{Reason}
 use Rattle.rbd_machine.specs.declared.seat.Seat.{Seat}
-use Rattle.rbd_owner.specs.Release.{release_op, release_op_at}
-use Rattle.rbd_owner.specs.declared.release.Release.{Release}
-use Rattle.rbd_owner.specs.declared.release.Stage.{Stage}
-use Rattle.rbd_owner.specs.declared.release.Stage.TheVariants as stage
-use Rattle.rbd_requests.specs.Follows.{TakesNoLock}
-use Rattle.rbd_requests.specs.Profile.{profile}
-use Rattle.rbd_requests.proofs.Consequences.{comes_to}
-use Rattle.rbd_requests.proofs.FollowsAll.{command_follows}
-use Rattle.rbd_requests.specs.Plans.{IsPlanFor}
-use Rattle.rbd_session.specs.Session.{held_in}
+use Rattle.rbd_lock.specs.Release.{release_op, release_op_at}
+use Rattle.rbd_lock.specs.declared.release.Release.{Release}
+use Rattle.rbd_lock.specs.declared.release.Stage.{Stage}
+use Rattle.rbd_lock.specs.declared.release.Stage.TheVariants as stage
+use Rattle.rbd_catalog.specs.Follows.{TakesNoLock}
+use Rattle.rbd_catalog.specs.Profile.{profile}
+use Rattle.rbd_catalog.proofs.Consequences.{comes_to}
+use Rattle.rbd_catalog.proofs.FollowsAll.{command_follows}
+use Rattle.rbd_catalog.specs.Plans.{IsPlanFor}
+use Rattle.rbd_slots.specs.Session.{held_in}
 use Rattle.rbd_world.specs.Run.{Happening}
 use Rattle.rbd_world.specs.Sound.{IsHeldRightly, IsUnderWay}
 use Rattle.rbd_world.specs.Watched.{CountsItsWatches, TakesBehindWatch}

@@ -13,10 +13,10 @@ use Rattle.rbd_kinds.specs.declared.operation.Op.TheVariants as op
 use Rattle.rbd_kinds.specs.declared.reply.Reply.{Reply}
 use Rattle.rbd_kinds.specs.Instances.{same_instance}
 use Rattle.rbd_kinds.proofs.Instances.{same_instance_is, same_instance_itself}
-use Rattle.rbd_owner.specs.Release.{release_op_at}
-use Rattle.rbd_owner.specs.Steps.{lock_drop, released_lock}
-use Rattle.rbd_owner.specs.declared.release.Release.{Release}
-use Rattle.rbd_owner.specs.declared.release.Stage.TheVariants as stage
+use Rattle.rbd_lock.specs.Release.{release_op_at}
+use Rattle.rbd_lock.specs.Steps.{lock_drop, released_lock}
+use Rattle.rbd_lock.specs.declared.release.Release.{Release}
+use Rattle.rbd_lock.specs.declared.release.Stage.TheVariants as stage
 use Rattle.rbd_world.specs.LetGo.{HasDropped, is_house, left_by, moves_house, release_left, release_of}
 use Rattle.rbd_world.specs.Run.{Doer, Itself, OnWay, House, AfterStop, Happening, Nothing, Waited, Began, Did, Refused, Trimmed, Expired, Heard, Stopped, Restarted, Operation}
 use Rattle.rbd_world.specs.Sound.{IsNextOf, IsRight}

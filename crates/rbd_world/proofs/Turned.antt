@@ -4,13 +4,13 @@ use Rattle.std.proofs.Common.{◌≡◌, ℕ, ◌||◌, not, Bool, true, false, 
 use Rattle.std.proofs.lemmas.Bool.{true≢false, and_parts, not-false}
 use Rattle.rbd_kinds.specs.Sharing.{go_together, is_alone}
 use Rattle.rbd_guard.specs.Order.{is_in}
-use Rattle.rbd_line.specs.Line.{Member, LetsPass, IsFairLine, IsFairMember, member_of, is_member, ahead, comes_next, has_turn, holds, is_past, lets_pass, objects_in}
-use Rattle.rbd_line.specs.Turns.{begins_with}
-use Rattle.rbd_line.proofs.Keeping.{found_has}
-use Rattle.rbd_line.proofs.Passing.{ahead_first, found_at}
-use Rattle.rbd_session.specs.Track.{Track, line_in}
-use Rattle.rbd_session.specs.Waits.{awaits_line, awaits_turn, lacks_turn, waits}
-use Rattle.rbd_session.proofs.Members.{at_own_slot}
+use Rattle.rbd_queue.specs.Line.{Member, LetsPass, IsFairLine, IsFairMember, member_of, is_member, ahead, comes_next, has_turn, holds_ticket, is_past, lets_pass, objects_in}
+use Rattle.rbd_queue.specs.Turns.{begins_with}
+use Rattle.rbd_queue.proofs.Keeping.{found_has}
+use Rattle.rbd_queue.proofs.Passing.{ahead_first, found_at}
+use Rattle.rbd_slots.specs.Track.{Track, line_in}
+use Rattle.rbd_slots.specs.Waits.{awaits_line, awaits_turn, lacks_turn, waits}
+use Rattle.rbd_slots.proofs.Members.{at_own_slot}
 use Rattle.rbd_world.specs.InLine.{IsPastWithout}
 use Rattle.rbd_world.proofs.Ahead.{pair_ahead}
 
@@ -18,7 +18,7 @@ use Rattle.rbd_world.proofs.Ahead.{pair_ahead}
 pub record HasTicket (slot number : ℕ) (members : List Member) : Type 0 where
   pub member : Member
   pub found : member_of slot members ≡ Some member
-  pub has : holds number member ≡ true
+  pub has : holds_ticket number member ≡ true
 
 pub ticket_of : (slot number : ℕ) (members : List Member) → comes_next slot number members ≡ true → HasTicket slot number members
 ticket_of slot number members next = by (member_of slot members) refl next
@@ -51,10 +51,10 @@ module _ (slot number : ℕ) (members : List Member) (fair : IsFairLine members)
   pub earlier_past : (x : ℕ) → is_member x (ahead slot members) ≡ true → IsPastWithout x number members
   earlier_past x before m found = (
     past_of m (pair_ahead LetsPass x slot m ticket.member members fair.passing found ticket.found before its_past),
-    by (holds number m) refl,
+    by (holds_ticket number m) refl,
   )
     where
-      by : (b : Bool) → holds number m ≡ b → holds number m ≡ false
+      by : (b : Bool) → holds_ticket number m ≡ b → holds_ticket number m ≡ false
       by false is = is
       by true is =
           let same = found_at members x m found in

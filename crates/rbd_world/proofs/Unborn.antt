@@ -3,7 +3,7 @@ use Rattle.std.proofs.Common.{◌≡◌, ◌⊎◌, inl, inr, ℕ, ◌+◌, ◌<
 use Rattle.std.proofs.lemmas.Bool.{true≢false}
 use Rattle.rbd_client.specs.declared.actor.Actor.{Actor}
 use Rattle.rbd_client.specs.declared.actor.Actor.TheVariants as actor
-use Rattle.rbd_held.specs.Knowing.{known_at, known_to, known_to_drop}
+use Rattle.rbd_knowledge.specs.ClientsKnowing.{known_at_stage, known_to, known_to_drop}
 use Rattle.rbd_kinds.specs.declared.answer.Answer.{Answer}
 use Rattle.rbd_kinds.specs.declared.answer.Answer.TheVariants as answer
 use Rattle.rbd_kinds.specs.declared.data_op.DataOp.{DataOp}
@@ -19,16 +19,16 @@ use Rattle.rbd_kinds.specs.declared.map_op.MapOp.{MapOp}
 use Rattle.rbd_kinds.specs.declared.map_op.MapOp.TheVariants as states
 use Rattle.rbd_kinds.specs.declared.operation.Op.{Op}
 use Rattle.rbd_kinds.specs.declared.operation.Op.TheVariants as op
-use Rattle.rbd_known.specs.Knowing.{known_at_operation}
-use Rattle.rbd_machine.specs.Knowledge.{Knowledge, Own, Place, first_told, header_told, is_at, is_drawn, learned, learned_of_directory, learned_of_header, learned_of_listing, learned_of_map, learned_of_object, looked_by, looked_owning, own_of, passed, same_site}
+use Rattle.rbd_knowledge.specs.Knowing.{known_at_operation}
+use Rattle.rbd_machine.specs.Knowledge.{Knowledge, Own, ImagePlace, first_told, header_told, is_at, is_drawn, learned, learned_of_directory, learned_of_header, learned_of_listing, learned_of_map, learned_of_object, looked_by, looked_under_lock, own_of, known_after_wait, same_site}
 use Rattle.rbd_machine.specs.Plan.{Plan, Ask, Await, Note, Return, Goto}
 use Rattle.rbd_machine.specs.Wait.{Wait}
 use Rattle.rbd_machine.specs.Wait as wait
-use Rattle.rbd_owner.specs.declared.acquire.Stage.{Stage}
-use Rattle.rbd_owner.specs.declared.acquire.Stage.TheVariants as stage
-use Rattle.rbd_owner.specs.declared.release.Stage.{Stage as ReleaseStage}
-use Rattle.rbd_owner.specs.declared.release.Stage.TheVariants as releasing
-use Rattle.rbd_rely.proofs.Less.{place_of}
+use Rattle.rbd_lock.specs.declared.acquire.Stage.{Stage}
+use Rattle.rbd_lock.specs.declared.acquire.Stage.TheVariants as stage
+use Rattle.rbd_lock.specs.declared.release.Stage.{Stage as ReleaseStage}
+use Rattle.rbd_lock.specs.declared.release.Stage.TheVariants as releasing
+use Rattle.rbd_interference.proofs.Less.{place_of}
 use Rattle.rbd_registry.specs.Directory.{id_of, is_full}
 use Rattle.rbd_site.specs.DirectoryStep.{name_added}
 use Rattle.rbd_site.specs.Log.{expired, trimmed}
@@ -79,7 +79,7 @@ never_born homes (h ∷ run) right s image past =
 -- ---- who knows that an id is drawn
 
 -- a way and a release know of none
-way_draws_none : (at : Stage) (there t : SiteId) (image : ℕ) → is_drawn (known_at at there).drawn t image ≡ true → ⊥
+way_draws_none : (at : Stage) (there t : SiteId) (image : ℕ) → is_drawn (known_at_stage at there).drawn t image ≡ true → ⊥
 way_draws_none (stage.Breaking owner) there t image drawn = true≢false (sym drawn)
 way_draws_none _ there t image drawn = true≢false (sym drawn)
 
@@ -95,7 +95,7 @@ acted_drawn k (actor.Way a) t image drawn = absurd (way_draws_none a.stage a.sit
 acted_drawn k (actor.Release x) t image drawn = absurd (release_draws_none x.stage x.site t x.image image drawn)
 
 -- no wait teaches any
-passed_drawn : (k : Knowledge) (w : Wait) (t : SiteId) (image : ℕ) → is_drawn (passed k w).drawn t image ≡ true → is_drawn k.drawn t image ≡ true
+passed_drawn : (k : Knowledge) (w : Wait) (t : SiteId) (image : ℕ) → is_drawn (known_after_wait k w).drawn t image ≡ true → is_drawn k.drawn t image ≡ true
 passed_drawn k (wait.Join site i sharing) t image drawn = drawn
 passed_drawn k (wait.Hold site i) t image drawn = drawn
 passed_drawn k (wait.Turn object) t image drawn = drawn
@@ -104,13 +104,13 @@ passed_drawn k (wait.Leave site i) t image drawn = drawn
 
 pub way_drawn : (plan : Plan) (k : Knowledge) (t : SiteId) (image : ℕ) → is_drawn (known_at_operation k plan).drawn t image ≡ true → is_drawn k.drawn t image ≡ true
 way_drawn (Ask site why o next) k t image drawn = drawn
-way_drawn (Await w next) k t image drawn = passed_drawn k w t image (way_drawn next (passed k w) t image drawn)
+way_drawn (Await w next) k t image drawn = passed_drawn k w t image (way_drawn next (known_after_wait k w) t image drawn)
 way_drawn (Note site i event next) k t image drawn = way_drawn next k t image drawn
 way_drawn (Return reply) k t image drawn = drawn
 way_drawn (Goto label) k t image drawn = drawn
 
 -- those that are left were there
-kept_drawn : (keeps : Place → Bool) (drawn : List Place) (t : SiteId) (image : ℕ) → is_drawn (filter keeps drawn) t image ≡ true → is_drawn drawn t image ≡ true
+kept_drawn : (keeps : ImagePlace → Bool) (drawn : List ImagePlace) (t : SiteId) (image : ℕ) → is_drawn (filter keeps drawn) t image ≡ true → is_drawn drawn t image ≡ true
 kept_drawn keeps [] t image is = is
 kept_drawn keeps (d ∷ drawn) t image is = by (keeps d) (is_at t image d.site d.image) refl is (kept_drawn keeps drawn t image)
   where
@@ -131,7 +131,7 @@ module _ (k : Knowledge) (s t : SiteId) (image : ℕ) where
   abbrev WasDrawn : Type 0
   WasDrawn = is_drawn k.drawn t image ≡ true
 
-  looked_drawn : (i : ℕ) (h : HeaderView) (o : Option Own) → is_drawn (header_told s i (first_told h) (looked_owning o s i k)).drawn t image ≡ true → WasDrawn
+  looked_drawn : (i : ℕ) (h : HeaderView) (o : Option Own) → is_drawn (header_told s i (first_told h) (looked_under_lock o s i k)).drawn t image ≡ true → WasDrawn
   looked_drawn i h None drawn = drawn
   looked_drawn i h (Some o) drawn = by o.header drawn
     where

@@ -2,32 +2,32 @@
 use Rattle.std.proofs.Common.{◌≡◌, ◌≤◌, ◌<◌, ℕ, List, length, is_some, Option, Some, None, refl, sym, ap, ◌∙◌, subst}
 use Rattle.std.proofs.lemmas.Option.{none-some, same_Some}
 use Rattle.rbd_client.specs.declared.slot_state.Way.{Way}
-use Rattle.rbd_client.specs.Client.{ClientView, state_in}
+use Rattle.rbd_client.specs.Client.{ClientView, slot_state}
 use Rattle.rbd_client.specs.Feeding.{IsClientAlike}
 use Rattle.rbd_client.specs.Sound.{IsSoundClient}
-use Rattle.rbd_exact.specs.Exact.{IsExactBut, IsOwed}
-use Rattle.rbd_held.specs.Truth.{IsTrueOf}
-use Rattle.rbd_held.proofs.Calls.{readied_is_true}
+use Rattle.rbd_interference.specs.Exact.{IsExactBut, IsOwed}
+use Rattle.rbd_knowledge.specs.Truth.{IsTrueOf}
+use Rattle.rbd_knowledge.proofs.Calls.{readied_is_true}
 use Rattle.rbd_kinds.specs.declared.id.Instance.{Instance}
 use Rattle.rbd_kinds.specs.declared.id.SiteId.{SiteId}
-use Rattle.rbd_known.specs.Calm.{IsCalmRequest}
-use Rattle.rbd_known.proofs.Behind.{alike_know}
-use Rattle.rbd_locks.specs.declared.lock_state.LockState.{LockState}
+use Rattle.rbd_knowledge.specs.Calm.{IsCalmRequest}
+use Rattle.rbd_knowledge.proofs.Behind.{alike_know}
+use Rattle.rbd_lock.specs.declared.lock_state.LockState.{LockState}
 use Rattle.rbd_machine.specs.Knowledge.{Knowledge}
 use Rattle.rbd_machine.specs.Path.{IsWalk}
 use Rattle.rbd_machine.specs.Plan.{Standing}
 use Rattle.rbd_machine.specs.Refused.{AreGiven}
-use Rattle.rbd_rely.specs.Beside.{AreBeside}
-use Rattle.rbd_rely.specs.Truth.{AreMapped, AreStandalone}
-use Rattle.rbd_session.specs.declared.running.Occupant.{Occupant}
-use Rattle.rbd_session.specs.declared.running.Occupant.TheVariants as occupant
-use Rattle.rbd_session.specs.declared.running.Running.{Running}
-use Rattle.rbd_session.specs.Advance.{IsSameStand}
-use Rattle.rbd_session.specs.Session.{IsAlikeIn, held_in, running_at, running_in, script_line}
+use Rattle.rbd_interference.specs.Beside.{AreBeside}
+use Rattle.rbd_interference.specs.Truth.{AreMapped, AreStandalone}
+use Rattle.rbd_slots.specs.declared.running.Occupant.{Occupant}
+use Rattle.rbd_slots.specs.declared.running.Occupant.TheVariants as occupant
+use Rattle.rbd_slots.specs.declared.running.Running.{Running}
+use Rattle.rbd_slots.specs.Advance.{IsSameStand}
+use Rattle.rbd_slots.specs.Session.{IsAlikeIn, held_in, running_at, running_in, script_line}
 use Rattle.rbd_site.specs.InForm.{AreInForm}
 use Rattle.rbd_world.specs.declared.sites.Sites.{Sites}
 use Rattle.rbd_world.specs.LetGo.{release_of}
-use Rattle.rbd_world.specs.Owing.{IsUnhindered, owed_in}
+use Rattle.rbd_world.specs.Owing.{HasNoHindrance, owed_in}
 use Rattle.rbd_world.specs.Owning.{CountsItsLocks, owns_in}
 use Rattle.rbd_world.specs.Run.{Happening, AreCalls, asked_by, log_of, records_after, steps_of, way_of}
 use Rattle.rbd_machine.specs.Standalone.{TellAllStandalone}
@@ -36,14 +36,14 @@ use Rattle.rbd_world.specs.Seats.{seat_of_home}
 use Rattle.rbd_world.specs.Sound.{HasLearnedIf, AreLivesOf, AreStrangers, Holder, InSlot, Sending, IsHeldRightly, IsLiving, IsRunning, IsSoundWorld, IsUnderWay, KeepsToItsWay, MayStillCome, has_ended, held_of, known_in, line_at}
 use Rattle.rbd_world.specs.Step.{AreLivesAlike, IsAlikeOf, IsClientAlikeIf, IsSoundIf, IsUndone}
 use Rattle.rbd_world.specs.Watched.{CountsItsWatches}
-use Rattle.rbd_world.specs.Ways.{GoesWith}
-use Rattle.rbd_world.specs.World.{LateView, LivesView, WorldView, client_in, late_at, late_of, lives_in, records_in, running_of, sent_in, session_of, site_in}
+use Rattle.rbd_world.specs.Ways.{AgreesWithWay}
+use Rattle.rbd_world.specs.World.{LateView, LivesView, WorldView, client_in, late_at, late_of, lives_in, records_in, running_of, sent_in, session_of_client, site_in}
 use Rattle.rbd_world.proofs.OrderedWorld.{alike_order_if}
 use Rattle.rbd_world.proofs.Slots.{same_slots}
 use Rattle.rbd_world.proofs.Watching.{counts_alike}
 use Rattle.rbd_world.specs.Closes.{StandsFirst, StandsFirstIf, has_let_go}
-use Rattle.rbd_session.specs.Lines.{LinesView, lines_of}
-use Rattle.rbd_session.specs.Track.{Lines}
+use Rattle.rbd_slots.specs.Lines.{LinesView, lines_of}
+use Rattle.rbd_slots.specs.Track.{Lines}
 
 module _ {R : Type 0} (stands : R → Standing) where
   -- ---- a slot
@@ -87,7 +87,7 @@ module _ {R : Type 0} (stands : R → Standing) where
   -- and its way stands where it did
   alike_ways : (run : List Happening) (w : Way) (o p : Option (Occupant R)) → IsAlikeIn stands o p → KeepsToItsWay stands run w (running_in o) → KeepsToItsWay stands run w (running_in p)
   alike_ways run w (Some (occupant.Running r)) (Some (occupant.Running q)) alike keeps =
-      subst (λ (s : Standing). GoesWith s.plan w (way_of q.line run)) (sym alike.same) (subst (λ line. GoesWith (stands r.request).plan w (way_of line run)) (sym alike.line) keeps)
+      subst (λ (s : Standing). AgreesWithWay s.plan w (way_of q.line run)) (sym alike.same) (subst (λ line. AgreesWithWay (stands r.request).plan w (way_of line run)) (sym alike.line) keeps)
   alike_ways run w (Some (occupant.Running r)) (Some (occupant.Refused line refusal)) alike keeps = tt
   alike_ways run w (Some (occupant.Running r)) None alike keeps = tt
   alike_ways run w (Some (occupant.Refused line refusal)) p alike keeps = subst (λ x. KeepsToItsWay stands run w (running_in x)) (sym alike) keeps
@@ -138,8 +138,8 @@ module _ {R : Type 0} (stands : R → Standing) where
         subst (λ i. IsHeldRightly stands (seat_of_home session home) i run (held_in slot d.session.slots)) (sym alike.session.instance)
         (alike_held (seat_of_home session home) c.session.instance run (held_in slot c.session.slots) (held_in slot d.session.slots) (alike.session.slots slot) (living.held slot));
     ways = λ slot.
-        subst (λ ss. KeepsToItsWay stands run (state_in slot ss).way (running_at slot d.session)) (sym alike.slots)
-        (alike_ways run (state_in slot c.slots).way (held_in slot c.session.slots) (held_in slot d.session.slots) (alike.session.slots slot) (living.ways slot));
+        subst (λ ss. KeepsToItsWay stands run (slot_state slot ss).way (running_at slot d.session)) (sym alike.slots)
+        (alike_ways run (slot_state slot c.slots).way (held_in slot c.session.slots) (held_in slot d.session.slots) (alike.session.slots slot) (living.ways slot));
     learned = λ slot. alike_learned run (knows slot) (held_in slot c.session.slots) (held_in slot d.session.slots) (alike.session.slots slot) (living.learned slot);
     releases = alike.release ∙ living.releases ∙ ap (λ i. release_of i run) (sym alike.session.instance);
     watches =
@@ -160,8 +160,8 @@ module _ {R : Type 0} (stands : R → Standing) where
   same_none (Some c) None alike none = absurd alike
   same_none (Some c) (Some d) alike none = absurd (none-some d (sym none))
 
-  same_line : (slot : ℕ) (o n : Option (ClientView R)) → IsClientAlikeIf stands o n → script_line (held_of slot (session_of n)) ≡ script_line (held_of slot (session_of o))
-  same_line slot None n alike = ap (λ c. script_line (held_of slot (session_of c))) alike
+  same_line : (slot : ℕ) (o n : Option (ClientView R)) → IsClientAlikeIf stands o n → script_line (held_of slot (session_of_client n)) ≡ script_line (held_of slot (session_of_client o))
+  same_line slot None n alike = ap (λ c. script_line (held_of slot (session_of_client c))) alike
   same_line slot (Some c) None alike = absurd alike
   same_line slot (Some c) (Some d) alike = alike_line (held_in slot c.session.slots) (held_in slot d.session.slots) (alike.session.slots slot)
 
@@ -225,7 +225,7 @@ module _ {R : Type 0} (stands : R → Standing) where
       records = subst (λ (sites : Sites). (s : SiteId) → records_in s sites ≡ records_after s w.told.run) (sym undone.sites) w.told.records;
       mail = ap (λ (sites : Sites). sites.mail) undone.sites ∙ w.told.mail;
       right = w.told.right;
-      exact = subst (λ (sites : Sites). IsUnhindered w.told.run → (s : SiteId) → IsExactBut (IsOwed (owed_in w.told.run) s) (records_in s sites)) (sym undone.sites) w.told.exact;
+      exact = subst (λ (sites : Sites). HasNoHindrance w.told.run → (s : SiteId) → IsExactBut (IsOwed (owed_in w.told.run) s) (records_in s sites)) (sym undone.sites) w.told.exact;
       lives = λ session. lives_if w.told.run (w.told.homes session) session (lives_in session old.lives) (lives_in session new.lives) (undone.lives session) (w.told.lives session);
       order = w.told.order;
     };

@@ -6,7 +6,7 @@ use Rattle.std.proofs.lemmas.List.{append-nil}
 use Rattle.std.proofs.lemmas.List.Folds.{list_any-append}
 use Rattle.std.proofs.lemmas.Option.{none-some, same_Some}
 use Rattle.std.proofs.Math.Bool.{or-false}
-use Rattle.rbd_close.specs.Close.{unwatch}
+use Rattle.rbd_session.specs.Close.{unwatch}
 use Rattle.rbd_kinds.specs.declared.answer.Answer.{Answer}
 use Rattle.rbd_kinds.specs.declared.answer.Answer.TheVariants as answer
 use Rattle.rbd_kinds.specs.declared.header.HeaderView.{HeaderView}
@@ -23,23 +23,23 @@ use Rattle.rbd_kinds.proofs.Images.{at_itself, same_site_is, same_site_itself}
 use Rattle.rbd_kinds.proofs.Instances.{same_instance_itself}
 use Rattle.rbd_machine.specs.Path.{Answered, IsWalk}
 use Rattle.rbd_machine.specs.Plan.{Ask, Return}
-use Rattle.rbd_owner.specs.Acquire.{acquire, lock_labels}
-use Rattle.rbd_owner.specs.Release.{release_op, release_op_at}
-use Rattle.rbd_owner.specs.Steps.{lock_take}
-use Rattle.rbd_owner.specs.declared.release.Release.{Release}
-use Rattle.rbd_owner.specs.declared.release.Stage.{Stage}
-use Rattle.rbd_owner.specs.declared.release.Stage.TheVariants as stage
-use Rattle.rbd_owner.proofs.Ordered.{ordered_acquire, ordered_walk}
+use Rattle.rbd_lock.specs.Acquire.{acquire, lock_labels}
+use Rattle.rbd_lock.specs.Release.{release_op, release_op_at}
+use Rattle.rbd_lock.specs.Steps.{lock_take}
+use Rattle.rbd_lock.specs.declared.release.Release.{Release}
+use Rattle.rbd_lock.specs.declared.release.Stage.{Stage}
+use Rattle.rbd_lock.specs.declared.release.Stage.TheVariants as stage
+use Rattle.rbd_lock.proofs.Ordered.{ordered_acquire, ordered_walk}
 use Rattle.rbd_site.specs.HeaderStep.{header_after, is_owner}
 use Rattle.rbd_site.specs.Records.{Records}
 use Rattle.rbd_site.specs.Step.{after, after_served, answer_served, answer_to, is_fenced}
-use Rattle.rbd_world.specs.Closes.{has_let_go, lets_go}
+use Rattle.rbd_world.specs.Closes.{has_let_go, lets_lock_go}
 use Rattle.rbd_world.specs.LetGo.{release_of}
 use Rattle.rbd_world.specs.Run.{Asked, Doer, Itself, OnWay, House, AfterStop, Happening, Nothing, Waited, Began, Did, Refused, Trimmed, Expired, Heard, Stopped, Restarted, Operation, asked_by, ends, is_own, or_asked, records_after, step_of, steps_of, way_of}
-use Rattle.rbd_world.specs.Sound.{IsDone, IsNextOf, IsOf, IsOpen, IsRight, IsRunning, RecallsBy, has_ended}
+use Rattle.rbd_world.specs.Sound.{IsRightlyDone, IsNextOf, IsOf, IsOpen, IsRight, IsRunning, RecallsBy, has_ended}
 use Rattle.rbd_world.specs.Ways.{IsNextOfRelease}
 use Rattle.rbd_world.proofs.Alive.{open_is_running}
-use Rattle.rbd_requests.specs.Follows.{TakesNoLock}
+use Rattle.rbd_catalog.specs.Follows.{TakesNoLock}
 use Rattle.rbd_world.proofs.LetsGoFirst.{led_first}
 use Rattle.rbd_world.proofs.OwnersWatch.{Takes, none_taken, owned_before, owner_at, owner_of, takes_did}
 use Rattle.rbd_world.proofs.Runs.{done_of, unheard}
@@ -61,29 +61,29 @@ dropped_there me (Some h) is = by (is_owner me h.owner) refl is
     by true at is = none-some me is
     by false at is = true≢false (sym (owns h.owner is) ∙ at)
 
-lets_go_fenced : (s : SiteId) (o : Op) (image : ℕ) → lets_go s o answer.Fenced s image ≡ true → ⊥
+lets_go_fenced : (s : SiteId) (o : Op) (image : ℕ) → lets_lock_go s o answer.Fenced s image ≡ true → ⊥
 lets_go_fenced s (op.Header on header.LockDrop) image is = true≢false (sym is)
 lets_go_fenced s (op.Header on o) image is = true≢false (sym is)
 lets_go_fenced s o image is = true≢false (sym is)
 
-pub lets_go_image : (s : SiteId) (o : Op) (a : Answer) (image : ℕ) → lets_go s o a s image ≡ true → o ≡ op.Header image header.LockDrop
+pub lets_go_image : (s : SiteId) (o : Op) (a : Answer) (image : ℕ) → lets_lock_go s o a s image ≡ true → o ≡ op.Header image header.LockDrop
 lets_go_image s (op.Header on header.LockDrop) answer.Done image is = ap (λ i. op.Header i header.LockDrop) (sym (eqb-true image on (and_parts (same_site s s) (image == on) is).1))
 lets_go_image s (op.Header on header.LockDrop) answer.Changed image is = ap (λ i. op.Header i header.LockDrop) (sym (eqb-true image on (and_parts (same_site s s) (image == on) is).1))
 lets_go_image s (op.Header on header.LockDrop) a image is = absurd (true≢false (sym is))
 lets_go_image s (op.Header on o) a image is = absurd (true≢false (sym is))
 lets_go_image s o a image is = absurd (true≢false (sym is))
 
-dropped_unowned : (s : SiteId) (r : Records) (me : Instance) (o : Op) (image : ℕ) → lets_go s o (answer_to r me o) s image ≡ true → owner_at (after r me o) image ≡ Some me → ⊥
+dropped_unowned : (s : SiteId) (r : Records) (me : Instance) (o : Op) (image : ℕ) → lets_lock_go s o (answer_to r me o) s image ≡ true → owner_at (after r me o) image ≡ Some me → ⊥
 dropped_unowned s r me o image lets owns = by (is_fenced r me) lets owns
   where
-    by : (b : Bool) → lets_go s o (cond b answer.Fenced (answer_served r me o)) s image ≡ true → owner_at (cond b r (after_served r me o)) image ≡ Some me → ⊥
+    by : (b : Bool) → lets_lock_go s o (cond b answer.Fenced (answer_served r me o)) s image ≡ true → owner_at (cond b r (after_served r me o)) image ≡ Some me → ⊥
     by true lets owns = lets_go_fenced s o image lets
     by false lets owns =
         dropped_there me (r.headers image)
         (sym (ap (λ b. owner_of (cond b (header_after me (r.headers image) header.LockDrop) (r.headers image))) (eq-eqb image image refl))
         ∙ subst (λ x. owner_at (after_served r me x) image ≡ Some me) (lets_go_image s o (answer_served r me o) image lets) owns)
 
-pub lets_go_there : (there : SiteId) (o : Op) (a : Answer) (s : SiteId) (image : ℕ) → lets_go there o a s image ≡ true → same_site s there ≡ true
+pub lets_go_there : (there : SiteId) (o : Op) (a : Answer) (s : SiteId) (image : ℕ) → lets_lock_go there o a s image ≡ true → same_site s there ≡ true
 lets_go_there there (op.Header on header.LockDrop) answer.Done s image is = (and_parts (same_site s there) (image == on) is).0
 lets_go_there there (op.Header on header.LockDrop) answer.Changed s image is = (and_parts (same_site s there) (image == on) is).0
 lets_go_there there (op.Header on header.LockDrop) a s image is = absurd (true≢false (sym is))
@@ -98,7 +98,7 @@ module _ (homes : ℕ → SiteId) (line : ℕ) (s : SiteId) (image : ℕ) where
       → o.op ≡ lock_take image → o.instance ≡ begun.asked.who → o.site ≡ s → ⊥
   takes_none run o reply right begun gone takes mine here = by o.by done.next done.recalls done.whose
     where
-      done : IsDone o run
+      done : IsRightlyDone o run
       done = done_of homes o reply run right.1
 
       by : (d : Doer) → IsNextOf d o.instance o.site o.op run → RecallsBy d o.site o.op done.knows run → IsOf d o.instance o.site o.op run → ⊥
@@ -115,11 +115,11 @@ module _ (homes : ℕ → SiteId) (line : ℕ) (s : SiteId) (image : ℕ) where
           sent_stopped homes o.instance.session slot _ run right.2 whose (subst (λ i. IsRunning i run) (sym mine) (open_is_running homes line run right.2 begun))
 
   -- a drop of its own was done
-  own_drop : (run : List Happening) (o : Operation) (reply : Option Reply) → IsDone o run → (begun : IsOpen line run) → is_own line o.by ≡ true → lets_go o.site o.op o.answer s image ≡ true
+  own_drop : (run : List Happening) (o : Operation) (reply : Option Reply) → IsRightlyDone o run → (begun : IsOpen line run) → is_own line o.by ≡ true → lets_lock_go o.site o.op o.answer s image ≡ true
       → owner_at (records_after s (Did o reply ∷ run)) image ≡ Some begun.asked.who → ⊥
   own_drop run o reply done begun own lets owns =
       dropped_unowned s (records_after s run) o.instance o.op image
-      (subst (λ a. lets_go s o.op a s image ≡ true) (done.answer ∙ ap (λ t. answer_to (records_after t run) o.instance o.op) (sym here)) (subst (λ t. lets_go t o.op o.answer s image ≡ true) (sym here) lets))
+      (subst (λ a. lets_lock_go s o.op a s image ≡ true) (done.answer ∙ ap (λ t. answer_to (records_after t run) o.instance o.op) (sym here)) (subst (λ t. lets_lock_go t o.op o.answer s image ≡ true) (sym here) lets))
       (sym (ap (λ b. owner_at (cond b (after (records_after s run) o.instance o.op) (records_after s run)) image) (ap (same_site o.site) here ∙ same_site_itself o.site))
       ∙ owns ∙ ap Some (sym (mine o.by own done.whose)))
     where
@@ -159,7 +159,7 @@ module _ (homes : ℕ → SiteId) (line : ℕ) (s : SiteId) (image : ℕ) where
           → (has_let_go s image (steps_of line run) ≡ true → owner_at (records_after s run) image ≡ Some was.asked.who → ⊥) → ⊥
       did o reply right was gone owns before =
           go (has_let_go s image (steps_of line run)) refl
-          (sym (list_any-append (λ (d : Answered). lets_go d.site d.op d.answer s image) (steps_of line run) (cond (is_own line o.by) (step_of o ∷ []) [])) ∙ gone)
+          (sym (list_any-append (λ (d : Answered). lets_lock_go d.site d.op d.answer s image) (steps_of line run) (cond (is_own line o.by) (step_of o ∷ []) [])) ∙ gone)
         where
           went : has_let_go s image (steps_of line run) ≡ true → (owner_at (records_after s run) image ≡ Some was.asked.who) ⊎ Takes was.asked.who s image (Did o reply) run → ⊥
           went already (inl had) = before already had
@@ -167,7 +167,7 @@ module _ (homes : ℕ → SiteId) (line : ℕ) (s : SiteId) (image : ℕ) where
               let takes = takes_did was.asked.who s image o reply run took in takes_none run o reply right was already takes.0 takes.1 takes.2
 
           now : (b : Bool) → is_own line o.by ≡ b → has_let_go s image (cond b (step_of o ∷ []) []) ≡ true → ⊥
-          now true own lets = own_drop run o reply (done_of homes o reply run right.1) was own (sym (or-false (lets_go o.site o.op o.answer s image)) ∙ lets) owns
+          now true own lets = own_drop run o reply (done_of homes o reply run right.1) was own (sym (or-false (lets_lock_go o.site o.op o.answer s image)) ∙ lets) owns
           now false own lets = true≢false (sym lets)
 
           go : (b : Bool) → has_let_go s image (steps_of line run) ≡ b → (b || has_let_go s image (cond (is_own line o.by) (step_of o ∷ []) [])) ≡ true → ⊥
@@ -226,7 +226,7 @@ pub unwatches_unowned : (homes : ℕ → SiteId) (o : Operation) (told : Option 
     → owner_at (records_after o.site run) image ≡ Some o.instance → ⊥
 unwatches_unowned homes o told run image right unwatches owns = by o.by done.next done.recalls done.whose
   where
-    done : IsDone o run
+    done : IsRightlyDone o run
     done = done_of homes o told run right.1
 
     by : (d : Doer) → IsNextOf d o.instance o.site o.op run → RecallsBy d o.site o.op done.knows run → IsOf d o.instance o.site o.op run → ⊥

@@ -3,18 +3,18 @@
 use Rattle.std.proofs.Common.{◌≡◌, ℕ, length, Option, Some, None, refl}
 use Rattle.rbd_client.specs.Actor.{actor_at}
 use Rattle.rbd_client.specs.Client.{ClientView}
-use Rattle.rbd_held.specs.Knowing.{known_to}
-use Rattle.rbd_held.proofs.Drops.{drops_rest}
-use Rattle.rbd_held.proofs.Permitted.{does_what_it_may, knows_truly}
+use Rattle.rbd_knowledge.specs.ClientsKnowing.{known_to}
+use Rattle.rbd_knowledge.proofs.Drops.{drops_rest}
+use Rattle.rbd_knowledge.proofs.Permitted.{does_what_it_may, knows_truly}
 use Rattle.rbd_kinds.specs.declared.id.Instance.{Instance}
 use Rattle.rbd_kinds.specs.declared.id.SiteId.{SiteId}
 use Rattle.rbd_kinds.specs.declared.operation.Op.{Op}
 use Rattle.rbd_machine.specs.Knowledge.{Knowledge}
 use Rattle.rbd_machine.specs.Permits.{Permits}
 use Rattle.rbd_machine.specs.Plan.{Standing}
-use Rattle.rbd_rely.specs.Truth.{IsTrueAt}
-use Rattle.rbd_rely.proofs.Done.{may_do, gives_it}
-use Rattle.rbd_rely.proofs.Effects.{has_its_effect}
+use Rattle.rbd_interference.specs.Truth.{IsTrueAt}
+use Rattle.rbd_interference.proofs.Done.{may_do, gives_it}
+use Rattle.rbd_interference.proofs.Effects.{has_its_effect}
 use Rattle.rbd_world.specs.Run.{Sent}
 use Rattle.rbd_world.specs.Sound.{InSlot, IsSoundWorld, Sending, known_in}
 use Rattle.rbd_world.specs.Step.{DropsWhatItMay, IsPermitted, MayCome, WantsWhatItMay}

@@ -7,11 +7,11 @@ use Rattle.rbd_client.specs.declared.actor.Actor.TheVariants as actor
 use Rattle.rbd_client.specs.declared.slot_state.SlotState.{SlotState}
 use Rattle.rbd_client.specs.declared.slot_state.Way.{Way}
 use Rattle.rbd_client.specs.declared.slot_state.Way.TheVariants as way
-use Rattle.rbd_client.specs.Actor.{actor_at, actor_at_look, actor_on, due_release, op_by, op_wanted, releasing}
-use Rattle.rbd_client.specs.Client.{ClientView, state_in}
+use Rattle.rbd_client.specs.Actor.{actor_at, actor_at_look, actor_on, due_release, op_by, op_wanted, release_actor}
+use Rattle.rbd_client.specs.Client.{ClientView, slot_state}
 use Rattle.rbd_client.specs.Feeding.{CountsAll, IsFedBy, WayComesTo, comings_of, quiesced_by, resumes, state_behind}
 use Rattle.rbd_client.proofs.OnWay.{is_way, releases_no_way, way_or}
-use Rattle.rbd_close.specs.Close.{unwatch}
+use Rattle.rbd_session.specs.Close.{unwatch}
 use Rattle.rbd_commands.specs.declared.quiescing.Quiescing.{Quiescing}
 use Rattle.rbd_commands.specs.declared.quiescing.Quiescing.TheVariants as quiescing
 use Rattle.rbd_kinds.specs.declared.answer.Answer.{Answer}
@@ -34,23 +34,23 @@ use Rattle.rbd_kinds.specs.Images.{is_at, same_site}
 use Rattle.rbd_kinds.specs.Instances.{same_instance}
 use Rattle.rbd_kinds.proofs.Images.{at_itself, same_site_is}
 use Rattle.rbd_kinds.proofs.Instances.{same_instance_is, same_instance_itself}
-use Rattle.rbd_locks.specs.declared.lock_state.LockState.{LockState}
-use Rattle.rbd_locks.specs.Comings.{after_all}
-use Rattle.rbd_locks.specs.Locks.{counted, heard, state_at}
-use Rattle.rbd_locks.specs.States.{answered, quieted, resumed, told}
+use Rattle.rbd_lock.specs.declared.lock_state.LockState.{LockState}
+use Rattle.rbd_lock.specs.Comings.{after_all}
+use Rattle.rbd_lock.specs.Locks.{counted, heard, lock_state_at}
+use Rattle.rbd_lock.specs.States.{answered, quieted, resumed, told_state}
 use Rattle.rbd_machine.specs.Label.{Label}
-use Rattle.rbd_machine.specs.Plan.{IsLive, Plan, Return, Standing, plan_after, settled}
+use Rattle.rbd_machine.specs.Plan.{IsLive, Plan, Return, Standing, plan_after, past_label}
 use Rattle.rbd_machine.specs.Steps.{IsGoing, on_done}
-use Rattle.rbd_owner.specs.Acquire.{begun, first_stage, lock_of, op_at, op_of, rest_of_acquire, taking}
-use Rattle.rbd_owner.specs.Release.{release_op, release_op_at}
-use Rattle.rbd_owner.specs.Steps.{lock_take}
-use Rattle.rbd_owner.specs.declared.acquire.Acquire.{Acquire}
-use Rattle.rbd_owner.specs.declared.acquire.Stage.{Stage}
-use Rattle.rbd_owner.specs.declared.acquire.Stage.TheVariants as stage
-use Rattle.rbd_owner.specs.declared.release.Release.{Release}
-use Rattle.rbd_owner.specs.declared.release.Stage.{Stage as ReleaseStage}
-use Rattle.rbd_owner.specs.declared.release.Stage.TheVariants as releasing_at
-use Rattle.rbd_session.specs.Session.{own_look_at}
+use Rattle.rbd_lock.specs.Acquire.{begun_way, first_stage, lock_of, op_at_stage, op_of, rest_of_acquire, taking}
+use Rattle.rbd_lock.specs.Release.{release_op, release_op_at}
+use Rattle.rbd_lock.specs.Steps.{lock_take}
+use Rattle.rbd_lock.specs.declared.acquire.Acquire.{Acquire}
+use Rattle.rbd_lock.specs.declared.acquire.Stage.{Stage}
+use Rattle.rbd_lock.specs.declared.acquire.Stage.TheVariants as stage
+use Rattle.rbd_lock.specs.declared.release.Release.{Release}
+use Rattle.rbd_lock.specs.declared.release.Stage.{Stage as ReleaseStage}
+use Rattle.rbd_lock.specs.declared.release.Stage.TheVariants as releasing_at
+use Rattle.rbd_slots.specs.Session.{look_under_lock_at}
 use Rattle.rbd_world.specs.Run.{Did, Happening, Operation}
 use Rattle.rbd_world.specs.Step.{AreStatesBut}
 use Rattle.rbd_world.specs.Watched.{CountsItsWatches, HasWatchedAt, HasWatchedOn, TakesBehindWatch, ends_own, is_watch, keeps_watch, unwatches_by, watches_by}
@@ -83,7 +83,7 @@ others_end_none who o result s image differ = by (ends_own who o.site o.instance
 pub way_ends_none : (a : Acquire) (who : Instance) (there : SiteId) (me : Instance) (told : Answer) (s : SiteId) (image : ℕ) → ends_own who there me (op_of a) told s image ≡ false
 way_ends_none a who there me told s image = by a.stage
   where
-    by : (at : Stage) → ends_own who there me (op_at at a.image) told s image ≡ false
+    by : (at : Stage) → ends_own who there me (op_at_stage at a.image) told s image ≡ false
     by stage.Watching = refl
     by stage.Taking = refl
     by (stage.Looking owner) = refl
@@ -138,27 +138,27 @@ module _ {R : Type 0} where
   pub counts_on : (who : Instance) (h : Happening) (run : List Happening) (c : ClientView R) → EndsNone who h → CountsItsWatches who run c → CountsItsWatches who (h ∷ run) c
   counts_on who h run c none is = record {
     counts = λ s image watched. keeps_on who s image h run (none s image) (is.counts s image watched);
-    ways = λ slot. way_on (state_in slot c.slots).way who h run (λ a at. none a.site a.image) (is.ways slot);
+    ways = λ slot. way_on (slot_state slot c.slots).way who h run (λ a at. none a.site a.image) (is.ways slot);
   }
 
   -- where a client counts its watches as another one does
-  pub counts_alike : (who : Instance) (run : List Happening) (c d : ClientView R) → ((s : SiteId) (image : ℕ) → (state_at s image d.locks).watched ≡ (state_at s image c.locks).watched) → d.slots ≡ c.slots
+  pub counts_alike : (who : Instance) (run : List Happening) (c d : ClientView R) → ((s : SiteId) (image : ℕ) → (lock_state_at s image d.locks).watched ≡ (lock_state_at s image c.locks).watched) → d.slots ≡ c.slots
       → CountsItsWatches who run c → CountsItsWatches who run d
   counts_alike who run c d locks slots is = record {
     counts = λ s image watched. is.counts s image (sym (locks s image) ∙ watched);
-    ways = λ slot. subst (λ ss. HasWatchedOn (state_in slot ss).way who run) (sym slots) (is.ways slot);
+    ways = λ slot. subst (λ ss. HasWatchedOn (slot_state slot ss).way who run) (sym slots) (is.ways slot);
   }
 
   -- where one slot begins no way
-  pub counts_but : (who : Instance) (run : List Happening) (c d : ClientView R) (slot : ℕ) → d.locks ≡ c.locks → AreStatesBut slot c d → (state_in slot d.slots).way ≡ way.Unbegun
+  pub counts_but : (who : Instance) (run : List Happening) (c d : ClientView R) (slot : ℕ) → d.locks ≡ c.locks → AreStatesBut slot c d → (slot_state slot d.slots).way ≡ way.Unbegun
       → CountsItsWatches who run c → CountsItsWatches who run d
   counts_but who run c d slot locks states none is = record {
-    counts = λ s image watched. is.counts s image (sym (ap (λ l. (state_at s image l).watched) locks) ∙ watched);
+    counts = λ s image watched. is.counts s image (sym (ap (λ l. (lock_state_at s image l).watched) locks) ∙ watched);
     ways = λ x. by x (x == slot) refl;
   }
     where
-      by : (x : ℕ) (b : Bool) → (x == slot) ≡ b → HasWatchedOn (state_in x d.slots).way who run
-      by x true same = subst (λ i. HasWatchedOn (state_in i d.slots).way who run) (sym (eqb-true x slot same)) (subst (λ w. HasWatchedOn w who run) (sym none) tt)
+      by : (x : ℕ) (b : Bool) → (x == slot) ≡ b → HasWatchedOn (slot_state x d.slots).way who run
+      by x true same = subst (λ i. HasWatchedOn (slot_state i d.slots).way who run) (sym (eqb-true x slot same)) (subst (λ w. HasWatchedOn w who run) (sym none) tt)
       by x false apart =
           subst (λ (s : SlotState). HasWatchedOn s.way who run) (sym (states x (λ same. true≢false (sym (eq-eqb x slot same) ∙ apart)))) (is.ways x)
 
@@ -167,11 +167,11 @@ module _ {R : Type 0} where
 pub heard_watches : (n : Notice) (s : SiteId) (image : ℕ) (st : LockState) → (heard n s image st).watched ≡ st.watched
 heard_watches n s image st = by (is_at n.site n.image s image)
   where
-    kind : (k : NoticeKind) → (told k st).watched ≡ st.watched
+    kind : (k : NoticeKind) → (told_state k st).watched ≡ st.watched
     kind notice.RequestLock = refl
     kind _ = refl
 
-    by : (b : Bool) → (cond b (told n.kind st) st).watched ≡ st.watched
+    by : (b : Bool) → (cond b (told_state n.kind st) st).watched ≡ st.watched
     by true = kind n.kind
     by false = refl
 
@@ -223,7 +223,7 @@ module _ (who me : Instance) where
 -- ---- a way
 
 -- its watch was done where it goes on behind it
-watch_done : (labels : Label → Plan) (next left : Plan) (a : Answer) → IsGoing (settled labels (on_done next a)) left → a ≡ answer.Done
+watch_done : (labels : Label → Plan) (next left : Plan) (a : Answer) → IsGoing (past_label labels (on_done next a)) left → a ≡ answer.Done
 watch_done labels next left answer.Done goes = refl
 watch_done labels next left answer.Fenced goes = absurd (subst IsLive goes.is goes.live)
 watch_done labels next left a goes = absurd (subst IsLive goes.is goes.live)
@@ -240,7 +240,7 @@ image_of o = 0
 pub takes_behind_watch : (a : Acquire) (who : Instance) (run : List Happening) → HasWatchedAt a.stage who a.site a.image run → TakesBehindWatch who a.site (op_of a) run
 takes_behind_watch a who run has image is = by a.stage has is
   where
-    by : (at : Stage) → HasWatchedAt at who a.site a.image run → op_at at a.image ≡ lock_take image → keeps_watch who a.site image run ≡ true
+    by : (at : Stage) → HasWatchedAt at who a.site a.image run → op_at_stage at a.image ≡ lock_take image → keeps_watch who a.site image run ≡ true
     by stage.Taking has is = subst (λ i. keeps_watch who a.site i run ≡ true) (ap image_of is) has
     by stage.Watching has is = absurd (true≢false (sym (ap is_take is)))
     by (stage.Looking owner) has is = absurd (true≢false (sym (ap is_take is)))
@@ -257,32 +257,32 @@ module _ {R : Type 0} (stands : R → Standing) (slot : ℕ) (c : ClientView R) 
       first p true has = has refl
       first p false has = tt
 
-      begins : (p : ImageAt) (held o : Bool) → cond held actor.Nobody (cond o actor.Request (actor.Way (begun p.site p.image (state_at p.site p.image c.locks).watched))) ≡ actor.Way a
+      begins : (p : ImageAt) (held o : Bool) → cond held actor.Nobody (cond o actor.Request (actor.Way (begun_way p.site p.image (lock_state_at p.site p.image c.locks).watched))) ≡ actor.Way a
           → HasWatchedAt a.stage who a.site a.image run
       begins p true o is = absurd (true≢false (sym (ap is_way is)))
       begins p false true is = absurd (true≢false (sym (ap is_way is)))
       begins p false false is =
           subst (λ (x : Acquire). HasWatchedAt x.stage who x.site x.image run) (ap (way_or a) is)
-          (first p (state_at p.site p.image c.locks).watched (watches.counts p.site p.image))
+          (first p (lock_state_at p.site p.image c.locks).watched (watches.counts p.site p.image))
 
       looking : (look : Option ImageAt) → actor_at_look look c.locks ≡ actor.Way a → HasWatchedAt a.stage who a.site a.image run
       looking None is = absurd (true≢false (sym (ap is_way is)))
       looking (Some p) is =
-          let st : LockState = state_at p.site p.image c.locks in begins p (st.quiesced || st.asked) st.owned is
+          let st : LockState = lock_state_at p.site p.image c.locks in begins p (st.quiesced || st.asked) st.owned is
 
-      on : (w : Way) → HasWatchedOn w who run → actor_on w (own_look_at stands slot c.session) c.locks ≡ actor.Way a → HasWatchedAt a.stage who a.site a.image run
-      on way.Unbegun has is = looking (own_look_at stands slot c.session) is
+      on : (w : Way) → HasWatchedOn w who run → actor_on w (look_under_lock_at stands slot c.session) c.locks ≡ actor.Way a → HasWatchedAt a.stage who a.site a.image run
+      on way.Unbegun has is = looking (look_under_lock_at stands slot c.session) is
       on (way.On b) has is = subst (λ (x : Acquire). HasWatchedAt x.stage who x.site x.image run) (ap (way_or a) is) has
       on (way.Taken p) has is = absurd (true≢false (sym (ap is_way is)))
 
-      by : (b : Bool) → cond b (releasing c.release (due_release c)) (actor_on (state_in slot c.slots).way (own_look_at stands slot c.session) c.locks) ≡ actor.Way a → HasWatchedAt a.stage who a.site a.image run
+      by : (b : Bool) → cond b (release_actor c.release (due_release c)) (actor_on (slot_state slot c.slots).way (look_under_lock_at stands slot c.session) c.locks) ≡ actor.Way a → HasWatchedAt a.stage who a.site a.image run
       by true is = absurd (true≢false (sym (ap is_way is) ∙ releases_no_way c.release (due_release c)))
-      by false is = on (state_in slot c.slots).way (watches.ways slot) is
+      by false is = on (slot_state slot c.slots).way (watches.ways slot) is
 
   -- ---- it is fed
 
   module _ (o : Operation) (result : Option Reply) (mine : o.instance ≡ who) (d : ClientView R) (states : AreStatesBut slot c d)
-      (spares : (x : ℕ) (a : Acquire) → (state_in x c.slots).way ≡ way.On a → unwatches_by who a.site a.image (Did o result) ≡ false) where
+      (spares : (x : ℕ) (a : Acquire) → (slot_state x c.slots).way ≡ way.On a → unwatches_by who a.site a.image (Did o result) ≡ false) where
     abbrev h : Happening
     h = Did o result
 
@@ -292,28 +292,28 @@ module _ {R : Type 0} (stands : R → Standing) (slot : ℕ) (c : ClientView R) 
         (ap (λ i. same_instance i who && is_watch o.site o.op o.answer s image) mine ∙ ap (λ b. b && is_watch o.site o.op o.answer s image) (same_instance_itself who) ∙ is)
 
     counts_then : (q : Quiescing) (look : Option ImageAt) → CountsAll (comings_of q look o.site o.op (fed.Answer o.answer)) c.locks d.locks
-        → (s : SiteId) (image : ℕ) → (state_at s image d.locks).watched ≡ true → keeps_watch who s image (h ∷ run) ≡ true
+        → (s : SiteId) (image : ℕ) → (lock_state_at s image d.locks).watched ≡ true → keeps_watch who s image (h ∷ run) ≡ true
     counts_then q look counts s image is =
-        by (fed_watch who o.instance q look o.site o.op o.answer s image (state_at s image c.locks) (sym (ap (λ (st : LockState). st.watched) (counts s image)) ∙ is))
+        by (fed_watch who o.instance q look o.site o.op o.answer s image (lock_state_at s image c.locks) (sym (ap (λ (st : LockState). st.watched) (counts s image)) ∙ is))
       where
-        by : StillWatched who o.instance o.site o.op o.answer s image (state_at s image c.locks) → keeps_watch who s image (h ∷ run) ≡ true
+        by : StillWatched who o.instance o.site o.op o.answer s image (lock_state_at s image c.locks) → keeps_watch who s image (h ∷ run) ≡ true
         by (inl (was, none)) = keeps_on who s image h run none (watches.counts s image was)
         by (inr now) = watched_by s image now
 
-    ways_then : HasWatchedOn (state_in slot d.slots).way who (h ∷ run) → (x : ℕ) → HasWatchedOn (state_in x d.slots).way who (h ∷ run)
+    ways_then : HasWatchedOn (slot_state slot d.slots).way who (h ∷ run) → (x : ℕ) → HasWatchedOn (slot_state x d.slots).way who (h ∷ run)
     ways_then here x = by (x == slot) refl
       where
-        by : (b : Bool) → (x == slot) ≡ b → HasWatchedOn (state_in x d.slots).way who (h ∷ run)
-        by true same = subst (λ i. HasWatchedOn (state_in i d.slots).way who (h ∷ run)) (sym (eqb-true x slot same)) here
+        by : (b : Bool) → (x == slot) ≡ b → HasWatchedOn (slot_state x d.slots).way who (h ∷ run)
+        by true same = subst (λ i. HasWatchedOn (slot_state i d.slots).way who (h ∷ run)) (sym (eqb-true x slot same)) here
         by false apart =
             subst (λ (s : SlotState). HasWatchedOn s.way who (h ∷ run)) (sym (states x (λ same. true≢false (sym (eq-eqb x slot same) ∙ apart))))
-            (way_on (state_in x c.slots).way who h run (spares x) (watches.ways x))
+            (way_on (slot_state x c.slots).way who h run (spares x) (watches.ways x))
 
     -- a request leaves its way, or has none any more
-    behind_way : (has_ended has_looked : Bool) → HasWatchedOn (state_behind has_ended has_looked (state_in slot c.slots)).way who (h ∷ run)
+    behind_way : (has_ended has_looked : Bool) → HasWatchedOn (state_behind has_ended has_looked (slot_state slot c.slots)).way who (h ∷ run)
     behind_way true looked = tt
     behind_way false true = tt
-    behind_way false false = way_on (state_in slot c.slots).way who h run (spares slot) (watches.ways slot)
+    behind_way false false = way_on (slot_state slot c.slots).way who h run (spares slot) (watches.ways slot)
 
     -- a way goes on
     further : (a b : Acquire) → o.site ≡ a.site → o.op ≡ op_of a → HasWatchedAt a.stage who a.site a.image run → WayComesTo a (fed.Answer o.answer) None (way.On b) → HasWatchedAt b.stage who b.site b.image (h ∷ run)
@@ -329,10 +329,10 @@ module _ {R : Type 0} (stands : R → Standing) (slot : ℕ) (c : ClientView R) 
             let going = goes.goes (λ l. lock_of a (Return reply.Done)) (Return reply.Done) refl in
             let done : o.answer ≡ answer.Done =
             watch_done (λ l. lock_of a (Return reply.Done)) (taking a.site a.image (Return reply.Done)) (rest_of_acquire b (Return reply.Done)) o.answer
-            (subst (λ (x : Acquire). IsGoing (settled (λ l. lock_of a (Return reply.Done)) (plan_of x)) (rest_of_acquire b (Return reply.Done))) (is_watching at) going) in
+            (subst (λ (x : Acquire). IsGoing (past_label (λ l. lock_of a (Return reply.Done)) (plan_of x)) (rest_of_acquire b (Return reply.Done))) (is_watching at) going) in
             watched_by a.site a.image
-            (ap (λ s. is_watch s o.op o.answer a.site a.image) there ∙ ap (λ p. is_watch a.site p o.answer a.site a.image) (what ∙ ap (λ x. op_at x a.image) at)
-            ∙ ap (λ x. is_watch a.site (op_at stage.Watching a.image) x a.site a.image) done ∙ at_itself a.site a.image)
+            (ap (λ s. is_watch s o.op o.answer a.site a.image) there ∙ ap (λ p. is_watch a.site p o.answer a.site a.image) (what ∙ ap (λ x. op_at_stage x a.image) at)
+            ∙ ap (λ x. is_watch a.site (op_at_stage stage.Watching a.image) x a.site a.image) done ∙ at_itself a.site a.image)
           where
             plan_of : Acquire → Plan
             plan_of x = plan_after (rest_of_acquire x (Return reply.Done)) (fed.Answer o.answer)
@@ -358,18 +358,18 @@ module _ {R : Type 0} (stands : R → Standing) (slot : ℕ) (c : ClientView R) 
         by : (m : Actor) → actor_at stands slot c ≡ m → op_by stands slot c.session m ≡ Some (o.site, o.op) → IsFedBy stands slot o.site o.op (fed.Answer o.answer) result c d m → CountsItsWatches who (h ∷ run) d
         by actor.Nobody acts wanted is_fed = absurd is_fed
         by actor.Request acts wanted is_fed = record {
-          counts = counts_then (state_in slot c.slots).quiescing (own_look_at stands slot c.session) is_fed.counts;
+          counts = counts_then (slot_state slot c.slots).quiescing (look_under_lock_at stands slot c.session) is_fed.counts;
           ways = ways_then
-              (subst (λ (s : SlotState). HasWatchedOn s.way who (h ∷ run)) (sym is_fed.state) (behind_way (is_some result) (is_some (own_look_at stands slot c.session))));
+              (subst (λ (s : SlotState). HasWatchedOn s.way who (h ∷ run)) (sym is_fed.state) (behind_way (is_some result) (is_some (look_under_lock_at stands slot c.session))));
         }
         by (actor.Way a) acts wanted is_fed =
             let same = same_Some _ _ wanted in
             record {
               counts = counts_then quiescing.Leaves None is_fed.counts;
               ways = ways_then
-                  (comes_to a (ap (λ (p : SiteId × Op). p.0) (sym same)) (ap (λ (p : SiteId × Op). p.1) (sym same)) (way_watched a acts) result (state_in slot d.slots).way is_fed.comes);
+                  (comes_to a (ap (λ (p : SiteId × Op). p.0) (sym same)) (ap (λ (p : SiteId × Op). p.1) (sym same)) (way_watched a acts) result (slot_state slot d.slots).way is_fed.comes);
             }
         by (actor.Release x) acts wanted is_fed = record {
           counts = counts_then quiescing.Leaves None is_fed.counts;
-          ways = λ y. subst (λ ss. HasWatchedOn (state_in y ss).way who (h ∷ run)) (sym is_fed.slots) (way_on (state_in y c.slots).way who h run (spares y) (watches.ways y));
+          ways = λ y. subst (λ ss. HasWatchedOn (slot_state y ss).way who (h ∷ run)) (sym is_fed.slots) (way_on (slot_state y c.slots).way who h run (spares y) (watches.ways y));
         }

@@ -7,14 +7,14 @@ use Rattle.rbd_client.specs.declared.actor.Actor.TheVariants as actor
 use Rattle.rbd_client.specs.declared.slot_state.SlotState.{SlotState}
 use Rattle.rbd_client.specs.declared.slot_state.Way.{Way}
 use Rattle.rbd_client.specs.declared.slot_state.Way.TheVariants as way
-use Rattle.rbd_client.specs.Actor.{actor_at, actor_at_look, actor_by, actor_on, due_release, releasing}
-use Rattle.rbd_client.specs.Client.{ClientView, state_in}
+use Rattle.rbd_client.specs.Actor.{actor_at, actor_at_look, actor_by, actor_on, due_release, release_actor}
+use Rattle.rbd_client.specs.Client.{ClientView, slot_state}
 use Rattle.rbd_client.specs.Feeding.{GoesOnItsWay, RefusesIt, TakesTheLock, WayComesTo, state_behind}
 use Rattle.rbd_client.specs.Sound.{IsSoundClient, IsWellOnWay, WaitsForLook}
 use Rattle.rbd_client.proofs.OnWay.{is_way, way_or, way_waits, releases_no_way}
 use Rattle.rbd_client.proofs.Requests.{acts_by_way, is_request, stands_at_look}
-use Rattle.rbd_course.specs.Course.{Course, answered, is_newcomer_at, has_just_joined, is_own_at, looked, past}
-use Rattle.rbd_course.specs.Orderly.{IsOrderly}
+use Rattle.rbd_machine.specs.Course.{Course, answered, is_newcomer_at, has_just_joined, looks_under_lock_at, course_past_look, past}
+use Rattle.rbd_machine.specs.Orderly.{IsOrderly}
 use Rattle.rbd_kinds.specs.declared.answer.Answer.{Answer}
 use Rattle.rbd_kinds.specs.declared.answer.Answer.TheVariants as answer
 use Rattle.rbd_kinds.specs.declared.header_op.HeaderOp.TheVariants as header
@@ -28,40 +28,40 @@ use Rattle.rbd_kinds.specs.declared.operation.Op.{Op}
 use Rattle.rbd_kinds.specs.declared.operation.Op.TheVariants as op
 use Rattle.rbd_kinds.specs.declared.reply.Reply.{Reply}
 use Rattle.rbd_kinds.specs.declared.reply.Reply.TheVariants as reply
-use Rattle.rbd_line.specs.Line.{member_of}
-use Rattle.rbd_locks.specs.declared.lock_state.LockState.{LockState}
-use Rattle.rbd_locks.specs.Locks.{state_at}
+use Rattle.rbd_queue.specs.Line.{member_of}
+use Rattle.rbd_lock.specs.declared.lock_state.LockState.{LockState}
+use Rattle.rbd_lock.specs.Locks.{lock_state_at}
 use Rattle.rbd_machine.specs.Answers.{CanBeFed}
 use Rattle.rbd_machine.specs.Label.{Label}
 use Rattle.rbd_machine.specs.Path.{Answered, IsWalk, at_operation}
-use Rattle.rbd_machine.specs.Plan.{Plan, Ask, Await, Return, Standing, plan_after, settled}
+use Rattle.rbd_machine.specs.Plan.{Plan, Ask, Await, Return, Standing, plan_after, past_label}
 use Rattle.rbd_machine.specs.declared.seat.Seat.{Seat}
 use Rattle.rbd_machine.specs.Wait as wait
 use Rattle.rbd_machine.specs.declared.reason.Reason.{Reason}
 use Rattle.rbd_machine.specs.declared.reason.Reason.TheVariants as reason
-use Rattle.rbd_owner.specs.Acquire.{acquire, begun, lock_labels, op_at, op_of, rest_at, rest_of_acquire}
-use Rattle.rbd_owner.specs.Release.{release_op, release_op_at}
-use Rattle.rbd_owner.specs.declared.acquire.Acquire.{Acquire}
-use Rattle.rbd_owner.specs.declared.acquire.Stage.{Stage}
-use Rattle.rbd_owner.specs.declared.acquire.Stage.TheVariants as stage
-use Rattle.rbd_owner.specs.declared.release.Release.{Release}
-use Rattle.rbd_owner.specs.declared.release.Stage.{Stage as ReleaseStage}
-use Rattle.rbd_owner.specs.declared.release.Stage.TheVariants as letting
-use Rattle.rbd_session.specs.declared.running.Occupant.{Occupant}
-use Rattle.rbd_session.specs.declared.running.Occupant.TheVariants as occupant
-use Rattle.rbd_session.specs.declared.running.Running.{Running}
-use Rattle.rbd_session.specs.Advance.{track_of}
-use Rattle.rbd_session.specs.Lines.{lines_of}
-use Rattle.rbd_session.specs.OnTrack.{IsOnTrack}
-use Rattle.rbd_session.specs.Session.{OfRunning, held_in, is_look_at, kind_asked, own_look_at, running_at, running_in, script_line}
-use Rattle.rbd_session.specs.Track.{course_of, line_in, place_in}
-use Rattle.rbd_session.specs.Waits.{waits}
+use Rattle.rbd_lock.specs.Acquire.{acquire, begun_way, lock_labels, op_at_stage, op_of, rest_at, rest_of_acquire}
+use Rattle.rbd_lock.specs.Release.{release_op, release_op_at}
+use Rattle.rbd_lock.specs.declared.acquire.Acquire.{Acquire}
+use Rattle.rbd_lock.specs.declared.acquire.Stage.{Stage}
+use Rattle.rbd_lock.specs.declared.acquire.Stage.TheVariants as stage
+use Rattle.rbd_lock.specs.declared.release.Release.{Release}
+use Rattle.rbd_lock.specs.declared.release.Stage.{Stage as ReleaseStage}
+use Rattle.rbd_lock.specs.declared.release.Stage.TheVariants as letting
+use Rattle.rbd_slots.specs.declared.running.Occupant.{Occupant}
+use Rattle.rbd_slots.specs.declared.running.Occupant.TheVariants as occupant
+use Rattle.rbd_slots.specs.declared.running.Running.{Running}
+use Rattle.rbd_slots.specs.Advance.{track_of}
+use Rattle.rbd_slots.specs.Lines.{lines_of}
+use Rattle.rbd_slots.specs.OnTrack.{IsOnTrack}
+use Rattle.rbd_slots.specs.Session.{OfRunning, held_in, is_look_at, kind_asked, look_under_lock_at, running_at, running_in, script_line}
+use Rattle.rbd_slots.specs.Track.{course_of, line_in, place_in}
+use Rattle.rbd_slots.specs.Waits.{waits}
 use Rattle.rbd_world.specs.Run.{Happening, steps_of}
 use Rattle.rbd_world.specs.Sound.{IsUnderWay, KeepsToItsWay}
-use Rattle.rbd_world.specs.Ways.{AsksNext, GoesWith, IsOfRelease, IsOver, IsWayThere, TookTheLock, WasRefused}
-use Rattle.rbd_requests.specs.Looking.{LooksNoMore, Holds, HoldsNext, IsLast, Looked}
-use Rattle.rbd_requests.proofs.Looks.{looks_once}
-use Rattle.rbd_requests.proofs.LooksNone.{none_at_operation}
+use Rattle.rbd_world.specs.Ways.{AsksNext, AgreesWithWay, IsOfRelease, IsOver, IsWayThere, TookTheLock, WasRefused}
+use Rattle.rbd_catalog.specs.Looking.{LooksNoMore, Holds, HoldsNext, IsLast, Looked}
+use Rattle.rbd_catalog.proofs.Looks.{looks_once}
+use Rattle.rbd_catalog.proofs.LooksNone.{none_at_operation}
 use Rattle.rbd_world.proofs.Quiet.{IsQuiet, way_on}
 use Rattle.rbd_world.proofs.RefusedOnWay.{LooksAt, looks_at, reads_not}
 use Rattle.rbd_world.proofs.Walks.{walk_append}
@@ -76,18 +76,18 @@ module _ {R : Type 0} (stands : R → Standing) (h : Happening) (run : List Happ
       → KeepsToItsWay stands (h ∷ run) w (running_in o)
   ways_on w None quiet keeps = tt
   ways_on w (Some (occupant.Refused line refusal)) quiet keeps = tt
-  ways_on w (Some (occupant.Running r)) quiet keeps = subst (GoesWith (stands r.request).plan w) (sym (way_on r.line h run (quiet r.line refl))) keeps
+  ways_on w (Some (occupant.Running r)) quiet keeps = subst (AgreesWithWay (stands r.request).plan w) (sym (way_on r.line h run (quiet r.line refl))) keeps
 
 -- ---- one step more on a way
 
 one_more : (labels : Label → Plan) (plan last : Plan) (feds : List Fed) (steps : List Answered) (s : SiteId) (why : Reason) (o : Op) (next : Answer → Plan) (told : Answer)
-    → IsWalk labels plan feds steps (Ask s why o next) → settled labels (next told) ≡ last
+    → IsWalk labels plan feds steps (Ask s why o next) → past_label labels (next told) ≡ last
     → IsWalk labels plan (feds ++ fed.Answer told ∷ []) (steps ++ record { site = s; op = o; answer = told } ∷ []) last
 one_more labels plan last feds steps s why o next told walk is =
     walk_append labels feds plan (Ask s why o next) last (fed.Answer told ∷ []) steps (record { site = s; op = o; answer = told } ∷ []) walk (record { rest = []; is = refl }, (refl, sym is))
 
 pub one_step_more : (site : SiteId) (image : ℕ) (steps : List Answered) (s : SiteId) (why : Reason) (o : Op) (next : Answer → Plan) (told : Answer) (last : Plan)
-    → IsWayThere site image steps (Ask s why o next) → settled (lock_labels site image) (next told) ≡ last
+    → IsWayThere site image steps (Ask s why o next) → past_label (lock_labels site image) (next told) ≡ last
     → IsWayThere site image (steps ++ record { site = s; op = o; answer = told } ∷ []) last
 one_step_more site image steps s why o next told last there is = record {
   watched = there.watched;
@@ -99,7 +99,7 @@ one_step_more site image steps s why o next told last there is = record {
 
 record Asked (s : Stage) (site : SiteId) (image : ℕ) : Type 0 where
   next : Answer → Plan
-  is : rest_at s site image end ≡ Ask site reason.Acquiring (op_at s image) next
+  is : rest_at s site image end ≡ Ask site reason.Acquiring (op_at_stage s image) next
 
 asked_at : (s : Stage) (site : SiteId) (image : ℕ) → Asked s site image
 asked_at stage.Watching site image = record { next = _; is = refl }
@@ -123,10 +123,10 @@ module _ (a : Acquire) (steps : List Answered) (there : IsWayThere a.site a.imag
     abbrev more : List Answered
     more = steps ++ record { site = a.site; op = op_of a; answer = told } ∷ []
 
-    goes_to : (last : Plan) → settled (lock_labels a.site a.image) (plan_after (rest_of_acquire a end) (fed.Answer told)) ≡ last → IsWayThere a.site a.image more last
+    goes_to : (last : Plan) → past_label (lock_labels a.site a.image) (plan_after (rest_of_acquire a end) (fed.Answer told)) ≡ last → IsWayThere a.site a.image more last
     goes_to last is =
         one_step_more a.site a.image steps a.site reason.Acquiring (op_of a) asks.next told last stands_there
-        (sym (ap (λ p. settled (lock_labels a.site a.image) (plan_after p (fed.Answer told))) asks.is) ∙ is)
+        (sym (ap (λ p. past_label (lock_labels a.site a.image) (plan_after p (fed.Answer told))) asks.is) ∙ is)
 
     way_further : (b : Acquire) → GoesOnItsWay a (fed.Answer told) b → IsWayThere b.site b.image more (rest_of_acquire b end)
     way_further b goes =
@@ -139,32 +139,32 @@ module _ (a : Acquire) (steps : List Answered) (there : IsWayThere a.site a.imag
         subst (λ s. IsWayThere s p.image more end) (sym takes.site)
         (subst (λ i. IsWayThere a.site i more end) (sym takes.image)
         (goes_to end
-        (ap (λ f. settled (lock_labels a.site a.image) (plan_after (rest_of_acquire a end) f)) takes.done
-        ∙ ap (λ s. settled (lock_labels a.site a.image) (plan_after (rest_at s a.site a.image end) (fed.Answer answer.Done))) takes.asked)))
+        (ap (λ f. past_label (lock_labels a.site a.image) (plan_after (rest_of_acquire a end) f)) takes.done
+        ∙ ap (λ s. past_label (lock_labels a.site a.image) (plan_after (rest_at s a.site a.image end) (fed.Answer answer.Done))) takes.asked)))
 
-    pub way_goes_on : (left : Plan) (w : Way) → WayComesTo a (fed.Answer told) None w → GoesWith left w more
+    pub way_goes_on : (left : Plan) (w : Way) → WayComesTo a (fed.Answer told) None w → AgreesWithWay left w more
     way_goes_on left (way.On b) goes = way_further b goes
     way_goes_on left (way.Taken p) takes = way_to_lock p takes
     way_goes_on left way.Unbegun comes = absurd comes
 
     pub way_refused : (r : Reply) → RefusesIt a (fed.Answer told) r → WasRefused a.site r more
     way_refused (reply.Refused x) refuses =
-        record { image = a.image; way = goes_to (Return (reply.Refused x)) (ap (settled (lock_labels a.site a.image)) (refuses end)) }
+        record { image = a.image; way = goes_to (Return (reply.Refused x)) (ap (past_label (lock_labels a.site a.image)) (refuses end)) }
     way_refused _ refuses = absurd refuses
 
 -- ---- where a way begins
 
-begins_there : (site : SiteId) (image : ℕ) (watched : Bool) → IsWayThere site image [] (rest_of_acquire (begun site image watched) end)
+begins_there : (site : SiteId) (image : ℕ) (watched : Bool) → IsWayThere site image [] (rest_of_acquire (begun_way site image watched) end)
 begins_there site image watched = record { watched = watched; feds = []; walk = (refl, by watched) }
   where
-    by : (b : Bool) → rest_of_acquire (begun site image b) end ≡ acquire site image b end
+    by : (b : Bool) → rest_of_acquire (begun_way site image b) end ≡ acquire site image b end
     by true = refl
     by false = refl
 
 begins_by : (s : LockState) (p : ImageAt) (a : Acquire) → actor_by s p.site p.image ≡ actor.Way a → IsWayThere a.site a.image [] (rest_of_acquire a end)
 begins_by s p a = go (s.quiesced || s.asked) s.owned
   where
-    go : (held o : Bool) → cond held actor.Nobody (cond o actor.Request (actor.Way (begun p.site p.image s.watched))) ≡ actor.Way a → IsWayThere a.site a.image [] (rest_of_acquire a end)
+    go : (held o : Bool) → cond held actor.Nobody (cond o actor.Request (actor.Way (begun_way p.site p.image s.watched))) ≡ actor.Way a → IsWayThere a.site a.image [] (rest_of_acquire a end)
     go true o is = absurd (true≢false (sym (ap is_way is)))
     go false true is = absurd (true≢false (sym (ap is_way is)))
     go false false is = subst (λ (x : Acquire). IsWayThere x.site x.image [] (rest_of_acquire x end)) (ap (way_or a) is) (begins_there p.site p.image s.watched)
@@ -174,7 +174,7 @@ looks_still : (site : SiteId) (p : Plan) → is_look_at site (kind_asked p) ≡ 
 looks_still site p wants none = let look = looks_at site p wants in (subst LooksNoMore look.is none).0
 
 module _ {R : Type 0} (stands : R → Standing) (slot : ℕ) (c : ClientView R) (sound : IsSoundClient stands c) (r : Running R) (runs : running_at slot c.session ≡ Some r) (steps : List Answered)
-    (keeps : GoesWith (stands r.request).plan (state_in slot c.slots).way steps) where
+    (keeps : AgreesWithWay (stands r.request).plan (slot_state slot c.slots).way steps) where
   -- ---- its way acts
 
   pub way_acts : (a : Acquire) → actor_at stands slot c ≡ actor.Way a → IsWayThere a.site a.image steps (rest_of_acquire a end)
@@ -190,28 +190,28 @@ module _ {R : Type 0} (stands : R → Standing) (slot : ℕ) (c : ClientView R) 
 
       looking : (look : Option ImageAt) → steps ≡ [] → actor_at_look look c.locks ≡ actor.Way a → IsWayThere a.site a.image steps (rest_of_acquire a end)
       looking None none is = absurd (true≢false (sym (ap is_way is)))
-      looking (Some p) none is = subst (λ xs. IsWayThere a.site a.image xs (rest_of_acquire a end)) (sym none) (begins_by (state_at p.site p.image c.locks) p a is)
+      looking (Some p) none is = subst (λ xs. IsWayThere a.site a.image xs (rest_of_acquire a end)) (sym none) (begins_by (lock_state_at p.site p.image c.locks) p a is)
 
-      on : (w : Way) → GoesWith (stands r.request).plan w steps → actor_on w (own_look_at stands slot c.session) c.locks ≡ actor.Way a → IsWayThere a.site a.image steps (rest_of_acquire a end)
-      on way.Unbegun off is = looking (own_look_at stands slot c.session) (nothing_yet off) is
+      on : (w : Way) → AgreesWithWay (stands r.request).plan w steps → actor_on w (look_under_lock_at stands slot c.session) c.locks ≡ actor.Way a → IsWayThere a.site a.image steps (rest_of_acquire a end)
+      on way.Unbegun off is = looking (look_under_lock_at stands slot c.session) (nothing_yet off) is
       on (way.On b) there is = subst (λ (x : Acquire). IsWayThere x.site x.image steps (rest_of_acquire x end)) (ap (way_or a) is) there
       on (way.Taken p) there is = absurd (true≢false (sym (ap is_way is)))
 
-      by : (b : Bool) → cond b (releasing c.release (due_release c)) (actor_on (state_in slot c.slots).way (own_look_at stands slot c.session) c.locks) ≡ actor.Way a
+      by : (b : Bool) → cond b (release_actor c.release (due_release c)) (actor_on (slot_state slot c.slots).way (look_under_lock_at stands slot c.session) c.locks) ≡ actor.Way a
           → IsWayThere a.site a.image steps (rest_of_acquire a end)
       by true is = absurd (true≢false (sym (ap is_way is) ∙ releases_no_way c.release (due_release c)))
-      by false is = on (state_in slot c.slots).way keeps is
+      by false is = on (slot_state slot c.slots).way keeps is
 
   -- ---- it acts itself
 
   module _ (acts : actor_at stands slot c ≡ actor.Request) where
-    not_on : (b : Acquire) → (state_in slot c.slots).way ≡ way.On b → ⊥
-    not_on b is = true≢false (sym (acts_by_way stands slot c acts) ∙ ap (λ w. is_request (actor_on w (own_look_at stands slot c.session) c.locks)) is)
+    not_on : (b : Acquire) → (slot_state slot c.slots).way ≡ way.On b → ⊥
+    not_on b is = true≢false (sym (acts_by_way stands slot c acts) ∙ ap (λ w. is_request (actor_on w (look_under_lock_at stands slot c.session) c.locks)) is)
 
     pub way_is_over : IsOver steps
-    way_is_over = by (state_in slot c.slots).way refl keeps
+    way_is_over = by (slot_state slot c.slots).way refl keeps
       where
-        by : (w : Way) → (state_in slot c.slots).way ≡ w → GoesWith (stands r.request).plan w steps → IsOver steps
+        by : (w : Way) → (slot_state slot c.slots).way ≡ w → AgreesWithWay (stands r.request).plan w steps → IsOver steps
         by way.Unbegun is (inl none) = inl none
         by way.Unbegun is (inr (took, none)) = inr took
         by (way.On b) is there = absurd (not_on b is)
@@ -220,13 +220,13 @@ module _ {R : Type 0} (stands : R → Standing) (slot : ℕ) (c : ClientView R) 
 -- ---- behind its look under the lock
 
 newcomer_behind : (e : Option Extent) (k : Course) (site : SiteId) (o : Op) (a : Answer) → is_newcomer_at k.place ≡ false → is_newcomer_at (answered e k site o a).place ≡ false
-newcomer_behind e k site (op.Header image header.Get) (answer.Header h) none = by (is_own_at site image k.place)
+newcomer_behind e k site (op.Header image header.Get) (answer.Header h) none = by (looks_under_lock_at site image k.place)
   where
     past_is : (p : _) → is_newcomer_at (past p) ≡ false
     past_is None = refl
     past_is (Some q) = refl
 
-    by : (b : Bool) → is_newcomer_at (cond b (looked e h k) k).place ≡ false
+    by : (b : Bool) → is_newcomer_at (cond b (course_past_look e h k) k).place ≡ false
     by true = past_is k.place
     by false = none
 newcomer_behind e k site o a none = none
@@ -280,7 +280,7 @@ module _ {R : Type 0} (stands : R → Standing) (slot : ℕ) (c : ClientView R) 
     behind_look = subst (λ p. LooksNoMore (plan_after p (fed.Answer a))) (sym look.is) looks_no_more
 
   -- it goes on itself, and its slot's state with it
-  module _ (steps : List Answered) (keeps : GoesWith (stands r.request).plan (state_in slot c.slots).way steps) (acts : actor_at stands slot c ≡ actor.Request)
+  module _ (steps : List Answered) (keeps : AgreesWithWay (stands r.request).plan (slot_state slot c.slots).way steps) (acts : actor_at stands slot c ≡ actor.Request)
       (goes : OfRunning (λ q. waits slot (track_of q c.session.lines) ≡ false) (held_in slot c.session.slots))
       (s : SiteId) (why : Reason) (o : Op) (next : Answer → Plan) (asks : (stands r.request).plan ≡ Ask s why o next) (labels : Label → Plan) where
     abbrev left : Plan
@@ -296,25 +296,25 @@ module _ {R : Type 0} (stands : R → Standing) (slot : ℕ) (c : ClientView R) 
     looked_is_over : (at : Option ImageAt) (p : ImageAt) (x : SlotState) → at ≡ Some p → (state_behind false (is_some at) x).way ≡ way.Unbegun
     looked_is_over at p x is = ap (λ l. (state_behind false (is_some l) x).way) is
 
-    pub goes_on_itself : GoesWith left (state_behind false (is_some (own_look_at stands slot c.session)) (state_in slot c.slots)).way steps
-    goes_on_itself = by (state_in slot c.slots).way refl keeps
+    pub goes_on_itself : AgreesWithWay left (state_behind false (is_some (look_under_lock_at stands slot c.session)) (slot_state slot c.slots)).way steps
+    goes_on_itself = by (slot_state slot c.slots).way refl keeps
       where
         look : Option ImageAt
-        look = own_look_at stands slot c.session
+        look = look_under_lock_at stands slot c.session
 
-        over : (state_behind false (is_some look) (state_in slot c.slots)).way ≡ way.Unbegun → GoesWith left way.Unbegun steps
-            → GoesWith left (state_behind false (is_some look) (state_in slot c.slots)).way steps
-        over is off = subst (λ w. GoesWith left w steps) (sym is) off
+        over : (state_behind false (is_some look) (slot_state slot c.slots)).way ≡ way.Unbegun → AgreesWithWay left way.Unbegun steps
+            → AgreesWithWay left (state_behind false (is_some look) (slot_state slot c.slots)).way steps
+        over is off = subst (λ w. AgreesWithWay left w steps) (sym is) off
 
-        by : (w : Way) → (state_in slot c.slots).way ≡ w → GoesWith (stands r.request).plan w steps → GoesWith left (state_behind false (is_some look) (state_in slot c.slots)).way steps
-        by way.Unbegun is (inl none) = over (unbegun_stays (is_some look) (state_in slot c.slots) is) (inl none)
+        by : (w : Way) → (slot_state slot c.slots).way ≡ w → AgreesWithWay (stands r.request).plan w steps → AgreesWithWay left (state_behind false (is_some look) (slot_state slot c.slots)).way steps
+        by way.Unbegun is (inl none) = over (unbegun_stays (is_some look) (slot_state slot c.slots) is) (inl none)
         by way.Unbegun is (inr (took, none)) =
-            over (unbegun_stays (is_some look) (state_in slot c.slots) is)
+            over (unbegun_stays (is_some look) (slot_state slot c.slots) is)
             (inr (took, none_at_operation labels (next a) ((subst LooksNoMore asks none).1 a)))
         by (way.On b) is there = absurd (not_on stands slot c sound r runs steps keeps acts b is)
         by (way.Taken p) is there =
             let waiting : WaitsForLook stands slot p.site p.image c.session = (subst (λ w. IsWellOnWay stands slot w c.session c.locks) is (sound.ways slot)).0 in
-            over (looked_is_over look (record { site = p.site; image = p.image }) (state_in slot c.slots) (stands_at_look stands slot p.site p.image c.session waiting goes))
+            over (looked_is_over look (record { site = p.site; image = p.image }) (slot_state slot c.slots) (stands_at_look stands slot p.site p.image c.session waiting goes))
             (inr (record { site = p.site; image = p.image; way = there }, no_more_left (behind_look p.site p.image waiting)))
 
 -- ---- a release

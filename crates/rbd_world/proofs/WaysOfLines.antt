@@ -11,17 +11,17 @@ use Rattle.rbd_kinds.specs.declared.id.SiteId.TheVariants as site
 use Rattle.rbd_kinds.specs.declared.reply.Reply.{Reply}
 use Rattle.rbd_kinds.specs.declared.reply.Reply.TheVariants as reply
 use Rattle.rbd_machine.specs.Path.{Answered}
-use Rattle.rbd_machine.specs.Plan.{Return, settled}
-use Rattle.rbd_owner.specs.Acquire.{acquire, lock_labels}
-use Rattle.rbd_owner.specs.Counts.{first_watch, is_counted, is_fence, is_round, is_take}
-use Rattle.rbd_owner.specs.Order.{AreInOrder, EndsWith}
-use Rattle.rbd_owner.specs.Steps.{fenced, lock_break}
-use Rattle.rbd_owner.proofs.Behind.{ends_with, step_in_order}
-use Rattle.rbd_owner.proofs.Bounded.{all_bounded, take_bounded}
-use Rattle.rbd_owner.proofs.Ordered.{ordered_acquire, ordered_walk}
+use Rattle.rbd_machine.specs.Plan.{Return, past_label}
+use Rattle.rbd_lock.specs.Acquire.{acquire, lock_labels}
+use Rattle.rbd_lock.specs.Counts.{first_watch, is_counted, is_fence, is_round, is_take_step}
+use Rattle.rbd_lock.specs.Order.{AreStepsInOrder, EndsWith}
+use Rattle.rbd_lock.specs.Steps.{fenced, lock_break}
+use Rattle.rbd_lock.proofs.Behind.{ends_with, step_in_order}
+use Rattle.rbd_lock.proofs.Bounded.{all_bounded, take_bounded}
+use Rattle.rbd_lock.proofs.Ordered.{ordered_acquire, ordered_walk}
 use Rattle.rbd_world.specs.LetGo.{release_of}
 use Rattle.rbd_world.specs.Run.{Doer, Itself, OnWay, House, AfterStop, Happening, Nothing, Waited, Began, Did, Refused, Trimmed, Expired, Heard, Stopped, Restarted, Operation, is_on_way, step_of, way_of}
-use Rattle.rbd_world.specs.Sound.{EndsWith as Ends, GoesOnBehind, IsDue, IsNextOf, IsRight, StandsAtLook}
+use Rattle.rbd_world.specs.Sound.{EndsItsLine as Ends, LineGoesOn, IsDue, IsNextOf, IsRight, StandsAtLook}
 use Rattle.rbd_world.specs.Ways.{AreAWay, AsksNext, IsOfRelease, IsOver, WasRefused}
 use Rattle.rbd_world.proofs.LetGo.{of_next}
 use Rattle.rbd_world.proofs.Ways.{one_step_more}
@@ -46,7 +46,7 @@ module _ (homes : ℕ → SiteId) (line : ℕ) (o : Operation) (r : Option Reply
   at_look is = by r right.1
     where
       by : (x : Option Reply) → IsDue homes (Did o x) run → StandsAtLook homes line o.site run
-      by None due = subst (λ d. GoesOnBehind homes o.site d run) is due.1
+      by None due = subst (λ d. LineGoesOn homes o.site d run) is due.1
       by (Some told) due =
           let refused = subst (Ends homes o told run) is due.1 in
           record { begun = refused.begun; plan = refused.plan; led = refused.led; wants = refused.wants }
@@ -64,8 +64,8 @@ one_more : (o : Operation) (steps : List Answered) → AsksNext o.site o.op step
 one_more o steps asks = record {
   site = o.site;
   image = asks.image;
-  last = settled (lock_labels o.site asks.image) (asks.next o.answer);
-  way = one_step_more o.site asks.image steps o.site asks.why o.op asks.next o.answer (settled (lock_labels o.site asks.image) (asks.next o.answer)) asks.way refl;
+  last = past_label (lock_labels o.site asks.image) (asks.next o.answer);
+  way = one_step_more o.site asks.image steps o.site asks.why o.op asks.next o.answer (past_label (lock_labels o.site asks.image) (asks.next o.answer)) asks.way refl;
 }
 
 pub are_a_way : (homes : ℕ → SiteId) (line : ℕ) (run : List Happening) → IsRight homes run → AreAWay (way_of line run)
@@ -97,7 +97,7 @@ are_a_way homes line (h ∷ run) (standing, due, right) = by h due (subst AreAWa
 -- ---- so what holds of ways holds of them
 
 module _ (steps : List Answered) (are : AreAWay steps) where
-  pub takes_once_a_round : count_by is_take steps ≤ 1 + count_by is_round steps
+  pub takes_once_a_round : count_by is_take_step steps ≤ 1 + count_by is_round steps
   takes_once_a_round = take_bounded are.site are.image are.way.feds steps are.last are.way.watched are.way.walk
 
   pub is_bounded : count_by is_counted steps ≤ 2 + 2 * count_by is_fence steps
@@ -107,18 +107,18 @@ module _ (steps : List Answered) (are : AreAWay steps) where
       by true least = omega (arith, least)
       by false least = omega (arith, least)
 
-  in_order : AreInOrder are.site are.image [] steps
+  in_order : AreStepsInOrder are.site are.image [] steps
   in_order = (ordered_walk are.site are.image are.way.feds [] (acquire are.site are.image are.way.watched (Return reply.Done)) steps are.last
       (ordered_acquire are.site are.image are.way.watched) are.way.walk).steps_are
 
   -- each step is at the way's site
-  at_site : (there : SiteId) (image : ℕ) (front before : List Answered) (s : Answered) (after : List Answered) → AreInOrder there image front (before ++ s ∷ after) → s.site ≡ there
+  at_site : (there : SiteId) (image : ℕ) (front before : List Answered) (s : Answered) (after : List Answered) → AreStepsInOrder there image front (before ++ s ∷ after) → s.site ≡ there
   at_site there image front [] s after are = are.0
   at_site there image front (b ∷ before) s after are = at_site there image (b ∷ front) before s after are.2
 
   pub fenced_first : (image : ℕ) (owner : Instance) (s : SiteId) (a : Answer) (before after : List Answered)
       → steps ≡ before ++ record { site = s; op = lock_break image owner; answer = a } ∷ after → EndsWith (fenced s owner) before
   fenced_first image owner s a before after is =
-      let ordered = subst (AreInOrder are.site are.image []) is in_order in
+      let ordered = subst (AreStepsInOrder are.site are.image []) is in_order in
       subst (λ q. EndsWith (fenced q owner) before) (sym (at_site are.site are.image [] before _ after ordered))
       (ends_with (fenced are.site owner) before (step_in_order are.site are.image [] before _ after ordered).1)

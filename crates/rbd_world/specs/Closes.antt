@@ -11,28 +11,28 @@ use Rattle.rbd_kinds.specs.declared.operation.Op.{Op}
 use Rattle.rbd_kinds.specs.declared.operation.Op.TheVariants as op
 use Rattle.rbd_kinds.specs.Images.{is_at}
 use Rattle.rbd_kinds.specs.Sharing.{is_alone}
-use Rattle.rbd_line.specs.Line.{Member, is_past, may_pass, member_of}
+use Rattle.rbd_queue.specs.Line.{Member, is_past, may_pass, member_of}
 use Rattle.rbd_machine.specs.Path.{Answered}
-use Rattle.rbd_session.specs.declared.running.Running.{Running}
-use Rattle.rbd_session.specs.Lines.{LinesView, lines_of}
+use Rattle.rbd_slots.specs.declared.running.Running.{Running}
+use Rattle.rbd_slots.specs.Lines.{LinesView, lines_of}
 use Rattle.rbd_world.specs.Run.{Happening, steps_of}
 
 -- ---- a lock that was dropped
 
 -- The lock of the image was dropped, or was another's or nobody's.
-abbrev pub lets_go : SiteId → Op → Answer → SiteId → (image : ℕ) → Bool
-lets_go there (op.Header on header.LockDrop) answer.Done s image = is_at there on s image
-lets_go there (op.Header on header.LockDrop) answer.Changed s image = is_at there on s image
-lets_go there o a s image = false
+abbrev pub lets_lock_go : SiteId → Op → Answer → SiteId → (image : ℕ) → Bool
+lets_lock_go there (op.Header on header.LockDrop) answer.Done s image = is_at there on s image
+lets_lock_go there (op.Header on header.LockDrop) answer.Changed s image = is_at there on s image
+lets_lock_go there o a s image = false
 
--- one of the operations did that
+-- whether one of the operations let the lock go
 abbrev pub has_let_go : SiteId → (image : ℕ) → (steps : List Answered) → Bool
-has_let_go s image steps = list_any (λ d. lets_go d.site d.op d.answer s image) steps
+has_let_go s image steps = list_any (λ d. lets_lock_go d.site d.op d.answer s image) steps
 
 -- ---- where it stands meanwhile
 
--- It waits in the line for its look under the lock, alone, and everybody ahead of it lets it pass:
--- so nobody is.
+-- The member waits for its look under the lock, alone, and everybody ahead of it lets it pass: so
+-- nobody is ahead.
 pub record StandsFirst (slot : ℕ) (line : List Member) : Type 0 where
   pub member : Member
   pub found : member_of slot line ≡ Some member
@@ -40,7 +40,7 @@ pub record StandsFirst (slot : ℕ) (line : List Member) : Type 0 where
   pub waits : is_past member.stage ≡ false
   pub may : may_pass slot line ≡ true
 
--- so does the request in a slot whose line has let go of a lock, in the line of the image
+-- a request whose line has let go of the image's lock stands first in the image's line
 abbrev pub StandsFirstIf : {R : Type 0} → List Happening → (slot : ℕ) → LinesView → Option (Running R) → Type 0
 StandsFirstIf run slot lines None = Unit {0}
 StandsFirstIf run slot lines (Some r) = (s : SiteId) (image : ℕ) → has_let_go s image (steps_of r.line run) ≡ true → StandsFirst slot (lines_of lines s image)

@@ -1,4 +1,4 @@
--- What the history is behind an event, by what it did.
+-- The history after an event, by what the event did.
 use Rattle.std.specs.Prelude.{◌≡◌, List, [], ◌∷◌, ◌++◌, map, Bool, true, false}
 use Rattle.rbd_flat.specs.declared.entry.Entry.{Entry}
 use Rattle.rbd_flat.specs.declared.entry.Entry.TheVariants as entry
@@ -12,19 +12,19 @@ use Rattle.rbd_world.specs.Run.{Happening, Nothing, Waited, Began, Did, Refused,
 use Rattle.rbd_world.specs.Step.{DoesToParts}
 use Rattle.rbd_world.specs.World.{LivesView}
 
-abbrev pub noted_by : List Entry → Happening → List Entry
-noted_by history Nothing = history
-noted_by history Waited = history
-noted_by history (Began asked slot) = history ++ entry.Start asked.line asked.who ∷ []
-noted_by history (Did o reply) = history ++ entry_of o ∷ ending_entries o.by reply
-noted_by history (Refused site line reply) = history ++ entry.Reply line reply ∷ []
-noted_by history (Trimmed site number image object) = history
-noted_by history (Expired site number image who) = history
-noted_by history (Heard notice) = history
-noted_by history (Stopped who wanted lost) = history ++ entry.Stop who.session ∷ map entry.Lost lost
-noted_by history (Restarted who) = history
+abbrev pub history_with : List Entry → Happening → List Entry
+history_with history Nothing = history
+history_with history Waited = history
+history_with history (Began asked slot) = history ++ entry.Start asked.line asked.who ∷ []
+history_with history (Did o reply) = history ++ entry_of o ∷ ending_entries o.by reply
+history_with history (Refused site line reply) = history ++ entry.Reply line reply ∷ []
+history_with history (Trimmed site number image object) = history
+history_with history (Expired site number image who) = history
+history_with history (Heard notice) = history
+history_with history (Stopped who wanted lost) = history ++ entry.Stop who.session ∷ map entry.Lost lost
+history_with history (Restarted who) = history
 
--- it is that of a command that began
+-- whether an entry is the start of a command
 abbrev pub is_start : Outcome → Bool
 is_start (outcome.Submitted slot) = true
 is_start _ = false
@@ -33,5 +33,5 @@ is_start _ = false
 pub record IsNotedStep {R : Type 0} (stands : R → Standing) (e : Event) (h : Happening) (old_sites new_sites : Sites) (old new : List (LivesView R)) (old_begun new_begun : BegunLines)
     (old_history new_history : List Entry) (result : Outcome) : Type 0 where
   pub parts : DoesToParts stands e h old_sites new_sites old new old_begun new_begun
-  pub history : new_history ≡ noted_by old_history h
+  pub history : new_history ≡ history_with old_history h
   pub outcome : result ≡ outcome_of h

@@ -1,4 +1,4 @@
--- One operation at a site, and who it is done for.
+-- One operation at a site, and for whom it is done.
 use Rattle.std.specs.Prelude.{◌≡◌, ℕ, ◌+◌, ◌∷◌, ◌++◌, List, [], false, length, Option, Some, None}
 use Rattle.rbd_client.specs.Client.{ClientView}
 use Rattle.rbd_flat.specs.declared.entry.Entry.{Entry}
@@ -11,33 +11,33 @@ use Rattle.rbd_kinds.specs.declared.reply.Reply.{Reply}
 use Rattle.rbd_machine.specs.Knowledge.{same_site}
 use Rattle.rbd_machine.specs.Plan.{Standing}
 use Rattle.rbd_site.specs.InForm.{AreInForm}
-use Rattle.rbd_site.specs.Log.{SiteLog, line_of, records_of}
+use Rattle.rbd_site.specs.Log.{SiteLog, log_line, records_of}
 use Rattle.rbd_site.specs.Step.{after, answer_to, mail_after}
 use Rattle.rbd_world.specs.declared.event.Outcome.{Outcome}
 use Rattle.rbd_world.specs.declared.sites.Sites.{Sites}
 use Rattle.rbd_world.specs.Run.{Doer, Did, entries_of, outcome_of}
-use Rattle.rbd_world.specs.Step.{Goes, operation_at, with_lines}
+use Rattle.rbd_world.specs.Step.{Goes, operation_at, with_log_lines}
 use Rattle.rbd_world.specs.World.{site_in}
 
--- the image whose header tells an operation's effect
+-- the image whose header says what effect an operation has
 abbrev pub image_of_op : Op → Option ℕ
 image_of_op (op.Header image o) = Some image
 image_of_op (op.Data image number o) = Some image
 image_of_op o = None
 
--- the site did the operation, and nothing else, and told those that it tells
+-- the site did the operation and nothing else, and posted its notices
 pub record IsLogged (who : Instance) (o : Op) (old new : SiteLog) (mail_before mail_now : List Notice) : Type 0 where
-  pub log : new ≡ with_lines (line_of (length old.log + 1) who o (answer_to (records_of old) who o) ∷ []) old
+  pub log : new ≡ with_log_lines (log_line (length old.log + 1) who o (answer_to (records_of old) who o) ∷ []) old
   pub records : records_of new ≡ after (records_of old) who o
   pub form : AreInForm (records_of new) (length new.log)
   pub mail : mail_now ≡ mail_after old.id (records_of old) who o mail_before
 
--- it was done for somebody, and this is noted of it
+-- the history and the outcome of the operation, by whom it was done for
 pub record IsNoted (who : Instance) (by : Doer) (s : SiteId) (o : Op) (before : SiteLog) (reply : Option Reply) (earlier later : List Entry) (result : Outcome) : Type 0 where
   pub history : later ≡ earlier ++ entries_of (Did (operation_at before who by s o) reply)
   pub outcome : result ≡ outcome_of (Did (operation_at before who by s o) reply)
 
--- no other site changed
+-- the other site is as it was
 abbrev pub IsSameElsewhere : SiteId → (before behind : Sites) → Type 0
 IsSameElsewhere s before behind = (other : SiteId) → same_site s other ≡ false → site_in other behind ≡ site_in other before
 

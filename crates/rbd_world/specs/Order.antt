@@ -10,15 +10,15 @@ use Rattle.rbd_kinds.specs.declared.id.Instance.{Instance}
 use Rattle.rbd_kinds.specs.declared.id.SiteId.{SiteId}
 use Rattle.rbd_kinds.specs.declared.operation.Op.{Op}
 use Rattle.rbd_kinds.specs.declared.operation.Op.TheVariants as op
-use Rattle.rbd_line.specs.Line.{ahead, is_member}
+use Rattle.rbd_queue.specs.Line.{ahead, is_member}
 use Rattle.rbd_machine.specs.Knowledge.{same_site}
 use Rattle.rbd_machine.specs.Plan.{Goto, Standing}
-use Rattle.rbd_requests.specs.InLine.{ChangesInLine, KeepsTo}
-use Rattle.rbd_requests.specs.Profile.{changed_extent}
-use Rattle.rbd_session.specs.declared.running.Running.{Running}
-use Rattle.rbd_session.specs.Lines.{lines_of}
-use Rattle.rbd_session.specs.Session.{SessionView, running_at}
-use Rattle.rbd_session.specs.Track.{image_at}
+use Rattle.rbd_catalog.specs.InLine.{ChangesInLine, KeepsTo}
+use Rattle.rbd_catalog.specs.Profile.{changed_extent}
+use Rattle.rbd_slots.specs.declared.running.Running.{Running}
+use Rattle.rbd_slots.specs.Lines.{lines_of}
+use Rattle.rbd_slots.specs.Session.{SessionView, running_at}
+use Rattle.rbd_slots.specs.Track.{place_of_image}
 use Rattle.rbd_world.specs.InLine.{IsPastWithout}
 use Rattle.rbd_world.specs.Run.{Asked, Happening, Did, asked_by, is_own}
 
@@ -73,14 +73,14 @@ pub record IsFirstToWrite (who : Instance) (line : ℕ) (s : SiteId) (image numb
   pub found : has_found line s image run ≡ true
   pub first : (other : ℕ) → IsWriterOf who other run → found_before line other s image run ≡ true → has_written other s image number run ≡ false
 
--- so it is where a write writes an object
+-- a write that writes an object is the first one to write it
 abbrev pub IsInTurn : Happening → (before : List Happening) → Type 0
 IsInTurn (Did o reply) before =
     (who : Instance) (line image number : ℕ) → is_own line o.by ≡ true → IsWriterOf who line before → writes_object image number o.op ≡ true
     → IsFirstToWrite who line o.site image number before
 IsInTurn h before = Unit {0}
 
--- at each place of the run
+-- so it is at each place of the run
 abbrev pub KeepsOrder : List Happening → Type 0
 KeepsOrder [] = Unit {0}
 KeepsOrder (h ∷ run) = IsInTurn h run × KeepsOrder run
@@ -94,25 +94,26 @@ WritesFirst one other s image number (h ∷ run) =
 
 -- ---- where the writes of an instance stand
 
--- It has found no image yet, and is in no line.
+-- The request has found no image yet, and is in no line.
 pub record IsBeforeFinding {R : Type 0} (stands : R → Standing) (home : SiteId) (run : List Happening) (r : Running R) : Type 0 where
   pub changes : ChangesInLine home (stands r.request)
   pub place : r.place ≡ None
   pub unfound : (s : SiteId) (image : ℕ) → has_found r.line s image run ≡ false
 
--- It has found its image, and no other, and is in its line.
+-- The request has found its image and no other, and is in the line of that image.
 pub record IsBehindFinding {R : Type 0} (stands : R → Standing) (run : List Happening) (r : Running R) : Type 0 where
   pub site : SiteId
   pub image : ℕ
-  pub place : r.place ≡ Some (image_at site image)
+  pub place : r.place ≡ Some (place_of_image site image)
   pub found : has_found r.line site image run ≡ true
   pub only : (s : SiteId) (i : ℕ) → has_found r.line s i run ≡ true → (s ≡ site) × (i ≡ image)
   pub labels : (stands r.request).labels ≡ Goto
   pub keeps : KeepsTo site image r.turn (stands r.request).plan
 
--- Of the writes in a line, who found the image earlier stands ahead; and where another that found
--- it later has written an object, whether it has ended or not, this one has no ticket for it.
-pub record IsInOrder {R : Type 0} (stands : R → Standing) (home : SiteId) (who : Instance) (run : List Happening) (c : SessionView R) : Type 0 where
+-- Of the writes in a line, the one that found the image earlier stands ahead. Where one that found
+-- it later has written an object, whether it has ended or not, the earlier one has no ticket for
+-- that object.
+pub record AreWritesInOrder {R : Type 0} (stands : R → Standing) (home : SiteId) (who : Instance) (run : List Happening) (c : SessionView R) : Type 0 where
   pub extents : (x : ℕ) (r : Running R) → running_at x c ≡ Some r → (asked : Asked) → asked_by r.line run ≡ Some asked → r.extent ≡ changed_extent asked.command
   pub comes : (x : ℕ) (r : Running R) → running_at x c ≡ Some r → IsSome r.extent → (IsBeforeFinding stands home run r) ⊎ (IsBehindFinding stands run r)
   pub in_line : (x y : ℕ) (r q : Running R) → running_at x c ≡ Some r → running_at y c ≡ Some q → IsSome r.extent → IsSome q.extent

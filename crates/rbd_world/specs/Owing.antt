@@ -1,6 +1,6 @@
 -- What lines owe to object maps, and runs in which nobody is stopped or fenced.
 use Rattle.std.specs.Prelude.{◌≡◌, ℕ, ◌==◌, ◌&&◌, ◌||◌, Bool, true, false, List, [], ◌∷◌, Option, Some, None, is_some}
-use Rattle.rbd_exact.specs.Owed.{Spot, owed_behind}
+use Rattle.rbd_interference.specs.Owed.{Spot, owed_behind}
 use Rattle.rbd_kinds.specs.declared.id.SiteId.{SiteId}
 use Rattle.rbd_machine.specs.About.{image_of}
 use Rattle.rbd_machine.specs.Knowledge.{same_site}
@@ -14,19 +14,19 @@ owed_in run line = owed_behind (steps_of line run)
 
 -- ---- runs without hindrance
 
--- somebody is stopped, or put into a site's blocklist
+-- whether somebody is stopped, or put into a site's blocklist
 abbrev pub is_hindrance : Happening → Bool
 is_hindrance (Did o reply) = is_some (fence_of o.op o.answer)
 is_hindrance (Stopped who wanted lost) = true
 is_hindrance h = false
 
-abbrev pub IsUnhindered : List Happening → Type 0
-IsUnhindered [] = Unit {0}
-IsUnhindered (h ∷ run) = (is_hindrance h ≡ false) × IsUnhindered run
+abbrev pub HasNoHindrance : List Happening → Type 0
+HasNoHindrance [] = Unit {0}
+HasNoHindrance (h ∷ run) = (is_hindrance h ≡ false) × HasNoHindrance run
 
 -- ---- lines that worked on an image
 
--- an operation of the line's own was of the image
+-- whether the operation is one of the line's own, on the image
 abbrev pub is_of : SiteId → (image : ℕ) → Operation → Bool
 is_of s image o = same_site o.site s && is_image image (image_of o.op)
   where

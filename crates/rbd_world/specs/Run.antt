@@ -21,10 +21,10 @@ use Rattle.rbd_machine.specs.Knowledge.{same_site}
 use Rattle.rbd_machine.specs.Path.{Answered}
 use Rattle.rbd_machine.specs.declared.reason.Reason.{Reason}
 use Rattle.rbd_machine.specs.declared.reason.Reason.TheVariants as reason
-use Rattle.rbd_owner.specs.Waiting.{is_waiting}
-use Rattle.rbd_rely.specs.Truth.{changed_by}
-use Rattle.rbd_session.specs.Session.{held_in}
-use Rattle.rbd_site.specs.Log.{expire_line, expired, line_of, trim_line, trimmed}
+use Rattle.rbd_lock.specs.Waiting.{asks_for_lock}
+use Rattle.rbd_interference.specs.Truth.{changed_by}
+use Rattle.rbd_slots.specs.Session.{held_in}
+use Rattle.rbd_site.specs.Log.{expire_line, expired, log_line, trim_line, trimmed}
 use Rattle.rbd_site.specs.Records.{Records, no_records}
 use Rattle.rbd_site.specs.Step.{after, mail_after}
 use Rattle.rbd_site.specs.declared.done.Done.{Done}
@@ -69,13 +69,13 @@ pub record Sent : Type 0 where
   pub op : Op
 
 pub data Happening : Type 0 where
-  -- nothing: the event named nothing that is there
+  -- nothing: the event named something that isn't there
   Nothing : Happening
-  -- nothing either: the slot that was polled waits
+  -- nothing happened either: the slot that was polled waits
   Waited : Happening
   -- an instance began a command, in a slot
   Began : Asked → (slot : ℕ) → Happening
-  -- an operation was done, and the command that it was done for has its reply where it ended by it
+  -- an operation was done; the command that it was done for has its reply, if it ended by it
   Did : Operation → Option Reply → Happening
   -- a request of a session at a site was refused before any operation
   Refused : SiteId → (line : ℕ) → Reply → Happening
@@ -93,12 +93,12 @@ pub data Happening : Type 0 where
 
 -- ---- for which line an operation was done
 
--- by the command of the line itself
+-- whether an operation was done by the line's command itself
 abbrev pub is_own : (line : ℕ) → Doer → Bool
 is_own line (Itself other) = other == line
 is_own line by = false
 
--- on its way to the lock
+-- whether an operation was done on the line's way to the lock
 abbrev pub is_on_way : (line : ℕ) → Doer → Bool
 is_on_way line (OnWay other) = other == line
 is_on_way line by = false
@@ -106,7 +106,7 @@ is_on_way line by = false
 abbrev pub is_for : (line : ℕ) → Doer → Bool
 is_for line by = is_own line by || is_on_way line by
 
--- why it was done
+-- why an operation was done: on the way to a lock, or as a step of its own
 abbrev pub reason_of : Doer → Reason
 reason_of (OnWay line) = reason.Acquiring
 reason_of by = reason.Own
@@ -139,7 +139,7 @@ abbrev pub reply_entries : (line : ℕ) → Option Reply → List Entry
 reply_entries line None = []
 reply_entries line (Some reply) = entry.Reply line reply ∷ []
 
--- the reply of the command that it was done for
+-- the entry of the reply, where the command has one then
 abbrev pub ending_entries : Doer → Option Reply → List Entry
 ending_entries (Itself line) reply = reply_entries line reply
 ending_entries (OnWay line) reply = reply_entries line reply
@@ -153,7 +153,7 @@ entries_of (Stopped who wanted lost) = entry.Stop who.session ∷ map entry.Lost
 entries_of _ = []
 
 abbrev pub lines_at : SiteId → Happening → List Done
-lines_at s (Did o reply) = if same_site o.site s then line_of o.number o.instance o.op o.answer ∷ [] else []
+lines_at s (Did o reply) = if same_site o.site s then log_line o.number o.instance o.op o.answer ∷ [] else []
 lines_at s (Trimmed site number image object) = if same_site site s then trim_line number image object ∷ [] else []
 lines_at s (Expired site number image who) = if same_site site s then expire_line number image who ∷ [] else []
 lines_at s _ = []
@@ -162,7 +162,7 @@ abbrev pub outcome_of : Happening → Outcome
 outcome_of Nothing = outcome.Nothing
 outcome_of Waited = outcome.Waits
 outcome_of (Began asked slot) = outcome.Submitted slot
-outcome_of (Did o reply) = outcome.Step o.site o.number (is_waiting (reason_of o.by) (kind_of o.op) o.answer) (is_some reply)
+outcome_of (Did o reply) = outcome.Step o.site o.number (asks_for_lock (reason_of o.by) (kind_of o.op) o.answer) (is_some reply)
 outcome_of (Refused site line reply) = outcome.Step site 0 false true
 outcome_of (Trimmed site number image object) = outcome.Stored
 outcome_of (Expired site number image who) = outcome.Stored
@@ -193,7 +193,7 @@ abbrev pub records_after : SiteId → List Happening → Records
 records_after s [] = no_records
 records_after s (h ∷ run) = records_behind s (records_after s run) h
 
--- a flat site: the effects, one after another
+-- a flat site: the effects of the run, one after another
 abbrev pub flat_behind : SiteId → Flat → Happening → Flat
 flat_behind s f (Did o reply) = if same_site o.site s then changed_by f o.effect else f
 flat_behind s f _ = f
@@ -216,7 +216,7 @@ mail_of (h ∷ run) = mail_behind (mail_of run) run h
 abbrev pub step_of : Operation → Answered
 step_of o = record { site = o.site; op = o.op; answer = o.answer }
 
--- the operations of its command itself, with their answers, in order
+-- the operations of a line's command itself, with their answers, in order
 abbrev pub steps_in : (line : ℕ) → Happening → List Answered
 steps_in line (Did o reply) = if is_own line o.by then step_of o ∷ [] else []
 steps_in line _ = []
@@ -225,7 +225,7 @@ abbrev pub steps_of : (line : ℕ) → List Happening → List Answered
 steps_of line [] = []
 steps_of line (h ∷ run) = steps_of line run ++ steps_in line h
 
--- those on its way to the lock of its image
+-- the operations on a line's way to the lock of its image, with their answers, in order
 abbrev pub way_in : (line : ℕ) → Happening → List Answered
 way_in line (Did o reply) = if is_on_way line o.by then step_of o ∷ [] else []
 way_in line _ = []
@@ -234,7 +234,7 @@ abbrev pub way_of : (line : ℕ) → List Happening → List Answered
 way_of line [] = []
 way_of line (h ∷ run) = way_of line run ++ way_in line h
 
--- what it asked for, where an instance began it
+-- what a line asked for, where an instance began it here
 abbrev pub or_asked : (line : ℕ) → Happening → Option Asked → Option Asked
 or_asked line (Began asked slot) before = if asked.line == line then Some asked else before
 or_asked line h before = before
@@ -243,28 +243,28 @@ abbrev pub asked_by : (line : ℕ) → List Happening → Option Asked
 asked_by line [] = None
 asked_by line (h ∷ run) = or_asked line h (asked_by line run)
 
--- whether it has its reply
+-- whether the line gets its reply here
 abbrev pub replies_to : (line : ℕ) → Happening → Bool
 replies_to line (Did o (Some reply)) = is_for line o.by
 replies_to line (Refused site other reply) = other == line
 replies_to line _ = false
 
--- whether it is among some lines
-abbrev pub is_among : (line : ℕ) → List ℕ → Bool
-is_among line lines = list_any (λ other. other == line) lines
+-- whether a line is among others
+abbrev pub is_line_among : (line : ℕ) → List ℕ → Bool
+is_line_among line lines = list_any (λ other. other == line) lines
 
--- whether it is lost
+-- whether the line is lost here
 abbrev pub loses : (line : ℕ) → Happening → Bool
-loses line (Stopped who wanted lost) = is_among line lost
+loses line (Stopped who wanted lost) = is_line_among line lost
 loses line _ = false
 
--- it has its reply, or is lost
+-- whether the line gets its reply or is lost here
 abbrev pub ends : (line : ℕ) → Happening → Bool
 ends line h = replies_to line h || loses line h
 
 -- ---- of a session
 
--- the number of its latest life, and whether that runs
+-- the number of a session's latest life, and whether that life runs
 pub record Life : Type 0 where
   pub number : ℕ
   pub runs : Bool
@@ -278,7 +278,7 @@ abbrev pub life_after : (session : ℕ) → List Happening → Life
 life_after session [] = record { number = 0; runs = true }
 life_after session (h ∷ run) = life_behind session h (life_after session run)
 
--- what a slot of it wanted when it was stopped last, as long as that hasn't come
+-- what a slot of a session wanted when the session was stopped last, as long as that hasn't come
 abbrev pub sent_of : Instance → Option (SiteId × Op) → Option Sent
 sent_of who None = None
 sent_of who (Some wanted) = Some (record { instance = who; site = wanted.0; op = wanted.1 })
@@ -308,8 +308,8 @@ pub record IsLateOf (session slot : ℕ) (o : Operation) (reply : Option Reply) 
   pub session_is : o.instance.session ≡ session
   pub none : reply ≡ None
 
--- A happening that an event can have, whatever the world was: it is of whom and what the event
--- names.
+-- A happening that an event can have in some world: it is of the session, slot or site that the
+-- event names.
 abbrev pub IsOfEvent : Event → Happening → Type 0
 IsOfEvent e Nothing = Unit {0}
 IsOfEvent (event.Submit session line command) (Began asked slot) = IsBeginOf session line command asked

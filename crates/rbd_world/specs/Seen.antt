@@ -1,12 +1,12 @@
--- A world as plans tell it: in each slot stands what is left of its request, in place of the machine
--- that does it. What the world's contracts promise is said of this, so nobody who reads them needs
--- to know a machine.
+-- A world as plans tell it: in each slot stands what is left of its request, in place of the
+-- machine that does it. What the world's contracts promise is said of this, so nobody who reads
+-- them needs to know a machine.
 use Rattle.std.specs.Prelude.{List, map}
 use Rattle.std.specs.Option.{option_map}
 use Rattle.rbd_client.specs.Seen as of_client
 use Rattle.rbd_machine.specs.Plan.{Standing}
-use Rattle.rbd_requests.specs.declared.request.SessionRequest.{SessionRequest}
-use Rattle.rbd_requests.specs.Session.{stands_of}
+use Rattle.rbd_catalog.specs.declared.request.SessionRequest.{SessionRequest}
+use Rattle.rbd_catalog.specs.Session.{stands_of}
 use Rattle.rbd_world.specs.World.{LivesView, WorldView}
 
 module _ {R : Type 0} (stands : R → Standing) where

@@ -25,7 +25,7 @@ doer_of (sender.OnWay line) = OnWay line
 doer_of sender.House = House
 doer_of (sender.AfterStop slot) = AfterStop slot
 
--- who acts for the command of a line
+-- who acts for the command of a line: the command itself, or its way to the lock
 abbrev pub doer_at : (line : ℕ) → Actor → Doer
 doer_at line acts = if is_acquiring acts then OnWay line else Itself line
 
@@ -46,14 +46,14 @@ latest_op log = op_in (slice_get log (length log - 1))
 -- ---- what comes of who acts at a slot
 
 -- The slot waits, and nothing changed.
-pub record IsHeldUp {R : Type 0} (before behind : Sites) (old new : ClientView R) (earlier later : List Entry) (result : Outcome) : Type 0 where
+pub record OnlyWaits {R : Type 0} (before behind : Sites) (old new : ClientView R) (earlier later : List Entry) (result : Outcome) : Type 0 where
   pub sites : behind ≡ before
   pub client : new ≡ old
   pub history : later ≡ earlier
   pub outcome : result ≡ outcome.Waits
 
 module _ {R : Type 0} (stands : R → Standing) where
-  -- what is wanted there was done, or nothing is
+  -- the operation that a slot wants was done, or there is none
   abbrev pub ActsAt : (slot : ℕ) → Doer → Option (SiteId × Op) → (before behind : Sites) → (old new : ClientView R) → (earlier later : List Entry) → Outcome → Type 0
-  ActsAt slot by None before behind old new earlier later result = IsHeldUp before behind old new earlier later result
+  ActsAt slot by None before behind old new earlier later result = OnlyWaits before behind old new earlier later result
   ActsAt slot by (Some wanted) before behind old new earlier later result = IsOperatedAt stands slot by wanted.0 wanted.1 before behind old new earlier later result

@@ -3,13 +3,13 @@
 use Rattle.std.specs.Prelude.{◌≡◌, ◌≢◌, ◌⊎◌, ℕ, ◌+◌, ◌<◌, ◌≤◌, ◌||◌, Bool, true, false, List, [], ◌∷◌, ◌++◌, length, is_some, slice_get, Option, Some, None}
 use Rattle.std.specs.List.Sorted.{IsStrictlyIncreasing}
 use Rattle.rbd_client.specs.declared.slot_state.Way.{Way}
-use Rattle.rbd_client.specs.Client.{ClientView, state_in}
+use Rattle.rbd_client.specs.Client.{ClientView, slot_state}
 use Rattle.rbd_client.specs.Sound.{IsSoundClient}
-use Rattle.rbd_close.specs.Close.{unwatch}
+use Rattle.rbd_session.specs.Close.{unwatch}
 use Rattle.rbd_commands.specs.declared.command.Command.{Command}
 use Rattle.rbd_commands.specs.declared.refusal.Refusal.{Refusal}
-use Rattle.rbd_exact.specs.Exact.{IsExactBut, IsOwed}
-use Rattle.rbd_held.specs.Truth.{IsTrueOf}
+use Rattle.rbd_interference.specs.Exact.{IsExactBut, IsOwed}
+use Rattle.rbd_knowledge.specs.Truth.{IsTrueOf}
 use Rattle.rbd_kinds.specs.declared.answer.Answer.{Answer}
 use Rattle.rbd_kinds.specs.declared.header_op.HeaderOp.TheVariants as header
 use Rattle.rbd_kinds.specs.declared.id.Instance.{Instance}
@@ -19,9 +19,9 @@ use Rattle.rbd_kinds.specs.declared.notice.Notice.{Notice}
 use Rattle.rbd_kinds.specs.declared.operation.Op.{Op}
 use Rattle.rbd_kinds.specs.declared.operation.Op.TheVariants as op
 use Rattle.rbd_kinds.specs.declared.reply.Reply.{Reply}
-use Rattle.rbd_known.specs.Calm.{IsCalmRequest}
-use Rattle.rbd_requests.specs.Profile.{joins_a_line, profile}
-use Rattle.rbd_known.specs.Knowing.{AllKnow}
+use Rattle.rbd_knowledge.specs.Calm.{IsCalmRequest}
+use Rattle.rbd_catalog.specs.Profile.{joins_a_line, profile}
+use Rattle.rbd_knowledge.specs.Knowing.{AllKnow}
 use Rattle.rbd_machine.specs.Knowledge.{Knowledge, is_drawn, nothing_known}
 use Rattle.rbd_machine.specs.Path.{Answered, IsWalk}
 use Rattle.rbd_machine.specs.Permits.{Permits}
@@ -32,15 +32,15 @@ use Rattle.rbd_machine.specs.Steps.{EndsIt, not_there, refused}
 use Rattle.rbd_machine.specs.declared.reason.Reason.{Reason}
 use Rattle.rbd_machine.specs.declared.seat.Seat.{Seat}
 use Rattle.rbd_meaning.specs.Meant.{IsMeantBy}
-use Rattle.rbd_owner.specs.Steps.{lock_take}
-use Rattle.rbd_rely.specs.Beside.{AreBeside, MayAct}
-use Rattle.rbd_rely.specs.Locks.{KnowsByLock}
-use Rattle.rbd_rely.specs.Truth.{AreMapped, IsTrueAt, AreStandalone}
-use Rattle.rbd_requests.specs.Plans.{IsPlanFor}
-use Rattle.rbd_session.specs.declared.running.Occupant.{Occupant}
-use Rattle.rbd_session.specs.declared.running.Occupant.TheVariants as occupant
-use Rattle.rbd_session.specs.declared.running.Running.{Running}
-use Rattle.rbd_session.specs.Session.{SessionView, held_in, is_look_at, kind_asked, running_at, script_line}
+use Rattle.rbd_lock.specs.Steps.{lock_take}
+use Rattle.rbd_interference.specs.Beside.{AreBeside, MayAct}
+use Rattle.rbd_interference.specs.Locks.{KnowsByLock}
+use Rattle.rbd_interference.specs.Truth.{AreMapped, IsTrueAt, AreStandalone}
+use Rattle.rbd_catalog.specs.Plans.{IsPlanFor}
+use Rattle.rbd_slots.specs.declared.running.Occupant.{Occupant}
+use Rattle.rbd_slots.specs.declared.running.Occupant.TheVariants as occupant
+use Rattle.rbd_slots.specs.declared.running.Running.{Running}
+use Rattle.rbd_slots.specs.Session.{SessionView, held_in, is_look_at, kind_asked, running_at, script_line}
 use Rattle.rbd_site.specs.InForm.{AreInForm}
 use Rattle.rbd_site.specs.Records.{Records}
 use Rattle.rbd_site.specs.Step.{answer_to}
@@ -48,21 +48,21 @@ use Rattle.rbd_site.specs.declared.done.DoneOp.TheVariants as done
 use Rattle.rbd_stands.specs.Effect.{effect_of}
 use Rattle.rbd_stands.specs.Owned.{HasLock, IsOwnedStep}
 use Rattle.rbd_stands.specs.Site.{StandsFor}
-use Rattle.rbd_watch.specs.Posting.{numbered}
+use Rattle.rbd_watch.specs.Posting.{notice_numbered}
 use Rattle.rbd_watch.specs.Watching.{oldest_of}
 use Rattle.rbd_world.specs.Begun.{has_line}
 use Rattle.rbd_world.specs.Closes.{StandsFirstIf, has_let_go}
 use Rattle.rbd_world.specs.declared.begun.BegunLines.{BegunLines}
 use Rattle.rbd_world.specs.LetGo.{release_of}
-use Rattle.rbd_world.specs.Order.{IsInOrder, KeepsOrder}
-use Rattle.rbd_world.specs.Owing.{IsUnhindered, owed_in}
+use Rattle.rbd_world.specs.Order.{AreWritesInOrder, KeepsOrder}
+use Rattle.rbd_world.specs.Owing.{HasNoHindrance, owed_in}
 use Rattle.rbd_world.specs.Owning.{CountsItsLocks}
 use Rattle.rbd_world.specs.Past.{HadNoHeader, known_along}
-use Rattle.rbd_world.specs.Run.{Asked, Doer, Itself, OnWay, House, AfterStop, Happening, Began, Did, Refused, Trimmed, Expired, Heard, Stopped, Restarted, Operation, Sent, AreCalls, asked_by, ends, flat_after, history_of, is_among, is_for, life_after, log_of, mail_of, records_after, sent_after, step_of, steps_of, way_of}
+use Rattle.rbd_world.specs.Run.{Asked, Doer, Itself, OnWay, House, AfterStop, Happening, Began, Did, Refused, Trimmed, Expired, Heard, Stopped, Restarted, Operation, Sent, AreCalls, asked_by, ends, flat_after, history_of, is_line_among, is_for, life_after, log_of, mail_of, records_after, sent_after, step_of, steps_of, way_of}
 use Rattle.rbd_world.specs.Seats.{seat_at, seat_of_home}
 use Rattle.rbd_world.specs.Step.{IsFresh, is_begun}
 use Rattle.rbd_world.specs.Watched.{CountsItsWatches, TakesBehindWatch}
-use Rattle.rbd_world.specs.Ways.{AsksNext, GoesWith, IsNextOfRelease, IsOver, WasRefused}
+use Rattle.rbd_world.specs.Ways.{AsksNext, AgreesWithWay, IsNextOfRelease, IsOver, WasRefused}
 use Rattle.rbd_world.specs.World.{LateView, LivesView, WorldView, client_in, late_at, lives_in, records_in, session_in, site_in}
 
 -- ---- a run that is right at every place
@@ -78,8 +78,8 @@ pub record IsOpen (line : ℕ) (run : List Happening) : Type 0 where
   pub is : asked_by line run ≡ Some asked
   pub unended : has_ended line run ≡ false
 
--- A walk of the command's plan leads there, by these operations. No header that they told has a
--- parent or a journal.
+-- A walk of the command's plan leads to this plan by these operations. No header that they told has
+-- a parent or a journal.
 pub record IsLedTo (seat : Seat) (c : Command) (steps : List Answered) (last : Plan) : Type 0 where
   pub start : Standing
   pub plan : IsPlanFor seat c start
@@ -88,20 +88,20 @@ pub record IsLedTo (seat : Seat) (c : Command) (steps : List Answered) (last : P
   pub given : AreGiven steps
   pub standalone : TellAllStandalone steps
 
--- A walk of the command's plan ends with the reply, by all operations that were done for its line,
--- of a session at this seat; and the reply is the command's behind them.
+-- A walk of the command's plan, of a session at this seat, ends with the reply by all operations
+-- that were done for its line; and the command means that reply after them.
 pub record IsReplyMeant (homes : ℕ → SiteId) (line : ℕ) (reply : Reply) (before run : List Happening) : Type 0 where
   pub begun : IsOpen line before
   pub ended : IsLedTo (seat_at homes begun.asked.who.session) begun.asked.command (steps_of line run) (Return reply)
   pub meant : IsMeantBy (seat_at homes begun.asked.who.session) begun.asked.command (steps_of line run) reply
 
--- a look at a header that is answered so
+-- a look at a header, with its answer
 abbrev pub look_answered : SiteId → (image : ℕ) → Answer → Answered
 look_answered site image told = record { site = site; op = op.Header image header.Get; answer = told }
 
--- A request that is refused on its way to the lock wants its look under the lock next. It is
--- refused as if that look had been answered as the last step of its way was: that something isn't
--- there, or that the instance is fenced.
+-- The request wants its look under the lock next, and is refused on its way to the lock: as if that
+-- look had been answered what the last step of the way was answered, that something isn't there or
+-- that the instance is fenced.
 pub record IsRefusedOnWay (homes : ℕ → SiteId) (line : ℕ) (reply : Reply) (o : Operation) (before : List Happening) : Type 0 where
   pub begun : IsOpen line before
   pub tells : EndsIt o.answer
@@ -119,7 +119,7 @@ pub record IsRefusedOnWay (homes : ℕ → SiteId) (line : ℕ) (reply : Reply) 
 abbrev pub IsOfLine : (line : ℕ) → Instance → (before : List Happening) → Type 0
 IsOfLine line who before = (asked : Asked) → asked_by line before ≡ Some asked → who ≡ asked.who
 
--- it is its session's latest life, and runs
+-- the instance is its session's latest life, and runs
 abbrev pub IsRunning : Instance → (before : List Happening) → Type 0
 IsRunning who before = life_after who.session before ≡ record { number = who.life; runs = true }
 
@@ -144,7 +144,7 @@ IsNextOf (OnWay line) who s o before = AsksNext s o (way_of line before) × Take
 IsNextOf House who s o before = IsNextOfRelease (release_of who before) s o
 IsNextOf (AfterStop slot) who s o before = Unit {0}
 
--- A walk of the line's command asks for the operation, and this is what it taught.
+-- A walk of the line's command asks for the operation, and this is what the walk taught.
 pub record Recalls (line : ℕ) (s : SiteId) (o : Op) (k : Knowledge) (before : List Happening) : Type 0 where
   pub begun : IsOpen line before
   pub seat : Seat
@@ -156,16 +156,16 @@ pub record Recalls (line : ℕ) (s : SiteId) (o : Op) (k : Knowledge) (before : 
   pub walk : IsWalk start.labels start.plan feds (steps_of line before) (Ask s why o next)
   pub known : k ≡ known_along start.labels nothing_known start.plan feds
 
--- a line's own operation goes by what its command learned
+-- an operation that a line's command does itself goes by what the command learned
 abbrev pub RecallsBy : Doer → SiteId → Op → Knowledge → (before : List Happening) → Type 0
 RecallsBy (Itself line) s o k before = Recalls line s o k before
 RecallsBy by s o k before = Unit {0}
 
--- The operation is of whom it is done by, and the next of what it is done for. It has the number,
--- the answer and the effect that its site has for it there; it was permitted by what was known,
--- which was true, and no image had a header so far whose id was drawn for one; and what it changes
--- of an image is its owner's. A line's own operation goes by what its command learned.
-pub record IsDone (o : Operation) (before : List Happening) : Type 0 where
+-- An operation as a site does it here. It has the number, the answer and the effect that its site
+-- has for it; what was known permitted it, and was true; no image had a header so far whose id was
+-- drawn for one; what it changes of an image is its owner's; and it is the next operation of whom
+-- it is done for. An operation that a line's command does itself goes by what that command learned.
+pub record IsRightlyDone (o : Operation) (before : List Happening) : Type 0 where
   pub whose : IsOf o.by o.instance o.site o.op before
   pub next : IsNextOf o.by o.instance o.site o.op before
   pub number : o.number ≡ length (log_of o.site before) + 1
@@ -185,17 +185,17 @@ pub record StandsAtLook (homes : ℕ → SiteId) (line : ℕ) (s : SiteId) (befo
   pub led : IsLedTo (seat_at homes begun.asked.who.session) begun.asked.command (steps_of line before) plan
   pub wants : is_look_at s (kind_asked plan) ≡ true
 
--- behind it its line goes on
-abbrev pub GoesOnBehind : (homes : ℕ → SiteId) → SiteId → Doer → (before : List Happening) → Type 0
-GoesOnBehind homes s (Itself line) before = IsOpen line before
-GoesOnBehind homes s (OnWay line) before = StandsAtLook homes line s before
-GoesOnBehind homes s by before = Unit {0}
+-- the line goes on after the operation
+abbrev pub LineGoesOn : (homes : ℕ → SiteId) → SiteId → Doer → (before : List Happening) → Type 0
+LineGoesOn homes s (Itself line) before = IsOpen line before
+LineGoesOn homes s (OnWay line) before = StandsAtLook homes line s before
+LineGoesOn homes s by before = Unit {0}
 
--- with it its line ends
-abbrev pub EndsWith : (homes : ℕ → SiteId) → Operation → Reply → (before : List Happening) → Doer → Type 0
-EndsWith homes o reply before (Itself line) = IsReplyMeant homes line reply before (Did o (Some reply) ∷ before)
-EndsWith homes o reply before (OnWay line) = IsRefusedOnWay homes line reply o before
-EndsWith homes o reply before by = ⊥
+-- the line ends with the operation
+abbrev pub EndsItsLine : (homes : ℕ → SiteId) → Operation → Reply → (before : List Happening) → Doer → Type 0
+EndsItsLine homes o reply before (Itself line) = IsReplyMeant homes line reply before (Did o (Some reply) ∷ before)
+EndsItsLine homes o reply before (OnWay line) = IsRefusedOnWay homes line reply o before
+EndsItsLine homes o reply before by = ⊥
 
 -- ---- what happens beside operations of instances
 
@@ -204,14 +204,14 @@ pub record IsTrimmed (s : SiteId) (number image object : ℕ) (before : List Hap
   pub is_number : number ≡ length (log_of s before) + 1
   pub there : is_some ((records_after s before).objects image object) ≡ true
 
--- It ended the watch of the oldest instance of a session that watched.
+-- The watch that ended is that of the oldest instance of a session that watched.
 pub record IsExpired (s : SiteId) (number image : ℕ) (who : Instance) (before : List Happening) : Type 0 where
   pub is_number : number ≡ length (log_of s before) + 1
   pub oldest : oldest_of who.session ((records_after s before).watchers image) ≡ Some who
 
--- The notice was posted, for an instance that runs.
+-- The notice was posted, and the instance that it is for runs.
 pub record IsDelivered (notice : Notice) (before : List Happening) : Type 0 where
-  pub posted : numbered notice.number (mail_of before) ≡ Some notice
+  pub posted : notice_numbered notice.number (mail_of before) ≡ Some notice
   pub runs : IsRunning notice.to before
 
 -- A line that is lost: its instance began it, it has no reply, and a walk of its command's plan led
@@ -223,7 +223,7 @@ pub record IsLostOf (homes : ℕ → SiteId) (who : Instance) (line : ℕ) (befo
   pub led : IsLedTo (seat_at homes begun.asked.who.session) begun.asked.command (steps_of line before) plan
 
 -- A walk of the line's command led it to where it asks for the operation.
-pub record StandsAt (homes : ℕ → SiteId) (line : ℕ) (s : SiteId) (o : Op) (before : List Happening) : Type 0 where
+pub record AsksFor (homes : ℕ → SiteId) (line : ℕ) (s : SiteId) (o : Op) (before : List Happening) : Type 0 where
   pub begun : IsOpen line before
   pub why : Reason
   pub next : Answer → Plan
@@ -232,35 +232,36 @@ pub record StandsAt (homes : ℕ → SiteId) (line : ℕ) (s : SiteId) (o : Op) 
 -- For whom a slot wants an operation when its instance is stopped: the command of a line that is
 -- lost, which stands there, itself or on its way to the lock; or, at slot 0, the house.
 abbrev pub IsWantedFor : (homes : ℕ → SiteId) → (lost : List ℕ) → (slot : ℕ) → SiteId → Op → Doer → (before : List Happening) → Type 0
-IsWantedFor homes lost slot s o (Itself line) before = (is_among line lost ≡ true) × StandsAt homes line s o before
-IsWantedFor homes lost slot s o (OnWay line) before = (is_among line lost ≡ true) × StandsAtLook homes line s before
+IsWantedFor homes lost slot s o (Itself line) before = (is_line_among line lost ≡ true) × AsksFor homes line s o before
+IsWantedFor homes lost slot s o (OnWay line) before = (is_line_among line lost ≡ true) × StandsAtLook homes line s before
 IsWantedFor homes lost slot s o House before = slot ≡ 0
 IsWantedFor homes lost slot s o (AfterStop there) before = ⊥
 
 -- What a slot wanted then, which may still come: an operation of the instance, the next of whom it
 -- is wanted for.
-pub record IsLeft (homes : ℕ → SiteId) (who : Instance) (lost : List ℕ) (slot : ℕ) (s : SiteId) (o : Op) (by : Doer) (before : List Happening) : Type 0 where
+pub record IsStillSent (homes : ℕ → SiteId) (who : Instance) (lost : List ℕ) (slot : ℕ) (s : SiteId) (o : Op) (by : Doer) (before : List Happening) : Type 0 where
   pub wanted : IsWantedFor homes lost slot s o by before
   pub whose : IsOf by who s o before
   pub next : IsNextOf by who s o before
 
--- What a slot wants where its instance is stopped: to take a lock only behind a watch that the
--- instance didn't end itself since, and to end its own watch of an image only where the lock isn't
--- its own, and no other slot wants to take that.
+-- What a slot may want where its instance is stopped: to take a lock only after a watch that the
+-- instance didn't end itself since; and to end its own watch of an image only where the lock isn't
+-- its own, and no other slot wants to take that lock.
 pub record SendsRightly (who : Instance) (wanted : List (Option (SiteId × Op))) (before : List Happening) : Type 0 where
   pub takes : (slot : ℕ) (s : SiteId) (o : Op) → held_in slot wanted ≡ Some (s, o) → TakesBehindWatch who s o before
   pub unowned : (slot : ℕ) (s : SiteId) (image : ℕ) → held_in slot wanted ≡ Some (s, unwatch image) → HasLock image who (records_after s before) → ⊥
   pub lone : (slot there : ℕ) (s : SiteId) (image : ℕ) → held_in slot wanted ≡ Some (s, unwatch image) → held_in there wanted ≡ Some (s, lock_take image) → ⊥
 
--- Just the lines of an instance that runs are lost that have no reply, in their order. What each
--- slot wanted is kept, as that of one line or of the house, no line's twice; and it may still come.
+-- The lost lines are those of the instance that have no reply, in their order, and the instance
+-- ran. What each slot wanted is kept, for one line or for the house, and twice for no line; and it
+-- may still come.
 pub record IsStop (homes : ℕ → SiteId) (who : Instance) (wanted : List (Option (SiteId × Op))) (lost : List ℕ) (before : List Happening) : Type 0 where
   pub runs : IsRunning who before
-  pub each : (line : ℕ) → is_among line lost ≡ true → IsLostOf homes who line before
-  pub all : (line : ℕ) → (begun : IsOpen line before) → begun.asked.who ≡ who → is_among line lost ≡ true
+  pub each : (line : ℕ) → is_line_among line lost ≡ true → IsLostOf homes who line before
+  pub all : (line : ℕ) → (begun : IsOpen line before) → begun.asked.who ≡ who → is_line_among line lost ≡ true
   pub ascends : IsStrictlyIncreasing lost
   pub by : (slot : ℕ) → Doer
-  pub left : (slot : ℕ) (w : SiteId × Op) → held_in slot wanted ≡ Some w → IsLeft homes who lost slot w.0 w.1 (by slot) before
+  pub left : (slot : ℕ) (w : SiteId × Op) → held_in slot wanted ≡ Some w → IsStillSent homes who lost slot w.0 w.1 (by slot) before
   pub apart : (line slot there : ℕ) → is_for line (by slot) ≡ true → is_for line (by there) ≡ true → slot ≡ there
   pub sends : SendsRightly who wanted before
 
@@ -279,8 +280,8 @@ pub record IsBegin (asked : Asked) (before : List Happening) : Type 0 where
 
 abbrev pub IsDue : (homes : ℕ → SiteId) → Happening → (before : List Happening) → Type 0
 IsDue homes (Began asked slot) before = IsBegin asked before
-IsDue homes (Did o None) before = IsDone o before × GoesOnBehind homes o.site o.by before
-IsDue homes (Did o (Some reply)) before = IsDone o before × EndsWith homes o reply before o.by
+IsDue homes (Did o None) before = IsRightlyDone o before × LineGoesOn homes o.site o.by before
+IsDue homes (Did o (Some reply)) before = IsRightlyDone o before × EndsItsLine homes o reply before o.by
 IsDue homes (Refused s line reply) before = IsReplyMeant homes line reply before (Refused s line reply ∷ before)
 IsDue homes (Trimmed s number image object) before = IsTrimmed s number image object before
 IsDue homes (Expired s number image who) before = IsExpired s number image who before
@@ -289,19 +290,19 @@ IsDue homes (Stopped who wanted lost) before = IsStop homes who wanted lost befo
 IsDue homes (Restarted who) before = IsRestart who before
 IsDue homes h before = Unit {0}
 
--- The site stands for its flat site, no image has a parent, each has its object maps, which cover
--- its objects, and headers are in form.
+-- The site's records stand for its flat site. No image has a parent, each has its object maps,
+-- which cover its objects, and headers are in form.
 pub record IsStanding (s : SiteId) (run : List Happening) : Type 0 where
   pub stands : StandsFor [] (records_after s run) (flat_after s run)
   pub standalone : AreStandalone (records_after s run)
   pub mapped : AreMapped (records_after s run)
   pub form : AreInForm (records_after s run) (length (log_of s run))
 
--- both sites do
+-- so it is at both sites
 abbrev pub AreStanding : List Happening → Type 0
 AreStanding run = (s : SiteId) → IsStanding s run
 
--- so it is at each place of the run
+-- each happening of the run was right where it happened
 abbrev pub IsRight : (homes : ℕ → SiteId) → List Happening → Type 0
 IsRight homes [] = AreStanding []
 IsRight homes (h ∷ run) = AreStanding (h ∷ run) × IsDue homes h run × IsRight homes run
@@ -337,7 +338,7 @@ IsHeldRightly stands seat who run None = Unit {0}
 IsHeldRightly stands seat who run (Some (occupant.Refused line refusal)) = IsRefusedAtOnce seat who run line refusal
 IsHeldRightly stands seat who run (Some (occupant.Running r)) = IsUnderWay stands seat who run r
 
--- what the request in a slot knows is what a walk of its command taught
+-- the request in a slot knows what a walk of its command taught
 pub record HasLearned {R : Type 0} (stands : R → Standing) (run : List Happening) (r : Running R) (k : Knowledge) : Type 0 where
   pub begun : IsOpen r.line run
   pub seat : Seat
@@ -352,12 +353,12 @@ abbrev pub HasLearnedIf : {R : Type 0} → (stands : R → Standing) → List Ha
 HasLearnedIf stands run None k = Unit {0}
 HasLearnedIf stands run (Some r) k = HasLearned stands run r k
 
--- the state of its slot goes with the operations on its way
+-- the state of a slot agrees with the operations on its request's way
 abbrev pub KeepsToItsWay : {R : Type 0} → (stands : R → Standing) → List Happening → Way → Option (Running R) → Type 0
 KeepsToItsWay stands run w None = Unit {0}
-KeepsToItsWay stands run w (Some r) = GoesWith (stands r.request).plan w (way_of r.line run)
+KeepsToItsWay stands run w (Some r) = AgreesWithWay (stands r.request).plan w (way_of r.line run)
 
--- the client of the life that runs
+-- what holds of the client of a life that runs
 pub record IsLiving {R : Type 0} (stands : R → Standing) (home : SiteId) (session : ℕ) (run : List Happening) (knows : (slot : ℕ) → Knowledge) (c : ClientView R) : Type 0 where
   pub whose : c.session.instance.session ≡ session
   pub runs : IsRunning c.session.instance run
@@ -365,7 +366,7 @@ pub record IsLiving {R : Type 0} (stands : R → Standing) (home : SiteId) (sess
   pub sound : IsSoundClient stands c
   pub know : AllKnow stands knows c.session
   pub held : (slot : ℕ) → IsHeldRightly stands (seat_of_home session home) c.session.instance run (held_in slot c.session.slots)
-  pub ways : (slot : ℕ) → KeepsToItsWay stands run (state_in slot c.slots).way (running_at slot c.session)
+  pub ways : (slot : ℕ) → KeepsToItsWay stands run (slot_state slot c.slots).way (running_at slot c.session)
   pub learned : (slot : ℕ) → HasLearnedIf stands run (running_at slot c.session) (knows slot)
   pub releases : c.release ≡ release_of c.session.instance run
   pub watches : CountsItsWatches c.session.instance run c
@@ -373,8 +374,8 @@ pub record IsLiving {R : Type 0} (stands : R → Standing) (home : SiteId) (sess
 
 -- ---- what a stopped life may still send
 
--- It is of an earlier life, permitted by what is known, which is true; and who knows a header has
--- the lock of its image.
+-- The operation is of an earlier life. What that life knows is true and permits it; and if that
+-- life knows a header, it has the lock of the image.
 pub record MayStillCome (session : ℕ) (r : SiteId → Records) (x : Sent) (k : Knowledge) : Type 0 where
   pub whose : x.instance.session ≡ session
   pub permits : Permits k x.site x.op
@@ -392,8 +393,8 @@ abbrev pub line_at : {R : Type 0} → (session slot : ℕ) → List (LivesView R
 line_at session slot lives = script_line (held_of slot (session_in session lives))
 
 -- a line is in one slot
-abbrev pub AreApart : {R : Type 0} → List (LivesView R) → Type 0
-AreApart lives = (line session slot other there : ℕ) → line_at session slot lives ≡ Some line → line_at other there lives ≡ Some line
+abbrev pub AreLinesApart : {R : Type 0} → List (LivesView R) → Type 0
+AreLinesApart lives = (line session slot other there : ℕ) → line_at session slot lives ≡ Some line → line_at other there lives ≡ Some line
     → (session ≡ other) × (slot ≡ there)
 
 -- the line is in a slot of a session
@@ -402,7 +403,7 @@ pub record IsInSlot {R : Type 0} (line : ℕ) (lives : List (LivesView R)) : Typ
   pub slot : ℕ
   pub is : line_at session slot lives ≡ Some line
 
--- so is each that was begun, has no reply yet and isn't lost
+-- each line that was begun, has no reply yet and isn't lost is in a slot of a session
 abbrev pub AreInSlots : {R : Type 0} → List Happening → List (LivesView R) → Type 0
 AreInSlots run lives = (line : ℕ) → IsOpen line run → IsInSlot line lives
 
@@ -412,7 +413,7 @@ pub data Holder : Type 0 where
   InSlot : (session slot : ℕ) → Holder
   Sending : (session slot : ℕ) → Holder
 
--- of two that are not requests of one client
+-- two holders that aren't requests of one client
 abbrev pub AreStrangers : Holder → Holder → Type 0
 AreStrangers (InSlot one slot) (InSlot other there) = one ≢ other
 AreStrangers (Sending one slot) (Sending other there) = (one ≢ other) ⊎ (slot ≢ there)
@@ -432,8 +433,9 @@ pub record AreLivesOf {R : Type 0} (run : List Happening) (home : SiteId) (sessi
   pub most : (v : LateView) → l.late ≡ Some v → v.instance.life ≤ l.latest.life
   pub older : (v : LateView) → l.late ≡ Some v → (c : ClientView R) → l.running ≡ Some c → v.instance.life < l.latest.life
 
--- What is promised of a world: all that happened to it is one run, which is right at each place. Its
--- calls, history, logs, records and mail are those of the run, and so are the lives of its sessions.
+-- What is promised of a world: all that happened to it is one run, which is right at each place.
+-- Its calls, history, logs, records and mail are those of the run, and so are the lives of its
+-- sessions.
 pub record HasRun {R : Type 0} (w : WorldView R) : Type 0 where
   -- what was done, and the home of each session
   pub run : List Happening
@@ -447,7 +449,7 @@ pub record HasRun {R : Type 0} (w : WorldView R) : Type 0 where
   pub mail : w.sites.mail ≡ mail_of run
   pub lives : (session : ℕ) (l : LivesView R) → lives_in session w.lives ≡ Some l → AreLivesOf run (homes session) session l
   -- where nobody was stopped or fenced, maps tell exactly what exists, but for what lines owe
-  pub exact : IsUnhindered run → (s : SiteId) → IsExactBut (IsOwed (owed_in run) s) (records_in s w.sites)
+  pub exact : HasNoHindrance run → (s : SiteId) → IsExactBut (IsOwed (owed_in run) s) (records_in s w.sites)
   -- the writes of each instance change an image in the order in which they found it
   pub order : KeepsOrder run
 
@@ -465,7 +467,7 @@ pub record IsSoundWorld {R : Type 0} (stands : R → Standing) (w : WorldView R)
   pub clients : (session : ℕ) (c : ClientView R) → client_in session w.lives ≡ Some c → IsLiving stands (told.homes session) session told.run (known_in knows session) c
   pub in_slots : (session slot : ℕ) (c : ClientView R) → client_in session w.lives ≡ Some c → who (InSlot session slot) ≡ c.session.instance
   pub nobody : (session : ℕ) → client_in session w.lives ≡ None → (slot : ℕ) → knows (InSlot session slot) ≡ nothing_known
-  pub apart : AreApart w.lives
+  pub apart : AreLinesApart w.lives
   pub slots : AreInSlots told.run w.lives
   -- what a client knows, and counts of its locks, is true
   pub truth : (session : ℕ) (c : ClientView R) → client_in session w.lives ≡ Some c → (s : SiteId)
@@ -484,7 +486,7 @@ pub record IsSoundWorld {R : Type 0} (stands : R → Standing) (w : WorldView R)
   -- no two that aren't of one client are in each other's way
   pub beside : (h g : Holder) → AreStrangers h g → (s : SiteId) → AreBeside s (records_in s w.sites) (who h) (who g) (knows h) (knows g)
   -- requests stand in the order in which they found their image
-  pub in_order : (session : ℕ) (c : ClientView R) → client_in session w.lives ≡ Some c → IsInOrder stands (told.homes session) c.session.instance told.run c.session
+  pub in_order : (session : ℕ) (c : ClientView R) → client_in session w.lives ≡ Some c → AreWritesInOrder stands (told.homes session) c.session.instance told.run c.session
 
 -- ---- a new world
 
@@ -521,6 +523,6 @@ pub record IsNewWorld {R : Type 0} (stands : R → Standing) (w : WorldView R) :
   pub calls : w.calls ≡ []
 
 -- a world beside its table of the lines that were begun
-pub record IsKept {R : Type 0} (stands : R → Standing) (b : BegunLines) (w : WorldView R) : Type 0 where
+pub record IsKeptWorld {R : Type 0} (stands : R → Standing) (b : BegunLines) (w : WorldView R) : Type 0 where
   pub sound : IsSoundWorld stands w
   pub lines : (line : ℕ) → has_line line b ≡ is_begun line w.history

@@ -4,7 +4,7 @@ use Rattle.std.specs.List.{list_any, flat_map, range_with_len}
 use Rattle.rbd_client.specs.declared.actor.Actor.{Actor}
 use Rattle.rbd_client.specs.declared.actor.Actor.TheVariants as actor
 use Rattle.rbd_client.specs.Actor.{actor_at, op_wanted}
-use Rattle.rbd_client.specs.Client.{ClientView, heard_with, newcomer, state_in}
+use Rattle.rbd_client.specs.Client.{ClientView, heard_with, newcomer, slot_state}
 use Rattle.rbd_client.specs.Feeding.{DropsAtRest, IsClientAlike, IsFedBy}
 use Rattle.rbd_client.specs.Sound.{IsSoundClient}
 use Rattle.rbd_commands.specs.declared.command.Command.{Command}
@@ -21,27 +21,27 @@ use Rattle.rbd_kinds.specs.declared.operation.Op.{Op}
 use Rattle.rbd_kinds.specs.declared.reply.Reply.{Reply}
 use Rattle.rbd_kinds.specs.declared.reply.Reply.TheVariants as reply
 use Rattle.rbd_kinds.specs.Instances.{same_instance}
-use Rattle.rbd_locks.specs.Locks.{heard, state_at}
-use Rattle.rbd_locks.specs.States.{blank as unknown}
+use Rattle.rbd_lock.specs.Locks.{heard, lock_state_at}
+use Rattle.rbd_lock.specs.States.{blank_state as unknown}
 use Rattle.rbd_machine.specs.Answers.{CanGive}
 use Rattle.rbd_machine.specs.Label.{Label, Lock}
 use Rattle.rbd_machine.specs.Path.{at_operation}
 use Rattle.rbd_machine.specs.Plan.{Plan, Ask, Return, Goto, Standing, plan_after}
-use Rattle.rbd_owner.specs.Acquire.{op_of, rest_of_acquire}
-use Rattle.rbd_owner.specs.declared.acquire.Acquire.{Acquire}
-use Rattle.rbd_owner.specs.declared.release.Release.{Release}
-use Rattle.rbd_owner.specs.Release.{release_op}
-use Rattle.rbd_rely.specs.Truth.{changed_by}
-use Rattle.rbd_requests.specs.Plans.{IsPlanFor, is_built}
-use Rattle.rbd_requests.specs.Profile.{changed_extent}
-use Rattle.rbd_session.specs.declared.running.Occupant.{Occupant}
-use Rattle.rbd_session.specs.declared.running.Occupant.TheVariants as occupant
-use Rattle.rbd_session.specs.declared.running.Running.{Running}
-use Rattle.rbd_session.specs.Advance.{track_of}
-use Rattle.rbd_session.specs.Lines.{lines_of}
-use Rattle.rbd_session.specs.OnTrack.{LeavesOthers}
-use Rattle.rbd_session.specs.Session.{SessionView, IsNewcomer, held_in, script_line, seat_of}
-use Rattle.rbd_session.specs.Waits.{waits}
+use Rattle.rbd_lock.specs.Acquire.{op_of, rest_of_acquire}
+use Rattle.rbd_lock.specs.declared.acquire.Acquire.{Acquire}
+use Rattle.rbd_lock.specs.declared.release.Release.{Release}
+use Rattle.rbd_lock.specs.Release.{release_op}
+use Rattle.rbd_interference.specs.Truth.{changed_by}
+use Rattle.rbd_catalog.specs.Plans.{IsPlanFor, is_built}
+use Rattle.rbd_catalog.specs.Profile.{changed_extent}
+use Rattle.rbd_slots.specs.declared.running.Occupant.{Occupant}
+use Rattle.rbd_slots.specs.declared.running.Occupant.TheVariants as occupant
+use Rattle.rbd_slots.specs.declared.running.Running.{Running}
+use Rattle.rbd_slots.specs.Advance.{track_of}
+use Rattle.rbd_slots.specs.Lines.{lines_of}
+use Rattle.rbd_slots.specs.OnTrack.{LeavesOthers}
+use Rattle.rbd_slots.specs.Session.{SessionView, IsNewcomer, held_in, script_line, seat_of}
+use Rattle.rbd_slots.specs.Waits.{waits}
 use Rattle.rbd_site.specs.InForm.{AreInForm}
 use Rattle.rbd_site.specs.Log.{SiteLog, records_of}
 use Rattle.rbd_site.specs.Step.{MayDo, after, answer_to, mail_after}
@@ -49,7 +49,7 @@ use Rattle.rbd_site.specs.declared.done.Done.{Done}
 use Rattle.rbd_site.specs.declared.done.DoneOp.TheVariants as done
 use Rattle.rbd_stands.specs.Effect.{effect_of}
 use Rattle.rbd_stands.specs.Site.{StandsFor}
-use Rattle.rbd_watch.specs.Posting.{numbered}
+use Rattle.rbd_watch.specs.Posting.{notice_numbered}
 use Rattle.rbd_watch.specs.Watching.{oldest_of}
 use Rattle.rbd_world.specs.Begun.{has_line}
 use Rattle.rbd_world.specs.declared.begun.BegunLines.{BegunLines}
@@ -88,28 +88,30 @@ reply_at plan = None
 abbrev pub reply_on_way : Acquire → Answer → Option Reply
 reply_on_way a told = reply_at (plan_after (rest_of_acquire a (Goto Lock)) (fed.Answer told))
 
--- a request does the operation that it wants, and ends where its plan does behind the answer
+-- what happens when a request does the operation that it wants: it has its reply where its plan
+-- ends after the answer
 abbrev pub done_by : Sites → Instance → (line : ℕ) → (labels : Label → Plan) → Plan → Happening
 done_by sites who line labels (Ask s why o next) =
     Did (operation_at (site_in s sites) who (Itself line) s o) (reply_at (at_operation labels (next (answer_to (records_in s sites) who o))))
 done_by sites who line labels plan = Nothing
 
--- its way to the lock goes on, or it is refused there
+-- what happens when its way to the lock does an operation: the way goes on, or the request is
+-- refused there
 abbrev pub gone_by : Sites → Instance → (line : ℕ) → Acquire → Happening
 gone_by sites who line a =
     Did (operation_at (site_in a.site sites) who (OnWay line) a.site (op_of a)) (reply_on_way a (answer_to (records_in a.site sites) who (op_of a)))
 
--- a lock is let go
-abbrev pub released_by : Sites → Instance → Release → Happening
-released_by sites who r = Did (operation_at (site_in r.site sites) who House r.site (release_op r)) None
+-- what happens when a release does an operation
+abbrev pub release_done : Sites → Instance → Release → Happening
+release_done sites who r = Did (operation_at (site_in r.site sites) who House r.site (release_op r)) None
 
--- at slot 0, where no request ever is
+-- what happens at slot 0, where no request ever is
 abbrev pub releases : Sites → Instance → Actor → Happening
-releases sites who (actor.Release r) = released_by sites who r
+releases sites who (actor.Release r) = release_done sites who r
 releases sites who acts = Waited
 
 module _ {R : Type 0} (stands : R → Standing) where
-  -- in a slot with a request
+  -- what happens in a slot with a request
   abbrev pub goes_on_by : Sites → ClientView R → (slot : ℕ) → Running R → Actor → Happening
   goes_on_by sites c slot r actor.Nobody = Waited
   goes_on_by sites c slot r actor.Request =
@@ -140,7 +142,7 @@ is_begun line history = list_any (is_start_of line) history
 abbrev pub begins_of : Instance → (line : ℕ) → Command → Asked
 begins_of who line c = record { who = who; line = line; command = c }
 
--- where its line is new, and a slot is free
+-- what a submission does where its line is new and a slot is free
 abbrev pub submitted : {R : Type 0} → (is_begun : Bool) → (line : ℕ) → Command → Option (ClientView R) → Happening
 submitted begun line c None = Nothing
 submitted begun line c (Some client) =
@@ -152,7 +154,7 @@ abbrev pub heard_by : {R : Type 0} → Notice → Option (ClientView R) → Happ
 heard_by notice None = Nothing
 heard_by notice (Some c) = if same_instance c.session.instance notice.to then Heard notice else Nothing
 
--- where it is there, and the instance that it is for runs
+-- what a delivery does where the notice is there and the instance that it is for runs
 abbrev pub delivered : {R : Type 0} → Option Notice → List (LivesView R) → Happening
 delivered None lives = Nothing
 delivered (Some notice) lives = heard_by notice (client_in notice.to.session lives)
@@ -187,9 +189,9 @@ abbrev pub ascending : List ℕ → List ℕ
 ascending [] = []
 ascending (line ∷ lines) = insert_line line (ascending lines)
 
-abbrev pub listed : Option ℕ → List ℕ
-listed None = []
-listed (Some line) = line ∷ []
+abbrev pub line_or_none : Option ℕ → List ℕ
+line_or_none None = []
+line_or_none (Some line) = line ∷ []
 
 -- each slot by its number, slot 0 too
 abbrev pub all_slots : List ℕ
@@ -197,18 +199,18 @@ all_slots = range_with_len 0 65
 
 module _ {R : Type 0} (stands : R → Standing) where
   -- what each slot wants
-  abbrev pub wanted_by : ClientView R → List (Option (SiteId × Op))
-  wanted_by c = map (λ slot. op_wanted stands slot c) all_slots
+  abbrev pub wanted_in_slots : ClientView R → List (Option (SiteId × Op))
+  wanted_in_slots c = map (λ slot. op_wanted stands slot c) all_slots
 
-  -- its lines that have no reply yet, in their order
+  -- the lines of a stopped instance that have no reply yet, in their order
   abbrev pub lost_by : ClientView R → List ℕ
-  lost_by c = ascending (flat_map (λ slot. listed (script_line (held_in slot c.session.slots))) all_slots)
+  lost_by c = ascending (flat_map (λ slot. line_or_none (script_line (held_in slot c.session.slots))) all_slots)
 
   abbrev pub stopped : Option (ClientView R) → Happening
   stopped None = Nothing
-  stopped (Some c) = Stopped c.session.instance (wanted_by c) (lost_by c)
+  stopped (Some c) = Stopped c.session.instance (wanted_in_slots c) (lost_by c)
 
--- what a slot wanted comes
+-- what happens when what a slot of a stopped life wanted comes
 abbrev pub come : Sites → (slot : ℕ) → Option Sent → Happening
 come sites slot None = Nothing
 come sites slot (Some x) = Did (operation_at (site_in x.site sites) x.instance (AfterStop slot) x.site x.op) None
@@ -231,11 +233,11 @@ restarted (Some l) = restarted_of l.latest l.running
 
 -- ---- any event
 
--- what it does: a function of the lines that were begun, the sites and the sessions
+-- what an event does, as a function of the lines that were begun, the sites and the sessions
 abbrev pub happens : {R : Type 0} → (stands : R → Standing) → Event → (begun : (line : ℕ) → Bool) → Sites → List (LivesView R) → Happening
 happens stands (event.Submit session line c) begun sites lives = submitted (begun line) line c (client_in session lives)
 happens stands (event.Poll session slot) begun sites lives = polled stands sites slot (client_in session lives)
-happens stands (event.Deliver number) begun sites lives = delivered (numbered number sites.mail) lives
+happens stands (event.Deliver number) begun sites lives = delivered (notice_numbered number sites.mail) lives
 happens stands (event.Expire session s image) begun sites lives = expired_at sites session s image
 happens stands (event.Stop session) begun sites lives = stopped stands (client_in session lives)
 happens stands (event.Late session slot) begun sites lives = come sites slot (late_at session slot lives)
@@ -255,11 +257,11 @@ pub record IsSameClient {R : Type 0} (old new : SessionView R) : Type 0 where
   pub instance : new.instance ≡ old.instance
   pub home : new.home ≡ old.home
 
--- what is kept of the other slots stays
+-- what the client keeps of the other slots stays
 abbrev pub AreStatesBut : {R : Type 0} → (slot : ℕ) → (old new : ClientView R) → Type 0
-AreStatesBut slot old new = (other : ℕ) → other ≢ slot → state_in other new.slots ≡ state_in other old.slots
+AreStatesBut slot old new = (other : ℕ) → other ≢ slot → slot_state other new.slots ≡ slot_state other old.slots
 
--- what it counts of locks, a release under way, and what it heard
+-- what a client counts of locks, its release under way and what it heard are as they were
 pub record IsSameHouse {R : Type 0} (old new : ClientView R) : Type 0 where
   pub locks : new.locks ≡ old.locks
   pub release : new.release ≡ old.release
@@ -270,7 +272,7 @@ pub record IsFresh {R : Type 0} (stands : R → Standing) (who : Instance) (home
   pub instance : c.session.instance ≡ who
   pub at_home : c.session.home ≡ home
   pub slots : (slot : ℕ) → held_in slot c.session.slots ≡ None
-  pub locks : (s : SiteId) (image : ℕ) → state_at s image c.locks ≡ unknown
+  pub locks : (s : SiteId) (image : ℕ) → lock_state_at s image c.locks ≡ unknown
   pub release : c.release ≡ None
   pub heard : c.heard ≡ []
   pub sound : IsSoundClient stands c
@@ -285,7 +287,7 @@ module _ {R : Type 0} (stands : R → Standing) where
 
   pub record BeginsIn (line : ℕ) (c : Command) (old new : ClientView R) : Type 0 where
     pub begins : Begins line c old.session new.session
-    pub state : state_in old.session.lowest new.slots ≡ newcomer (quiescing_of c)
+    pub state : slot_state old.session.lowest new.slots ≡ newcomer (quiescing_of c)
     pub states : AreStatesBut old.session.lowest old new
     pub house : IsSameHouse old new
 
@@ -307,12 +309,12 @@ module _ {R : Type 0} (stands : R → Standing) where
     pub client : IsSameClient old.session new.session
     pub house : IsSameHouse old new
 
-  -- it hears a notice
+  -- the client has heard the notice
   pub record Hears (notice : Notice) (old new : ClientView R) : Type 0 where
     pub session : new.session ≡ old.session
     pub slots : new.slots ≡ old.slots
     pub release : new.release ≡ old.release
-    pub locks : (s : SiteId) (image : ℕ) → state_at s image new.locks ≡ heard notice s image (state_at s image old.locks)
+    pub locks : (s : SiteId) (image : ℕ) → lock_state_at s image new.locks ≡ heard notice s image (lock_state_at s image old.locks)
     pub told : new.heard ≡ heard_with notice old.heard
 
   abbrev pub Becomes : Event → Happening → (old new : ClientView R) → Type 0
@@ -322,7 +324,7 @@ module _ {R : Type 0} (stands : R → Standing) where
   Becomes (event.Deliver number) (Heard notice) old new = Hears notice old new
   Becomes e h old new = new ≡ old
 
-  -- of one that runs, or of none
+  -- what becomes of the client that the event names, of one that runs or of none
   abbrev pub BecomesOf : Event → Happening → (old new : Option (ClientView R)) → Type 0
   BecomesOf e h None new = new ≡ None
   BecomesOf e h (Some old) None = ⊥
@@ -332,7 +334,7 @@ module _ {R : Type 0} (stands : R → Standing) where
   IsFreshIf who home None = ⊥
   IsFreshIf who home (Some c) = IsFresh stands who home c
 
-  -- a stopped one is gone, and a restarted one is fresh
+  -- what becomes of a session's client: a stopped session has none, and a restarted one a new one
   abbrev pub RunsOn : Event → Happening → SiteId → (old new : Option (ClientView R)) → Type 0
   RunsOn e (Stopped who wanted lost) home old new = new ≡ None
   RunsOn e (Restarted who) home old new = IsFreshIf who home new
@@ -344,7 +346,7 @@ abbrev pub latest_behind : Happening → Instance → Instance
 latest_behind (Restarted who) latest = who
 latest_behind h latest = latest
 
--- what a slot wanted has come
+-- without what a slot wanted, once that has come
 abbrev pub without_sent : (slot : ℕ) → Option LateView → Option LateView
 without_sent slot None = None
 without_sent slot (Some l) = Some (record { instance = l.instance; wanted = slice_set l.wanted slot None })
@@ -384,8 +386,8 @@ names_session (event.Trim s image object) h session = false
 
 -- ---- the whole step
 
-abbrev pub with_lines : List Done → SiteLog → SiteLog
-with_lines lines s = record s { log = s.log ++ lines }
+abbrev pub with_log_lines : List Done → SiteLog → SiteLog
+with_log_lines lines s = record s { log = s.log ++ lines }
 
 abbrev pub call_of : Event → Happening → Call
 call_of e h = record { event = e; outcome = outcome_of h }
@@ -401,13 +403,13 @@ module _ {R : Type 0} (stands : R → Standing) where
   pub record Does (e : Event) (h : Happening) (old new : WorldView R) : Type 0 where
     pub calls : new.calls ≡ old.calls ++ call_of e h ∷ []
     pub history : new.history ≡ old.history ++ entries_of h
-    pub sites : (s : SiteId) → site_in s new.sites ≡ with_lines (lines_at s h) (site_in s old.sites)
+    pub sites : (s : SiteId) → site_in s new.sites ≡ with_log_lines (lines_at s h) (site_in s old.sites)
     pub mail : new.sites.mail ≡ mail_then h old.sites
     pub named : (session : ℕ) → names_session e h session ≡ true → LivesOnIf stands e h (lives_in session old.lives) (lives_in session new.lives)
     pub others : (session : ℕ) → names_session e h session ≡ false → lives_in session new.lives ≡ lives_in session old.lives
 
-  abbrev pub IsStep : Event → (old : WorldView R) → Outcome → (new : WorldView R) → Type 0
-  IsStep e old result new = (result ≡ outcome_of (happening stands e old)) × Does e (happening stands e old) old new
+  abbrev pub IsWorldStep : Event → (old : WorldView R) → Outcome → (new : WorldView R) → Type 0
+  IsWorldStep e old result new = (result ≡ outcome_of (happening stands e old)) × Does e (happening stands e old) old new
 
   -- a step that is refused memory: all is as it was, but for what a client is ready for
   abbrev pub IsClientAlikeIf : (old new : Option (ClientView R)) → Type 0
@@ -434,15 +436,15 @@ module _ {R : Type 0} (stands : R → Standing) where
 
 -- ---- on its parts
 
--- what it does to one site, and what holds of it again
+-- what an event does to one site, and what holds of the site again
 pub record DoesAt (s : SiteId) (h : Happening) (old new : SiteLog) : Type 0 where
-  pub site : new ≡ with_lines (lines_at s h) old
+  pub site : new ≡ with_log_lines (lines_at s h) old
   pub records : records_of new ≡ records_behind s (records_of old) h
   pub form : AreInForm (records_of old) (length old.log) → AreInForm (records_of new) (length new.log)
 
--- so to both sites, and to the mail
+-- what an event does to both sites and to the mail
 pub record DoesAtSites (h : Happening) (old new : Sites) : Type 0 where
-  pub sites : (s : SiteId) → site_in s new ≡ with_lines (lines_at s h) (site_in s old)
+  pub sites : (s : SiteId) → site_in s new ≡ with_log_lines (lines_at s h) (site_in s old)
   pub records : (s : SiteId) → records_in s new ≡ records_behind s (records_in s old) h
   pub form : (s : SiteId) → AreInForm (records_in s old) (length (site_in s old).log) → AreInForm (records_in s new) (length (site_in s new).log)
   pub mail : new.mail ≡ mail_then h old
@@ -460,7 +462,7 @@ pub record IsPermitted (sites : Sites) (who : Instance) (s : SiteId) (o : Op) : 
   pub steps : (f : Flat) → StandsFor [] (records_in s sites) f
       → StandsFor [] (after (records_in s sites) who o) (changed_by f (effect_of (records_in s sites) (done.Op o) (answer_to (records_in s sites) who o)))
 
--- so it is with what may still come
+-- what a slot of a stopped life may still send may be done as well
 abbrev pub MayCome : Sites → Option Sent → Type 0
 MayCome sites None = Unit {0}
 MayCome sites (Some x) = IsPermitted sites x.instance x.site x.op
@@ -481,7 +483,7 @@ module _ {R : Type 0} (stands : R → Standing) where
     pub alike : (session : ℕ) → IsAlikeOf stands (lives_in session old) (lives_in session new)
     pub sound : (session : ℕ) → IsSoundIf (client_in session old) → IsSoundIf (client_in session new)
 
-  -- so it is with the wanted operation of a slot that may go on
+  -- what a slot wants that may go on is permitted at its site
   abbrev pub WantsWhatItMay : Sites → (slot : ℕ) → ClientView R → Type 0
   WantsWhatItMay sites slot c = (s : SiteId) (o : Op) → op_wanted stands slot c ≡ Some (s, o) → IsPermitted sites c.session.instance s o
 

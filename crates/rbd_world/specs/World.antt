@@ -10,21 +10,21 @@ use Rattle.rbd_kinds.specs.declared.notice.Notice.{Notice}
 use Rattle.rbd_kinds.specs.declared.operation.Op.{Op}
 use Rattle.rbd_kinds.specs.declared.operation_kind.OpKind.{OpKind}
 use Rattle.rbd_machine.specs.Plan.{Standing}
-use Rattle.rbd_session.specs.Session.{SessionView, free_slot, held_in}
+use Rattle.rbd_slots.specs.Session.{SessionView, free_slot, held_in}
 use Rattle.rbd_site.specs.Log.{SiteLog, records_of}
 use Rattle.rbd_site.specs.Records.{Records}
 use Rattle.rbd_world.specs.Run.{Sent, sent_of}
 use Rattle.rbd_world.specs.declared.event.Call.{Call}
 use Rattle.rbd_world.specs.declared.sites.Sites.{Sites}
 
--- operations in flight when the instance stopped: what each of its slots wanted then, where it hasn't
--- come yet
+-- operations in flight when the instance stopped: what each of its slots wanted then, where it
+-- hasn't come yet
 pub record LateView : Type 0 where
   pub instance : Instance
   pub wanted : List (Option (SiteId × Op))
 
--- The lives of a session, at its home: the latest one, its client as long as it runs, and what the
--- one that was stopped last may still send.
+-- The lives of a session at its home: the latest one, its client while it runs, and what the life
+-- that was stopped last may still send.
 pub record LivesView (R : Type 0) : Type 0 where
   pub home : SiteId
   pub latest : Instance
@@ -66,15 +66,15 @@ late_of (Some l) = l.late
 abbrev pub client_in : {R : Type 0} → (session : ℕ) → List (LivesView R) → Option (ClientView R)
 client_in session lives = running_of (lives_in session lives)
 
-abbrev pub session_of : {R : Type 0} → Option (ClientView R) → Option (SessionView R)
-session_of None = None
-session_of (Some c) = Some c.session
+abbrev pub session_of_client : {R : Type 0} → Option (ClientView R) → Option (SessionView R)
+session_of_client None = None
+session_of_client (Some c) = Some c.session
 
--- its requests
+-- the requests of a session that is there and runs
 abbrev pub session_in : {R : Type 0} → (session : ℕ) → List (LivesView R) → Option (SessionView R)
-session_in session lives = session_of (client_in session lives)
+session_in session lives = session_of_client (client_in session lives)
 
--- what a slot of it may still send
+-- what a slot of a session may still send of its stopped life
 abbrev pub sent_in : (slot : ℕ) → Option LateView → Option Sent
 sent_in slot None = None
 sent_in slot (Some l) = sent_of l.instance (held_in slot l.wanted)
@@ -87,7 +87,7 @@ abbrev pub free_in : {R : Type 0} → Option (ClientView R) → Option ℕ
 free_in None = None
 free_in (Some c) = free_slot c.session.lowest
 
--- the kind of the operation that is wanted at a slot
+-- the kind of a slot's next operation
 abbrev pub kind_in : {R : Type 0} → (stands : R → Standing) → (slot : ℕ) → Option (ClientView R) → Option (SiteId × OpKind)
 kind_in stands slot None = None
 kind_in stands slot (Some c) = kind_wanted stands slot c

@@ -1,9 +1,9 @@
 //! The lines that were begun.
 ghost use Rattle.std.specs.Prelude.{◌≡◌, ℕ, ◌==◌, ◌||◌, false, OnOk};
-ghost use Rattle.rbd_world.specs.Begun.{HasRoom, has_line};
+ghost use Rattle.rbd_world.specs.Begun.{HasRoomToBegin, has_line};
 
 use rbd_kinds::NoMemory;
-use rbd_lines::LineMap;
+use rbd_line_table::LineMap;
 use std::alloc::Global;
 
 /// The lines of the script that were begun.
@@ -32,14 +32,14 @@ impl BegunLines {
     /// Makes room for a line. No line changes, also where memory is refused.
     pub fn reserve(&mut self, line: u32) -> Result<(), NoMemory>
         ensures lines { (other : ℕ) → has_line other self.new ≡ has_line other self.old }
-        ensures ok { OnOk result (HasRoom line self.new) }
+        ensures ok { OnOk result (HasRoomToBegin line self.new) }
     {
         self.lines.reserve(line)
     }
 
     /// A line was begun, where there is room. It takes no memory.
     pub fn add(&mut self, line: u32)
-        requires { HasRoom line self.old }
+        requires { HasRoomToBegin line self.old }
         ensures { (other : ℕ) → has_line other self.new ≡ (has_line other self.old || (line == other)) }
     {
         self.lines.put(line, ());

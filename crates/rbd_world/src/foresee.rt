@@ -1,25 +1,30 @@
 //! What an operation will come to at its site.
-ghost use Rattle.std.specs.Prelude.{◌≡◌, IfOk, IfSome};
+ghost use Rattle.std.specs.Prelude.{◌≡◌, length, IfOk, IfSome};
 ghost use Rattle.rbd_kinds.specs.Form.{IsHeaderInForm};
 ghost use Rattle.rbd_kinds.specs.OperationKind.{kind_of};
 ghost use Rattle.rbd_kinds.specs.declared.machine.Fed.TheVariants as of_fed;
-ghost use Rattle.rbd_owner.specs.Waiting.{is_waiting as waits};
+ghost use Rattle.rbd_lock.specs.Waiting.{asks_for_lock as waits};
+ghost use Rattle.rbd_site.specs.InForm.{AreInForm};
 ghost use Rattle.rbd_site.specs.Log.{records_of};
-ghost use Rattle.rbd_site.specs.Step.{MayDo, answer_to};
+ghost use Rattle.rbd_site.specs.Step.{answer_to};
 ghost use Rattle.rbd_site.specs.declared.done.DoneOp.TheVariants as of_done;
 ghost use Rattle.rbd_stands.specs.Effect.{effect_of as effect_there};
 ghost use Rattle.rbd_world.specs.Operate.{image_of_op};
 ghost use Rattle.rbd_world.specs.Run.{entry_of, fence_of, reason_of};
 ghost use Rattle.rbd_world.specs.Sending.{doer_of};
-ghost use Rattle.rbd_world.specs.Step.{next_number, operation_at};
+ghost use Rattle.rbd_world.specs.Step.{IsPermitted, next_number, operation_at};
+ghost use Rattle.rbd_world.specs.World.{records_in, site_in};
+ghost use Rattle.rbd_world.specs.declared.event.Outcome.TheVariants as of_outcome;
 
+use crate::event::Outcome;
 use crate::noting::entry_by;
 use crate::sender::Sender;
-use rbd_effect::effect_of;
+use crate::sites::Sites;
 use rbd_flat::{Effect, Entry};
 use rbd_kinds::{Answer, Fed, HeaderView, ImageId, Instance, NoMemory, Op, Shared, SiteId};
-use rbd_owner::is_waiting;
+use rbd_lock::is_waiting;
 use rbd_site::Site;
+use rbd_stands::effect_of;
 use std::alloc::Global;
 
 /// An operation that is to be done: whose, by whom, and where.
@@ -44,14 +49,29 @@ pub struct Foreseen {
     pub entry: Entry,
 }
 
+impl Foreseen {
+    /// What comes of the poll that does it, by whether a request then has its reply.
+    pub fn outcome(&self, site: SiteId, replied: bool) -> Outcome
+        ensures { result ≡ of_outcome.Step site self.now.number self.now.waiting replied }
+    {
+        Outcome::Step {
+            site,
+            number: self.number,
+            waiting: self.waiting,
+            replied,
+        }
+    }
+}
+
 /// What an operation will come to at its site. Nothing changes.
-pub fn foresee(alloc: Global, at: &Site, due: &Due) -> Result<Foreseen, NoMemory>
-    requires may { MayDo (records_of at.now) due.now.who due.now.op }
-    ensures fed { IfOk result (λ f. f.fed ≡ of_fed.Answer (answer_to (records_of at.now) due.now.who due.now.op)) }
-    ensures number { IfOk result (λ f. f.number ≡ next_number at.now) }
-    ensures waiting { IfOk result (λ f. f.waiting ≡ waits (reason_of (doer_of due.now.by)) (kind_of due.now.op) (answer_to (records_of at.now) due.now.who due.now.op)) }
-    ensures entry { IfOk result (λ f. f.entry ≡ entry_of (operation_at at.now due.now.who (doer_of due.now.by) due.now.site due.now.op)) }
+pub fn foresee(alloc: Global, sites: &Sites, due: &Due) -> Result<Foreseen, NoMemory>
+    requires permitted { IsPermitted sites.now due.now.who due.now.site due.now.op }
+    ensures fed { IfOk result (λ f. f.fed ≡ of_fed.Answer (answer_to (records_in due.now.site sites.now) due.now.who due.now.op)) }
+    ensures number { IfOk result (λ f. f.number ≡ next_number (site_in due.now.site sites.now)) }
+    ensures waiting { IfOk result (λ f. f.waiting ≡ waits (reason_of (doer_of due.now.by)) (kind_of due.now.op) (answer_to (records_in due.now.site sites.now) due.now.who due.now.op)) }
+    ensures entry { IfOk result (λ f. f.entry ≡ entry_of (operation_at (site_in due.now.site sites.now) due.now.who (doer_of due.now.by) due.now.site due.now.op)) }
 {
+    let at = sites.at(due.site);
     match at.answer(due.who, &due.op) {
         Ok(answer) => foresee_answered(alloc, at, due, answer),
         Err(fault) => Err(fault),
@@ -71,9 +91,9 @@ fn foresee_answered(
     ensures waiting { IfOk result (λ f. f.waiting ≡ waits (reason_of (doer_of due.now.by)) (kind_of due.now.op) answer) }
     ensures entry { IfOk result (λ f. f.entry ≡ entry_of (operation_at at.now due.now.who (doer_of due.now.by) due.now.site due.now.op)) }
 {
+    let number = at.log().len() as u64 + 1;
     match effect_now(alloc, at, &due.op, &answer) {
         Ok(effect) => {
-            let number = at.log().len() as u64 + 1;
             let waiting = is_waiting(due.by.reason(), due.op.kind(), &answer);
             let fence = fence_of(&due.op, &answer);
             let entry = entry_by(due.by.cause(&due.who), due.site, number, fence, effect);
@@ -111,6 +131,7 @@ fn effect_now(
     op: &Op,
     answer: &Answer,
 ) -> Result<Option<Shared<Effect>>, NoMemory>
+    requires { AreInForm (records_of at.now) (length at.now.log) }
     ensures { IfOk result (λ effect. effect ≡ effect_there (records_of at.now) (of_done.Op op.now) answer.now) }
 {
     match effect_by(alloc, at, op, answer)? {
@@ -121,6 +142,7 @@ fn effect_now(
 
 /// The same, not shared. Only what is done has an effect that the header of its image tells.
 fn effect_by(alloc: Global, at: &Site, op: &Op, answer: &Answer) -> Result<Option<Effect>, NoMemory>
+    requires { AreInForm (records_of at.now) (length at.now.log) }
     ensures { IfOk result (λ effect. effect ≡ effect_there (records_of at.now) (of_done.Op op.now) answer.now) }
 {
     match answer {
@@ -136,6 +158,7 @@ fn effect_done(
     op: &Op,
     answer: &Answer,
 ) -> Result<Option<Effect>, NoMemory>
+    requires { AreInForm (records_of at.now) (length at.now.log) }
     ensures { IfOk result (λ effect. effect ≡ effect_there (records_of at.now) (of_done.Op op.now) answer.now) }
 {
     match image_of(op) {
@@ -160,10 +183,9 @@ fn image_of(op: &Op) -> Option<ImageId>
 
 /// The header of an image, where it is there.
 fn header_at(at: &Site, image: ImageId) -> Result<Option<HeaderView>, NoMemory>
+    requires { AreInForm (records_of at.now) (length at.now.log) }
     ensures header { IfOk result (λ header. header ≡ (records_of at.now).headers image) }
     ensures form { IfOk result (λ header. IfSome header IsHeaderInForm) }
 {
-    // (the log tells that each header is in form)
-    let _form = at.log();
     at.header(image)
 }

@@ -22,7 +22,7 @@
 //! | event | outcome | what it does |
 //! |---|---|---|
 //! | submit | `Submitted` | a session begins the command of a line, in its lowest free slot |
-//! | poll | `Step` | who acts in a slot does the one operation that is wanted: the request itself, its way to the lock of its image, or, in slot 0, the release of a lock |
+//! | poll | `Step` | the slot's next operation is done: of the request itself, of its way to the lock of its image, or, in slot 0, of the release of a lock |
 //! | poll | `Step` with the number 0 | a request that is refused before any operation has its reply |
 //! | poll | `Waits` | nothing: the line of its image, another's turn, a quiesce or another client's wish holds the request back; or slot 0 has no lock to let go |
 //! | deliver | `Heard` | the instance that a notice is for, if it runs, hears it: once for each delivery |
@@ -48,7 +48,7 @@
 //! shows may have none.) What an event does is a function of the world (`happening`): so the
 //! outcome, what is added to the history, to a log, to the mail and to the calls are each an
 //! equation, and `Nothing` and `Waits` come exactly where they are to come. Only what becomes of
-//! the client of the session that the event names is told by the client's own clauses, since a
+//! the client of the session that the event names is said by the client's own clauses, since a
 //! client holds more than contracts see.
 //!
 //! | file | what it says |
@@ -56,7 +56,7 @@
 //! | `specs/World.antt` | what contracts see of a world |
 //! | `specs/Seen.antt` | a world as plans tell it (`seen`) |
 //! | `specs/Run.antt` | a *run*: what the calls did, one after another; its history, its logs, its records, flat sites and mail at each place, the operations of a line, and the lives of a session |
-//! | `specs/Step.antt` | what an event does (`happening`, `IsStep`), what a step that is refused memory leaves (`IsUndone`), and what is asked of an event |
+//! | `specs/Step.antt` | what an event does (`happening`, `IsWorldStep`), what a step that is refused memory leaves (`IsUndone`), and what is asked of an event |
 //! | `specs/Sound.antt` | what holds of each world (`IsSoundWorld`) |
 //! | `specs/Ways.antt` | the operations of a line on its way to the lock of its image, and those of a release |
 //! | `specs/LetGo.antt` | which release of a lock a house is in the middle of |
@@ -82,24 +82,25 @@
 //!   each slot wanted at a stop is the next of a lost line there, or of the house;
 //! - the request in a slot stands where a walk of its command's plan led it, by just the operations
 //!   that were done for its line; and each line that has neither reply nor loss is in a slot;
-//! - the operations on a line's way to the lock of its image are a way of `rbd_owner`, each the one
+//! - the operations on a line's way to the lock of its image are a way of `rbd_lock`, each the one
 //!   that it asks for, while the line's own walk wants its look under the lock; its own operations
 //!   come where no way was begun, or one has led to the lock; and a house only lets locks go;
 //! - whoever does an operation is permitted it by what it knows, and what it knows is true; what
 //!   changes an image is its owner's, and a lock is broken only where its owner is fenced
-//!   (`IsOwnedStep`). No two clients are in each other's way, nor what stopped lives may still
-//!   send. A client counts its locks by its own operations alone;
+//!   (`IsOwnedStep`). Neither two clients nor what stopped lives may still send are in each other's
+//!   way. A client counts its locks by its own operations alone;
 //! - of two `write`, `fill` or `discard` requests of one instance, the one that found an image
 //!   first changes each of its objects first, however their operations are mixed;
 //! - as long as nobody is stopped or fenced, object maps tell exactly which objects exist, but for
-//!   the object that a line makes or removes next, or whose state it sets next (`rbd_exact`).
+//!   the object that a line makes or removes next, or whose state it sets next
+//!   (`rbd_interference`).
 //!
 //! [`laws`] has these as laws over any world as plans tell it: a world begins sound, and each
 //! event, and each refusal of memory, leaves it so; that order as a law on whole runs; that maps
 //! are exact on an image at rest; what holds of ways to a lock (`ways_lead_to_locks`), and at which
 //! place each operation comes; that who acts is a life that runs, but for what a stopped one had
 //! sent, which comes once; and that an owner which isn't fenced counts its lock. What a fence
-//! stops, and whose changes are, are laws of `rbd_replies`.
+//! stops, and that changes are the owner's, are laws of `rbd_replies`.
 //!
 //! # Cost
 //!

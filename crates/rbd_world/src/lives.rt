@@ -1,7 +1,7 @@
 //! The lives of a session.
 use rbd_client::Client;
-use rbd_course::Request;
 use rbd_kinds::{Instance, Op, SiteId};
+use rbd_machine::Request;
 use std::marker::Model;
 
 /// Operations in flight when the instance stopped: what each of its slots wanted then, where it

@@ -29,11 +29,12 @@ pub fn reserve(book: &mut Book) -> Result<(), NoMemory>
 }
 
 /// Keeps the call of an event, where there is room. It takes no memory.
-pub fn keep_call(calls: &mut Vec<Call>, event: Event, outcome: &Outcome)
-    requires { vec_len calls.old + 1 ≤ vec_capacity calls.old }
-    ensures { calls.new.items ≡ calls.old.items ++ record { event = event; outcome = outcome.now } ∷ [] }
+pub fn keep_call(book: &mut Book, event: Event, outcome: &Outcome)
+    requires { vec_len book.old.calls + 1 ≤ vec_capacity book.old.calls }
+    ensures calls { book.new.calls.items ≡ book.old.calls.items ++ record { event = event; outcome = outcome.now } ∷ [] }
+    ensures history { book.new.history ≡ book.old.history }
 {
-    calls.push_reserved(Call {
+    book.calls.push_reserved(Call {
         event,
         outcome: *outcome,
     });

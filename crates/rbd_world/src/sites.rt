@@ -2,14 +2,14 @@
 ghost use Rattle.std.specs.Prelude.{◌≡◌, IfOk, OnErr, OnOk, [], option_copied};
 ghost use Rattle.rbd_kinds.specs.declared.id.SiteId.{SiteId as Which};
 ghost use Rattle.rbd_kinds.specs.declared.machine.Fed.TheVariants as of_fed;
-ghost use Rattle.rbd_site.specs.Log.{records_of};
 ghost use Rattle.rbd_site.specs.Step.{MayDo, answer_to};
 ghost use Rattle.rbd_world.specs.Operate.{IsLogged, IsSameElsewhere};
 ghost use Rattle.rbd_world.specs.Sending.{latest_op};
 ghost use Rattle.rbd_world.specs.Step.{AreSameSites};
 ghost use Rattle.rbd_world.specs.World.{records_in, site_in};
 
-use rbd_kinds::{Fed, Instance, NoMemory, Op, SiteId};
+use crate::foresee::Due;
+use rbd_kinds::{Fed, NoMemory, Op, SiteId};
 use rbd_site::{Done, DoneOp, Site};
 use rbd_watch::Mail;
 use std::alloc::Global;
@@ -65,43 +65,26 @@ pub fn latest(log: &[Done]) -> Option<&Op>
     }
 }
 
-/// A site does an operation, whose answer is what its sender is fed. Refused memory, nothing was
-/// done.
-pub fn apply(
-    sites: &mut Sites,
-    site: SiteId,
-    who: Instance,
-    op: Op,
-    fed: &Fed,
-) -> Result<(), NoMemory>
-    requires may { MayDo (records_in site sites.old) who op }
-    requires fed { fed.now ≡ of_fed.Answer (answer_to (records_in site sites.old) who op) }
-    ensures logged { OnOk result (IsLogged who op (site_in site sites.old) (site_in site sites.new) sites.old.mail sites.new.mail) }
-    ensures elsewhere { IsSameElsewhere site sites.old sites.new }
+/// The operation that is due is done at its site, and its answer is what its sender is fed. Refused
+/// memory, nothing was done.
+pub fn apply(sites: &mut Sites, due: Due, fed: &Fed) -> Result<(), NoMemory>
+    requires may { MayDo (records_in due.site sites.old) due.who due.op }
+    requires fed { fed.now ≡ of_fed.Answer (answer_to (records_in due.site sites.old) due.who due.op) }
+    ensures logged { OnOk result (IsLogged due.who due.op (site_in due.site sites.old) (site_in due.site sites.new) sites.old.mail sites.new.mail) }
+    ensures elsewhere { IsSameElsewhere due.site sites.old sites.new }
     ensures err { OnErr result (AreSameSites sites.old sites.new) }
 {
+    let Fed::Answer(answer) = fed else {
+        unreachable!()
+    };
+    let Due {
+        who,
+        by: _,
+        site,
+        op,
+    } = due;
     match site {
-        SiteId::A => apply_at(&mut sites.a, &mut sites.mail, who, op, fed),
-        SiteId::B => apply_at(&mut sites.b, &mut sites.mail, who, op, fed),
-    }
-}
-
-/// The same at one site.
-fn apply_at(
-    at: &mut Site,
-    mail: &mut Mail,
-    who: Instance,
-    op: Op,
-    fed: &Fed,
-) -> Result<(), NoMemory>
-    requires may { MayDo (records_of at.old) who op }
-    requires fed { fed.now ≡ of_fed.Answer (answer_to (records_of at.old) who op) }
-    ensures logged { OnOk result (IsLogged who op at.old at.new mail.old mail.new) }
-    ensures err { OnErr result (at.new ≡ at.old) }
-    ensures unsent { OnErr result (mail.new ≡ mail.old) }
-{
-    match fed {
-        Fed::Answer(answer) => at.apply_answered(who, op, answer, mail),
-        Fed::Passed => unreachable!(),
+        SiteId::A => sites.a.apply_answered(who, op, answer, &mut sites.mail),
+        SiteId::B => sites.b.apply_answered(who, op, answer, &mut sites.mail),
     }
 }

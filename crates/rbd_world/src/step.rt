@@ -2,14 +2,12 @@
 ghost use Rattle.std.specs.Prelude.{◌≡◌, ◌+◌, ◌≤◌, ℕ, Some, IfOk, OnErr};
 ghost use Rattle.std.specs.Vec.{vec_capacity, vec_len};
 ghost use Rattle.rbd_client.specs.Client.{ClientView};
-ghost use Rattle.rbd_requests.specs.declared.request.SessionRequest.{SessionRequest as Of};
-ghost use Rattle.rbd_requests.specs.Session.{stands_of};
+ghost use Rattle.rbd_catalog.specs.declared.request.SessionRequest.{SessionRequest as Of};
+ghost use Rattle.rbd_catalog.specs.Session.{stands_of};
 ghost use Rattle.rbd_world.specs.Begun.{has_line};
-ghost use Rattle.rbd_world.specs.declared.begun.BegunLines.{BegunLines};
 ghost use Rattle.rbd_world.specs.Noted.{IsNotedStep};
-ghost use Rattle.rbd_world.specs.Step.{DropsWhatItMay, IsBuiltEvent, LeavesParts, MayCome, StepsParts, WantsWhatItMay, happens, polled};
+ghost use Rattle.rbd_world.specs.Step.{DropsWhatItMay, IsBuiltEvent, IsSoundIf, LeavesParts, MayCome, StepsParts, WantsWhatItMay, happens};
 ghost use Rattle.rbd_world.specs.World.{client_in, late_at};
-ghost use Rattle.rbd_world.specs.declared.event.Event.TheVariants as of_event;
 
 use crate::begun::BegunLines;
 use crate::deliver::deliver;
@@ -22,10 +20,9 @@ use crate::sites::Sites;
 use crate::stop::{restart, stop};
 use crate::submit::{SessionLine, submit};
 use crate::trim::{expire, trim};
-use rbd_flat::Entry;
-use rbd_kinds::{NoMemory, SessionNo, Slot, TryClone};
+use rbd_catalog::SessionRequest;
+use rbd_kinds::{NoMemory, TryClone};
 use rbd_machine::Machine;
-use rbd_requests::SessionRequest;
 use std::alloc::Global;
 
 /// Does what an event does, notes it, and keeps its call. Refused memory, nothing happened.
@@ -38,6 +35,7 @@ pub fn step_parts(
     event: &Event,
 ) -> Result<Outcome, NoMemory>
     requires built { IsBuiltEvent event.now }
+    requires sound { (session : ℕ) → IsSoundIf stands_of (client_in session lives.old.items) }
     requires wants { (session slot : ℕ) (c : ClientView Of) → client_in session lives.old.items ≡ Some c → WantsWhatItMay stands_of sites.old slot c }
     requires rest { (session slot : ℕ) (c : ClientView Of) → client_in session lives.old.items ≡ Some c → DropsWhatItMay stands_of slot c }
     requires late { (session slot : ℕ) → MayCome sites.old (late_at session slot lives.old.items) }
@@ -49,9 +47,9 @@ pub fn step_parts(
 {
     reserve(book)?;
     let kept = event.try_clone()?;
-    match happen(alloc, sites, lives, begun, &mut book.history, event) {
+    match happen(alloc, sites, lives, begun, book, event) {
         Ok(outcome) => {
-            keep_call(&mut book.calls, kept, &outcome);
+            keep_call(book, kept, &outcome);
             Ok(outcome)
         }
         Err(fault) => {
@@ -67,18 +65,20 @@ fn happen(
     sites: &mut Sites,
     lives: &mut Vec<Lives<SessionRequest>>,
     begun: &mut BegunLines,
-    history: &mut Vec<Entry>,
+    book: &mut Book,
     event: &Event,
 ) -> Result<Outcome, NoMemory>
-    requires room { vec_len history.old + 2 ≤ vec_capacity history.old }
+    requires room { vec_len book.old.history + 2 ≤ vec_capacity book.old.history }
     requires built { IsBuiltEvent event.now }
+    requires sound { (session : ℕ) → IsSoundIf stands_of (client_in session lives.old.items) }
     requires wants { (session slot : ℕ) (c : ClientView Of) → client_in session lives.old.items ≡ Some c → WantsWhatItMay stands_of sites.old slot c }
     requires rest { (session slot : ℕ) (c : ClientView Of) → client_in session lives.old.items ≡ Some c → DropsWhatItMay stands_of slot c }
     requires late { (session slot : ℕ) → MayCome sites.old (late_at session slot lives.old.items) }
     ensures did { let h = happens stands_of event.now (λ line. has_line line begun.old) sites.old lives.old.items in
-        IfOk result (IsNotedStep stands_of event.now h sites.old sites.new lives.old.items lives.new.items begun.old begun.new history.old.items history.new.items) }
+        IfOk result (IsNotedStep stands_of event.now h sites.old sites.new lives.old.items lives.new.items begun.old begun.new book.old.history.items book.new.history.items) }
     ensures err { OnErr result (LeavesParts stands_of sites.old sites.new lives.old.items lives.new.items begun.old begun.new) }
-    ensures unnoted { OnErr result (history.new.items ≡ history.old.items) }
+    ensures unnoted { OnErr result (book.new.history.items ≡ book.old.history.items) }
+    ensures calls { book.new.calls ≡ book.old.calls }
 {
     match event {
         Event::Submit {
@@ -90,17 +90,19 @@ fn happen(
                 session: *session,
                 line: *line,
             };
-            submit(alloc, lives, begun, history, &at, command)
+            submit(alloc, lives, begun, &mut book.history, &at, command)
         }
-        Event::Poll { session, slot } => poll(alloc, sites, lives, history, *session, *slot),
+        Event::Poll { session, slot } => poll(alloc, sites, lives, book, *session, *slot),
         Event::Deliver { number } => deliver(&sites.mail, lives, *number),
         Event::Expire {
             session,
             site,
             image,
         } => expire(sites, *session, *site, *image),
-        Event::Stop { session } => stop(alloc, lives, history, *session),
-        Event::Late { session, slot } => come(alloc, sites, lives, history, *session, *slot),
+        Event::Stop { session } => stop(alloc, lives, &mut book.history, *session),
+        Event::Late { session, slot } => {
+            come(alloc, sites, lives, &mut book.history, *session, *slot)
+        }
         Event::Restart { session } => restart(alloc, lives, *session),
         Event::Trim {
             site,
@@ -108,27 +110,4 @@ fn happen(
             object,
         } => trim(sites, *site, *image, *object),
     }
-}
-
-/// A poll, for who has no event at hand.
-pub fn poll_parts(
-    alloc: Global,
-    sites: &mut Sites,
-    lives: &mut Vec<Lives<SessionRequest>>,
-    book: &mut Book,
-    session: SessionNo,
-    slot: Slot,
-) -> Result<Outcome, NoMemory>
-    requires wants { (c : ClientView Of) → client_in session lives.old.items ≡ Some c → WantsWhatItMay stands_of sites.old slot c }
-    requires rest { (c : ClientView Of) → client_in session lives.old.items ≡ Some c → DropsWhatItMay stands_of slot c }
-    ensures steps { (begun : BegunLines) → let h = polled stands_of sites.old slot (client_in session lives.old.items) in
-        IfOk result (StepsParts stands_of (of_event.Poll session slot) h sites.old sites.new lives.old.items lives.new.items begun begun book.old.history.items book.new.history.items book.old.calls.items book.new.calls.items) }
-    ensures err { (begun : BegunLines) → OnErr result (LeavesParts stands_of sites.old sites.new lives.old.items lives.new.items begun begun) }
-    ensures history { OnErr result (book.new.history.items ≡ book.old.history.items) }
-    ensures calls { OnErr result (book.new.calls.items ≡ book.old.calls.items) }
-{
-    reserve(book)?;
-    let outcome = poll(alloc, sites, lives, &mut book.history, session, slot)?;
-    keep_call(&mut book.calls, Event::Poll { session, slot }, &outcome);
-    Ok(outcome)
 }

@@ -1,9 +1,9 @@
 //! A session stops, and begins its next life.
-ghost use Rattle.std.specs.Prelude.{◌≡◌, ◌<◌, ◌≤◌, ℕ, Some, is_some, length, IfOk, OnOk, OnErr};
+ghost use Rattle.std.specs.Prelude.{◌≡◌, ◌<◌, ◌≤◌, ℕ, Some, length, IfOk, OnOk, OnErr};
 ghost use Rattle.std.specs.List.{insert};
-ghost use Rattle.rbd_world.specs.Noted.{noted_by};
+ghost use Rattle.rbd_world.specs.Noted.{history_with};
 ghost use Rattle.rbd_world.specs.Run.{outcome_of};
-ghost use Rattle.rbd_world.specs.Step.{DoesToLives, IsSoundIf, LivesOn, insert_line, last_life, lost_by, next_life, restarted, restarted_of, stopped, wanted_by};
+ghost use Rattle.rbd_world.specs.Step.{DoesToLives, IsSoundIf, LivesOn, insert_line, last_life, lost_by, next_life, restarted, restarted_of, stopped, wanted_in_slots};
 ghost use Rattle.rbd_world.specs.World.{client_in, lives_in};
 ghost use Rattle.rbd_world.specs.declared.event.Event.TheVariants as of_event;
 
@@ -11,9 +11,9 @@ use crate::event::Outcome;
 use crate::lives::{Late, Lives};
 use crate::noting::note_stop;
 use rbd_client::Client;
-use rbd_course::Request;
 use rbd_flat::Entry;
 use rbd_kinds::{Instance, NoMemory, Op, SessionNo, SiteId, Slot};
+use rbd_machine::Request;
 use std::alloc::Global;
 
 /// The client of a session is gone, with its lines that have no reply: nothing where none runs.
@@ -25,7 +25,7 @@ pub fn stop<R: Request>(
     session: SessionNo,
 ) -> Result<Outcome, NoMemory>
     ensures outcome { IfOk result (λ o. o ≡ outcome_of (stopped R.stands (client_in session lives.old.items))) }
-    ensures history { OnOk result (history.new.items ≡ noted_by history.old.items (stopped R.stands (client_in session lives.old.items))) }
+    ensures history { OnOk result (history.new.items ≡ history_with history.old.items (stopped R.stands (client_in session lives.old.items))) }
     ensures lives { OnOk result (DoesToLives R.stands (of_event.Stop session) (stopped R.stands (client_in session lives.old.items)) lives.old.items lives.new.items) }
     ensures err { OnErr result (lives.new.items ≡ lives.old.items) }
     ensures unnoted { OnErr result (history.new.items ≡ history.old.items) }
@@ -43,7 +43,7 @@ fn stop_life<R: Request>(
     history: &mut Vec<Entry>,
 ) -> Result<Outcome, NoMemory>
     ensures outcome { IfOk result (λ o. o ≡ outcome_of (stopped R.stands life.old.running)) }
-    ensures history { OnOk result (history.new.items ≡ noted_by history.old.items (stopped R.stands life.old.running)) }
+    ensures history { OnOk result (history.new.items ≡ history_with history.old.items (stopped R.stands life.old.running)) }
     ensures life { OnOk result ((session : ℕ) → LivesOn R.stands (of_event.Stop session) (stopped R.stands life.old.running) life.old life.new) }
     ensures sound { OnOk result (IsSoundIf R.stands life.new.running) }
     ensures err { OnErr result (life.new ≡ life.old) }
@@ -64,8 +64,8 @@ fn leave<R: Request>(
     client: &Client<R>,
     history: &mut Vec<Entry>,
 ) -> Result<Late, NoMemory>
-    ensures left { IfOk result (λ l. l ≡ record { instance = client.now.session.instance; wanted = wanted_by R.stands client.now }) }
-    ensures history { OnOk result (history.new.items ≡ noted_by history.old.items (stopped R.stands (Some client.now))) }
+    ensures left { IfOk result (λ l. l ≡ record { instance = client.now.session.instance; wanted = wanted_in_slots R.stands client.now }) }
+    ensures history { OnOk result (history.new.items ≡ history_with history.old.items (stopped R.stands (Some client.now))) }
     ensures unnoted { OnErr result (history.new.items ≡ history.old.items) }
 {
     let lost = lost_by(alloc, client)?;
@@ -82,7 +82,7 @@ fn wanted_by<R: Request>(
     alloc: Global,
     client: &Client<R>,
 ) -> Result<Vec<Option<(SiteId, Op)>>, NoMemory>
-    ensures { IfOk result (λ wanted. wanted.items ≡ wanted_by R.stands client.now) }
+    ensures { IfOk result (λ wanted. wanted.items ≡ wanted_in_slots R.stands client.now) }
 {
     let mut wanted = Vec::with_capacity(alloc, 65)?;
     for slot in 0..65 {
@@ -129,6 +129,7 @@ pub fn restart<R: Request>(
     lives: &mut Vec<Lives<R>>,
     session: SessionNo,
 ) -> Result<Outcome, NoMemory>
+    requires { IsSoundIf R.stands (client_in session lives.old.items) }
     ensures outcome { IfOk result (λ o. o ≡ outcome_of (restarted (lives_in session lives.old.items))) }
     ensures lives { OnOk result (DoesToLives R.stands (of_event.Restart session) (restarted (lives_in session lives.old.items)) lives.old.items lives.new.items) }
     ensures err { OnErr result (lives.new.items ≡ lives.old.items) }
@@ -141,12 +142,13 @@ pub fn restart<R: Request>(
 
 /// The next life begins, if none runs.
 fn restart_life<R: Request>(alloc: Global, life: &mut Lives<R>) -> Result<Outcome, NoMemory>
+    requires { IsSoundIf R.stands life.old.running }
     ensures outcome { IfOk result (λ o. o ≡ outcome_of (restarted_of life.old.latest life.old.running)) }
     ensures life { OnOk result ((session : ℕ) → LivesOn R.stands (of_event.Restart session) (restarted_of life.old.latest life.old.running) life.old life.new) }
     ensures sound { OnOk result (IsSoundIf R.stands life.new.running) }
     ensures err { OnErr result (life.new ≡ life.old) }
 {
-    if is_running(&life.running) {
+    if life.running.is_some() {
         return Ok(Outcome::Nothing);
     }
     if life.latest.life == u32::MAX {
@@ -156,19 +158,6 @@ fn restart_life<R: Request>(alloc: Global, life: &mut Lives<R>) -> Result<Outcom
     life.latest = client.instance();
     drop(life.running.replace(client));
     Ok(Outcome::Restarted)
-}
-
-/// Whether a client runs.
-pub fn is_running<R: Request>(running: &Option<Client<R>>) -> bool
-    ensures runs { result ≡ is_some running.now }
-    ensures sound { IsSoundIf R.stands running.now }
-{
-    let Some(client) = running else {
-        return false;
-    };
-    // (it is asked for its clause that the client is sound)
-    let _free = client.free();
-    true
 }
 
 /// The life behind one that isn't the last.

@@ -2,23 +2,23 @@
 ghost use Rattle.std.specs.Prelude.{◌≡◌, ◌+◌, ◌≤◌, ℕ, true, Some, IfOk, OnOk, OnErr};
 ghost use Rattle.std.specs.Vec.{vec_capacity, vec_len};
 ghost use Rattle.rbd_client.specs.Sound.{IsSoundClient};
-ghost use Rattle.rbd_requests.specs.Plans.{is_built};
-ghost use Rattle.rbd_requests.specs.Session.{stands_of};
+ghost use Rattle.rbd_catalog.specs.Plans.{is_built};
+ghost use Rattle.rbd_catalog.specs.Session.{stands_of};
 ghost use Rattle.rbd_world.specs.Begun.{has_line};
-ghost use Rattle.rbd_world.specs.Noted.{is_start, noted_by};
+ghost use Rattle.rbd_world.specs.Noted.{is_start, history_with};
 ghost use Rattle.rbd_world.specs.Run.{outcome_of};
-ghost use Rattle.rbd_world.specs.Step.{Becomes, DoesToLives, IsSoundIf, LivesOn, begun_behind, submitted};
+ghost use Rattle.rbd_world.specs.Step.{Becomes, DoesToLives, begun_behind, submitted};
 ghost use Rattle.rbd_world.specs.World.{client_in};
 ghost use Rattle.rbd_world.specs.declared.event.Event.TheVariants as of_event;
 
 use crate::begun::BegunLines;
 use crate::event::Outcome;
 use crate::lives::Lives;
+use rbd_catalog::SessionRequest;
 use rbd_client::Client;
 use rbd_flat::Entry;
 use rbd_kinds::{Command, NoMemory, SessionNo, TryClone};
 use rbd_machine::Machine;
-use rbd_requests::SessionRequest;
 use std::alloc::Global;
 
 /// A line of a script, with the session whose command it is.
@@ -42,7 +42,7 @@ pub fn submit(
     requires built { is_built command.now ≡ true }
     requires room { vec_len history.old + 2 ≤ vec_capacity history.old }
     ensures outcome { IfOk result (λ o. o ≡ outcome_of (submitted (has_line at.now.line begun.old) at.now.line command.now (client_in at.now.session lives.old.items))) }
-    ensures history { OnOk result (history.new.items ≡ noted_by history.old.items (submitted (has_line at.now.line begun.old) at.now.line command.now (client_in at.now.session lives.old.items))) }
+    ensures history { OnOk result (history.new.items ≡ history_with history.old.items (submitted (has_line at.now.line begun.old) at.now.line command.now (client_in at.now.session lives.old.items))) }
     ensures lives { let h = submitted (has_line at.now.line begun.old) at.now.line command.now (client_in at.now.session lives.old.items) in
         OnOk result (DoesToLives stands_of (of_event.Submit at.now.session at.now.line command.now) h lives.old.items lives.new.items) }
     ensures begun { let h = submitted (has_line at.now.line begun.old) at.now.line command.now (client_in at.now.session lives.old.items) in
@@ -60,7 +60,7 @@ pub fn submit(
     Ok(outcome)
 }
 
-/// The same, where it is known whether the line was begun before.
+/// The client that runs in the session begins it, if one does.
 fn submit_to(
     alloc: Global,
     lives: &mut Vec<Lives<SessionRequest>>,
@@ -72,40 +72,19 @@ fn submit_to(
     requires built { is_built command.now ≡ true }
     requires room { vec_len history.old + 2 ≤ vec_capacity history.old }
     ensures outcome { IfOk result (λ o. o ≡ outcome_of (submitted is_begun at.now.line command.now (client_in at.now.session lives.old.items))) }
-    ensures history { OnOk result (history.new.items ≡ noted_by history.old.items (submitted is_begun at.now.line command.now (client_in at.now.session lives.old.items))) }
+    ensures history { OnOk result (history.new.items ≡ history_with history.old.items (submitted is_begun at.now.line command.now (client_in at.now.session lives.old.items))) }
     ensures lives { OnOk result (DoesToLives stands_of (of_event.Submit at.now.session at.now.line command.now) (submitted is_begun at.now.line command.now (client_in at.now.session lives.old.items)) lives.old.items lives.new.items) }
     ensures err { OnErr result (lives.new.items ≡ lives.old.items) }
     ensures unnoted { OnErr result (history.new.items ≡ history.old.items) }
 {
     let session = at.session;
-    match lives.get_mut(session.0 as usize) {
-        Some(life) => submit_in(alloc, life, history, at.line, command, is_begun),
-        None => Ok(Outcome::Nothing),
-    }
-}
-
-/// The client that runs begins it, if one does.
-fn submit_in(
-    alloc: Global,
-    life: &mut Lives<SessionRequest>,
-    history: &mut Vec<Entry>,
-    line: u32,
-    command: &Command,
-    is_begun: bool,
-) -> Result<Outcome, NoMemory>
-    requires built { is_built command.now ≡ true }
-    requires room { vec_len history.old + 2 ≤ vec_capacity history.old }
-    ensures outcome { IfOk result (λ o. o ≡ outcome_of (submitted is_begun line command.now life.old.running)) }
-    ensures history { OnOk result (history.new.items ≡ noted_by history.old.items (submitted is_begun line command.now life.old.running)) }
-    ensures life { OnOk result ((session : ℕ) → LivesOn stands_of (of_event.Submit session line command.now) (submitted is_begun line command.now life.old.running) life.old life.new) }
-    ensures sound { IsSoundIf stands_of life.new.running }
-    ensures err { OnErr result (life.new ≡ life.old) }
-    ensures unnoted { OnErr result (history.new.items ≡ history.old.items) }
-{
+    let Some(life) = lives.get_mut(session.0 as usize) else {
+        return Ok(Outcome::Nothing);
+    };
     let Some(client) = &mut life.running else {
         return Ok(Outcome::Nothing);
     };
-    begin(alloc, client, history, line, command, is_begun)
+    begin(alloc, client, history, at.line, command, is_begun)
 }
 
 /// The command of a line takes the lowest free slot of a client.
@@ -120,7 +99,7 @@ fn begin(
     requires built { is_built command.now ≡ true }
     requires room { vec_len history.old + 2 ≤ vec_capacity history.old }
     ensures outcome { IfOk result (λ o. o ≡ outcome_of (submitted is_begun line command.now (Some client.old))) }
-    ensures history { OnOk result (history.new.items ≡ noted_by history.old.items (submitted is_begun line command.now (Some client.old))) }
+    ensures history { OnOk result (history.new.items ≡ history_with history.old.items (submitted is_begun line command.now (Some client.old))) }
     ensures becomes { OnOk result ((session : ℕ) → Becomes stands_of (of_event.Submit session line command.now) (submitted is_begun line command.now (Some client.old)) client.old client.new) }
     ensures sound { IsSoundClient stands_of client.new }
     ensures err { OnErr result (client.new ≡ client.old) }

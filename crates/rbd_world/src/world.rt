@@ -3,25 +3,25 @@ ghost use Rattle.std.specs.Prelude.{◌≡◌, ◌≤◌, length, option_copied,
 ghost use Rattle.rbd_client.specs.Client.{ClientView};
 ghost use Rattle.rbd_client.specs.Seen.{as_is};
 ghost use Rattle.rbd_machine.specs.Plan.{Standing};
-ghost use Rattle.rbd_watch.specs.Posting.{numbered};
+ghost use Rattle.rbd_watch.specs.Posting.{notice_numbered};
 ghost use Rattle.rbd_world.specs.Seen.{seen};
 ghost use Rattle.rbd_world.specs.Sound.{AreAtHome, AreFirst, IsFirst, IsNewWorld, IsSoundWorld, line_at};
-ghost use Rattle.rbd_world.specs.Step.{IsBuiltEvent, IsStep, IsUndone, is_begun};
+ghost use Rattle.rbd_world.specs.Step.{IsBuiltEvent, IsWorldStep, IsUndone, is_begun};
 ghost use Rattle.rbd_world.specs.World.{client_in, free_in, heard_in, kind_in, site_in};
 ghost use Rattle.rbd_world.specs.declared.event.Event.TheVariants as of_event;
 
 use crate::begun::BegunLines;
 use crate::event::{Call, Event, Outcome};
 use crate::lives::Lives;
-use crate::noting::Book;
+use crate::noting::{Book, keep_call, reserve};
+use crate::poll::poll;
 use crate::sites::Sites;
-use crate::step::{poll_parts, step_parts};
+use crate::step::step_parts;
+use rbd_catalog::SessionRequest;
 use rbd_client::Client;
-use rbd_course::Request;
 use rbd_flat::Entry;
 use rbd_kinds::{Instance, NoMemory, Notice, OpKind, SessionNo, SiteId, Slot};
-use rbd_machine::Machine;
-use rbd_requests::SessionRequest;
+use rbd_machine::{Machine, Request};
 use rbd_site::Done;
 use std::alloc::Global;
 use std::marker::Model;
@@ -54,18 +54,18 @@ pub struct World {
 
 impl Model for World {
     ghost use Rattle.rbd_client.specs.Seen.{as_is};
-    ghost use Rattle.rbd_requests.specs.declared.request.SessionRequest.{SessionRequest as Of};
-    ghost use Rattle.rbd_requests.specs.Session.{stands_of};
+    ghost use Rattle.rbd_catalog.specs.declared.request.SessionRequest.{SessionRequest as Of};
+    ghost use Rattle.rbd_catalog.specs.Session.{stands_of};
     ghost use Rattle.rbd_world.specs.World.{WorldView};
 
     ghost Value = { WorldView Of };
 
     ghost use Rattle.rbd_world.specs.Seen.{seen_by};
-    ghost use Rattle.rbd_world.specs.Sound.{IsKept};
+    ghost use Rattle.rbd_world.specs.Sound.{IsKeptWorld};
 
     ghost view = { λ w. record { sites = w.sites; lives = w.lives.items; history = w.book.history.items; calls = w.book.calls.items } };
 
-    ghost invariant = { λ w. IsKept as_is w.begun (seen_by stands_of (record { sites = w.sites; lives = w.lives.items; history = w.book.history.items; calls = w.book.calls.items })) };
+    ghost invariant = { λ w. IsKeptWorld as_is w.begun (seen_by stands_of (record { sites = w.sites; lives = w.lives.items; history = w.book.history.items; calls = w.book.calls.items })) };
 }
 
 impl World {
@@ -114,7 +114,7 @@ impl World {
     /// Refused memory, nothing happened. A command that isn't built is ruled out.
     pub fn step(&mut self, alloc: Global, event: &Event) -> Result<Outcome, NoMemory>
         requires built { IsBuiltEvent event.now }
-        ensures step { IfOk result (λ outcome. IsStep as_is event.now (seen self.old) outcome (seen self.new)) }
+        ensures step { IfOk result (λ outcome. IsWorldStep as_is event.now (seen self.old) outcome (seen self.new)) }
         ensures err { OnErr result (IsUndone as_is (seen self.old) (seen self.new)) }
         ensures sound { IsSoundWorld as_is (seen self.new) }
     {
@@ -136,11 +136,12 @@ impl World {
         session: SessionNo,
         slot: Slot,
     ) -> Result<Outcome, NoMemory>
-        ensures step { IfOk result (λ outcome. IsStep as_is (of_event.Poll session slot) (seen self.old) outcome (seen self.new)) }
+        ensures step { IfOk result (λ outcome. IsWorldStep as_is (of_event.Poll session slot) (seen self.old) outcome (seen self.new)) }
         ensures err { OnErr result (IsUndone as_is (seen self.old) (seen self.new)) }
         ensures sound { IsSoundWorld as_is (seen self.new) }
     {
-        let outcome = poll_parts(
+        reserve(&mut self.book)?;
+        let outcome = poll(
             alloc,
             &mut self.sites,
             &mut self.lives,
@@ -148,6 +149,7 @@ impl World {
             session,
             slot,
         )?;
+        keep_call(&mut self.book, Event::Poll { session, slot }, &outcome);
         Ok(outcome)
     }
 
@@ -190,7 +192,7 @@ impl World {
     /// The notice that has a number: `None` exactly where none has. It takes no memory.
     #[tactic(auto, unfolding(crate::specs::Seen::seen))]
     pub fn notice(&self, number: u64) -> Option<&Notice>
-        ensures { option_copied result ≡ numbered number (seen self.now).sites.mail }
+        ensures { option_copied result ≡ notice_numbered number (seen self.now).sites.mail }
     {
         self.sites.mail.get(number)
     }
@@ -235,10 +237,9 @@ impl World {
         client_of(self.lives.as_slice(), session)?.line(slot)
     }
 
-    /// The site and the kind of the operation that is wanted at a slot of a session: `None` exactly
-    /// where the session isn't there or doesn't run, its slot is free or waits, or its request is
-    /// refused before any operation; and at slot 0 where no lock is to be let go. It takes no
-    /// memory.
+    /// The site and the kind of the next operation of a session's slot: `None` exactly where the
+    /// session isn't there or doesn't run, its slot is free or waits, or its request is refused
+    /// before any operation; and at slot 0 where no lock is to be let go. It takes no memory.
     pub fn kind(&self, session: SessionNo, slot: Slot) -> Option<(SiteId, OpKind)>
         ensures { result ≡ kind_in as_is slot (client_in session (seen self.now).lives) }
     {

@@ -1,4 +1,4 @@
-//! Tests of what operations do to the flat site, through the one public call of `rbd_effect`.
+//! Tests of what operations do to the flat site, through the one public call of `rbd_stands`.
 //! Expected values were worked out by hand, from the rules in words and from the formulas of
 //! striping.
 mod each;
@@ -6,11 +6,11 @@ mod make;
 mod places;
 
 use crate::holds;
-use rbd_effect::effect_of;
 use rbd_flat::Effect;
 use rbd_header::new_header;
 use rbd_kinds::{Answer, GlobalName, HeaderView, ImageId, Layout, NoMemory, Op, SiteId};
 use rbd_layout::keeps_limits;
+use rbd_stands::effect_of;
 use std::alloc::Global;
 use std::process::Abort;
 

@@ -1,6 +1,6 @@
 //! Tests of what takes and gives up an image's lock, through public calls: the way to a lock and
-//! its release (`rbd_owner`), `close`, `quiesce`, `resume` and `tell` (`rbd_close`), and what a
-//! session counts of its locks (`rbd_locks`).
+//! its release, and what a session counts of its locks (`rbd_lock`), and `close`, `quiesce`,
+//! `resume` and `tell` (`rbd_session`).
 //!
 //! One site of the tests' own (`site`) answers, and writes down what it is asked. The driver of
 //! `fixtures` takes each request (`asked`) from step to step, and the site looks whether its answers

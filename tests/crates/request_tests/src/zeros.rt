@@ -1,12 +1,12 @@
 //! Tests of the parts of requests that zero or replace an object, or set a size, through the public
-//! calls of `rbd_zero`: tables of images and extents against the operations that are done, in
+//! calls of `rbd_pieces`: tables of images and extents against the operations that are done, in
 //! order. They were worked out by hand, from the rules in words.
 use crate::fixtures::{Alone, IMAGE, Played, Scene, bytes, header, holds, number, play};
 use rbd_header::context_of;
 use rbd_kinds::{Bytes, Extent, HeaderView, ImageAt, NoMemory, SiteId};
 use rbd_layout::{Piece, keeps_limits, objects_within, pieces, place};
 use rbd_machine::Machine;
-use rbd_zero::{FullPiece, Size, ZeroPiece};
+use rbd_pieces::{FullPiece, Size, ZeroPiece};
 use std::alloc::Global;
 use std::process::Abort;
 use std::test::Fail;

@@ -16,7 +16,9 @@ a34 a35! a36~ a37~ a38~ heard a39 a40 a41 a42 a43 a44 a45 a46! slot1 a47 a48 a49
 ";
 
 #[test]
-fn a_write_past_its_own_look_ends_first_and_one_at_its_own_look_waits(rt: HostRuntime) {
+fn a_write_past_its_look_under_lock_ends_first_and_one_at_its_look_under_lock_waits(
+    rt: HostRuntime,
+) {
     row_holds(&rt, rt.alloc(), AT_OWN_LOOK);
 }
 

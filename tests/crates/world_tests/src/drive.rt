@@ -2,8 +2,8 @@
 //!
 //! Whether an event may come is looked at before it does: nothing proves that the rows of a test
 //! keep to that.
+use rbd_catalog::is_built;
 use rbd_kinds::{NoMemory, SessionNo, SiteId, Slot};
-use rbd_requests::is_built;
 use rbd_world::{Event, Outcome, World};
 use std::alloc::Global;
 use std::process::Abort;

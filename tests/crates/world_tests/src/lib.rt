@@ -23,9 +23,9 @@
 //! Rows of one form are a table (`tables`), and a test is a call with a text.
 //!
 //! What a row wants was worked out from the rules in prose: how many operations each command has
-//! (`rbd_request`, `rbd_admin`, `rbd_close`), who waits (`rbd_session`), how a lock is taken and
-//! let go (`rbd_owner`, `rbd_client`), and which bytes a flat list has at the moment at which it is
-//! looked at. The numbers of a site's operations are counted from 1.
+//! (`rbd_data`, `rbd_image`, `rbd_snap`, `rbd_session`), who waits (`rbd_slots`), how a lock is
+//! taken and let go (`rbd_lock`, `rbd_client`), and which bytes a flat list has at the moment at
+//! which it is looked at. The numbers of a site's operations are counted from 1.
 //!
 //! | file | subject |
 //! |---|---|

@@ -131,6 +131,6 @@ a17 a18 a19!
 ";
 
 #[test]
-fn a_write_looks_behind_the_own_look_of_the_one_ahead(rt: HostRuntime) {
+fn a_write_looks_behind_the_look_under_lock_of_the_one_ahead(rt: HostRuntime) {
     row_holds(&rt, rt.alloc(), OWN_LOOKS);
 }

@@ -6,8 +6,8 @@ use Rattle.rbd_kinds.specs.declared.operation_kind.OpKind.{OpKind}
 use Rattle.rbd_kinds.specs.OperationKind.{kind_of}
 use Rattle.rbd_machine.specs.Plan.{Return}
 use Rattle.rbd_kinds.specs.declared.reply.Reply.TheVariants as reply
-use Rattle.rbd_owner.specs.Acquire.{op_of}
-use Rattle.rbd_owner.proofs.Standing.{way_wants}
+use Rattle.rbd_lock.specs.Acquire.{op_of}
+use Rattle.rbd_lock.proofs.Standing.{way_wants}
 use Rattle.rbd_client.proofs.actor.way_kind.Goals as goal
 
 abbrev of_want : SiteId × OpKind → Want → SiteId × OpKind

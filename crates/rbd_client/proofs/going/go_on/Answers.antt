@@ -1,6 +1,6 @@
 use Rattle.std.proofs.Common.{◌∙◌, refl, ap}
 use Rattle.rbd_machine.specs.Plan.{plan_after}
-use Rattle.rbd_owner.specs.Acquire.{lock_of, rest_of_acquire}
+use Rattle.rbd_lock.specs.Acquire.{lock_of, rest_of_acquire}
 use Rattle.rbd_client.proofs.going.go_on.Goals as goal
 
 pub returns-in-Refused : goal.returns-in-Refused

@@ -1,5 +1,5 @@
 use Rattle.std.proofs.Common.{Some, sym, subst}
-use Rattle.rbd_object.specs.Shared.{IsKept}
+use Rattle.rbd_object.specs.Shared.{KeepsHead}
 use Rattle.rbd_object.proofs.HeadLemmas.{counted_both, head_after, replaced, untouched}
 use Rattle.rbd_object.proofs.heads.write_full.Goals as goal
 use Rattle.rbd_kinds.proofs.Results.{on_err_always}
@@ -21,7 +21,7 @@ replace-requires-clause-content c =
 
 pub returns-clause-ok : goal.returns-clause-ok
 returns-clause-ok c =
-    subst (λ h. IsKept c.args.wanted c.args.sheaves.now c.args.head.now c.replace.new.sheaves h c.replace.result) (sym c.replace.ensures.head)
+    subst (λ h. KeepsHead c.args.wanted c.args.sheaves.now c.args.head.now c.replace.new.sheaves h c.replace.result) (sym c.replace.ensures.head)
     (replaced c.args.wanted c.args.sheaves.now c.filled.new.sheaves c.replace.new.sheaves c.args.head.now (Some c.in_ok-content.content) c.replace.result
     c.requires.counted c.requires.content c.in_ok-content.ensures.exchanged c.replace.ensures.exchanged c.replace.ensures.head_is
     c.replace.ensures.kept_is c.replace.ensures.bytes)

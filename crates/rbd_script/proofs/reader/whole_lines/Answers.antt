@@ -1,14 +1,14 @@
 use Rattle.std.proofs.Common.{length, ap, ◌∙◌, arith}
 use Rattle.std.proofs.lemmas.Result.{err_from_is_err_and}
 use Rattle.rbd_script.specs.Reading.{with_lines}
-use Rattle.rbd_script.specs.Token.{lines_of, without_last}
+use Rattle.rbd_script.specs.Token.{text_lines, without_last}
 use Rattle.rbd_script.proofs.LineLemmas.{fault_of_lines, lines_on, no_lines, whole_lines}
 use Rattle.rbd_script.proofs.reader.whole_lines.Goals as goal
 
 pub returns-in_err-take_line-clause-all_fault : goal.returns-in_err-take_line-clause-all_fault
 returns-in_err-take_line-clause-all_fault c =
     let p = err_from_is_err_and c.from_residual.result c.from_residual.ensures.1 in
-    rw (p.1, p.2) (fault_of_lines c.args.threads c.loop-line.number c.loop-line.script c.take_line.new.self c.in-Some.line.now (lines_of c.in-Some.behind.now) _ _
+    rw (p.1, p.2) (fault_of_lines c.args.threads c.loop-line.number c.loop-line.script c.take_line.new.self c.in-Some.line.now (text_lines c.in-Some.behind.now) _ _
     (c.loop-line.invariant.all ∙ ap (with_lines c.args.threads c.loop-line.number c.loop-line.script) c.in-Some.ensures.found)
     c.in_err-take_line.ensures.script)
 
@@ -16,7 +16,7 @@ pub returns-in_err-take_line-clause-whole_fault : goal.returns-in_err-take_line-
 returns-in_err-take_line-clause-whole_fault c =
     let p = err_from_is_err_and c.from_residual.result c.from_residual.ensures.1 in
     let whole = whole_lines c.in-Some.line.now c.loop-line.rest.now c.in-Some.behind.now c.in-Some.ensures.found in
-    rw (p.1, p.2) (fault_of_lines c.args.threads c.loop-line.number c.loop-line.script c.take_line.new.self c.in-Some.line.now (without_last (lines_of c.in-Some.behind.now)) _ _
+    rw (p.1, p.2) (fault_of_lines c.args.threads c.loop-line.number c.loop-line.script c.take_line.new.self c.in-Some.line.now (without_last (text_lines c.in-Some.behind.now)) _ _
     (c.loop-line.invariant.whole ∙ ap (with_lines c.args.threads c.loop-line.number c.loop-line.script) whole)
     c.in_err-take_line.ensures.script)
 
@@ -29,9 +29,9 @@ loop-line-preserved c =
     let added = c.in_ok-take_line.ensures.script in
     record {
       all = c.loop-line.invariant.all ∙ ap (with_lines c.args.threads c.loop-line.number c.loop-line.script) all
-          ∙ lines_on c.args.threads c.loop-line.number c.loop-line.script c.take_line.new.self line (lines_of behind) added;
+          ∙ lines_on c.args.threads c.loop-line.number c.loop-line.script c.take_line.new.self line (text_lines behind) added;
       whole = c.loop-line.invariant.whole ∙ ap (with_lines c.args.threads c.loop-line.number c.loop-line.script) whole
-          ∙ lines_on c.args.threads c.loop-line.number c.loop-line.script c.take_line.new.self line (without_last (lines_of behind)) added;
+          ∙ lines_on c.args.threads c.loop-line.number c.loop-line.script c.take_line.new.self line (without_last (text_lines behind)) added;
       number = omega (arith, c.loop-line.invariant.number, ap length whole);
       lines = omega (arith, c.in-Some.ensures.shorter);
       few = c.in_ok-take_line.ensures.few;

@@ -5,14 +5,14 @@ use Rattle.clap.specs.Simple.{with_rule}
 use Rattle.clap.specs.Walk.{Rule, rule_of}
 use Rattle.clap.specs.declared.builder.action.ArgAction.TheVariants.{SetTrue}
 use Rattle.clap.specs.declared.builder.arg.Arg.{Arg}
-use Rattle.rbd_words.specs.Command.{flag}
+use Rattle.rbd_words.specs.Command.{flag_rule}
 use Rattle.rbd_words.proofs.command.run.Goals as goal
 
 module _ (c : goal.After-arg) where
   not_global : c.action-trace.result.global ≡ false
   not_global = ap (λ (a : Arg). a.global) (c.action-trace.ensures) ∙ ap (λ (a : Arg). a.global) c.long.ensures ∙ c.new.ensures.optional.1
 
-  trace_is : rule_of c.action-trace.result ≡ flag (codes "trace")
+  trace_is : rule_of c.action-trace.result ≡ flag_rule (codes "trace")
   trace_is =
       ap rule_of c.action-trace.ensures ∙ ap (λ (a : Arg). rule_of (record a { action = Some SetTrue })) c.long.ensures
       ∙ ap (λ (r : Rule). record r { long = Some (codes "trace"); action = Some SetTrue }) c.new.ensures.rule

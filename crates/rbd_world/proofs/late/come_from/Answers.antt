@@ -1,6 +1,6 @@
 use Rattle.std.proofs.Common.{rules, ◌≡◌, Some, None, refl, sym, ap, subst}
 use Rattle.rbd_kinds.specs.declared.id.Instance.{Instance}
-use Rattle.rbd_session.specs.Session.{held_in}
+use Rattle.rbd_slots.specs.Session.{held_in}
 use Rattle.rbd_world.specs.Run.{AfterStop, sent_of}
 use Rattle.rbd_world.specs.Step.{DoesAtSites, come}
 use Rattle.rbd_world.specs.World.{LateView}

@@ -1,6 +1,6 @@
 use Rattle.std.proofs.Common.{rules, ◌≡◌, ◌-◌, None, sym, ap, ◌∙◌, arith}
 use Rattle.std.specs.List.{insert}
-use Rattle.rbd_session.specs.Session.{held_in, script_line}
+use Rattle.rbd_slots.specs.Session.{held_in, script_line}
 use Rattle.rbd_world.specs.Step.{insert_line}
 use Rattle.rbd_world.proofs.LostLines.{lines_from, with_line, without_line}
 use Rattle.rbd_world.proofs.stop.lost_by.Goals as goal

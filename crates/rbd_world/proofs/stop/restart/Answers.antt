@@ -1,10 +1,15 @@
 use Rattle.std.proofs.Common.{◌≡◌, IfOk, OnOk, slice_set, Some, None, refl, sym, ap, ◌∙◌, subst}
 use Rattle.rbd_world.specs.Run.{outcome_of}
-use Rattle.rbd_world.specs.Step.{DoesToLives, restarted}
-use Rattle.rbd_world.specs.World.{lives_in}
+use Rattle.rbd_world.specs.Step.{DoesToLives, IsSoundIf, restarted}
+use Rattle.rbd_world.specs.World.{lives_in, running_of}
 use Rattle.rbd_world.specs.declared.event.Event.TheVariants as of_event
 use Rattle.rbd_world.proofs.OneLife.{does_to_none, does_to_one, lent, none_there, on_both, set_unless}
 use Rattle.rbd_world.proofs.stop.restart.Goals as goal
+
+pub restart_life-requires : goal.restart_life-requires
+restart_life-requires g c =
+    subst (λ l. IsSoundIf g.R.Machine.stands (running_of l))
+    (lent c.args.session c.session.inside.0 c.args.lives.now.items c.in-Some.life.now c.session.view_is c.in-Some.ensures.item.3.0 c.in-Some.ensures.value) c.requires
 
 there : (g : _) (c : goal.After-lives-in-Some-1 g) → lives_in c.args.session c.args.lives.now.items ≡ Some c.in-Some.life.now
 there g c =

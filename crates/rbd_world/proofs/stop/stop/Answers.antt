@@ -1,5 +1,5 @@
 use Rattle.std.proofs.Common.{◌≡◌, IfOk, OnOk, slice_set, Some, None, refl, sym, ap, ◌∙◌, subst}
-use Rattle.rbd_world.specs.Noted.{noted_by}
+use Rattle.rbd_world.specs.Noted.{history_with}
 use Rattle.rbd_world.specs.Run.{outcome_of}
 use Rattle.rbd_world.specs.Step.{DoesToLives, stopped}
 use Rattle.rbd_world.specs.World.{client_in, lives_in, running_of}
@@ -19,7 +19,7 @@ returns-in-Some-clause-outcome g c = subst (λ o. IfOk c.stop_life.result (λ r.
 
 pub returns-in-Some-clause-history : goal.returns-in-Some-clause-history
 returns-in-Some-clause-history g c =
-    subst (λ o. OnOk c.stop_life.result (c.stop_life.new.history.items ≡ noted_by c.args.history.now.items (stopped g.R.Machine.stands o))) (sym (found g c)) c.stop_life.ensures.history
+    subst (λ o. OnOk c.stop_life.result (c.stop_life.new.history.items ≡ history_with c.args.history.now.items (stopped g.R.Machine.stands o))) (sym (found g c)) c.stop_life.ensures.history
 
 pub returns-in-Some-clause-lives : goal.returns-in-Some-clause-lives
 returns-in-Some-clause-lives g c =
@@ -44,7 +44,7 @@ pub returns-in-None-clause-outcome : goal.returns-in-None-clause-outcome
 returns-in-None-clause-outcome g c = sym (ap (λ l. outcome_of (stopped g.R.Machine.stands (running_of l))) (none g c))
 
 pub returns-in-None-clause-history : goal.returns-in-None-clause-history
-returns-in-None-clause-history g c = sym (ap (λ l. noted_by c.args.history.now.items (stopped g.R.Machine.stands (running_of l))) (none g c))
+returns-in-None-clause-history g c = sym (ap (λ l. history_with c.args.history.now.items (stopped g.R.Machine.stands (running_of l))) (none g c))
 
 pub returns-in-None-clause-lives : goal.returns-in-None-clause-lives
 returns-in-None-clause-lives g c =

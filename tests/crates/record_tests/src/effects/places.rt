@@ -1,12 +1,12 @@
 //! Which image bytes an object's parts are, and which a whole object.
 use super::{DISK, STRIPED, header};
 use crate::holds;
-use rbd_effect::effect_of;
 use rbd_flat::Effect;
 use rbd_kinds::{
     Answer, Bytes, DataOp, Extent, HeaderView, Layout, NoMemory, Op, Part, Parts, SnapContext,
     SnapId, SnapIds,
 };
+use rbd_stands::effect_of;
 use std::alloc::Global;
 use std::process::Abort;
 use std::test::Fail;

@@ -1,9 +1,9 @@
 //! Headers, operations, commands and answers, and their copies.
 use crate::holds;
 use rbd_kinds::{
-    Answer, AskedName, Bytes, Command, Event, HeaderOp, HeaderView, Ids, ImageId, JournalView,
-    Layout, Name, NoMemory, Op, OpKind, Reply, Role, Shared, SnapId, SnapStatus, SnapView, Snaps,
-    TryClone,
+    Answer, AskedName, Bytes, Command, HeaderOp, HeaderView, Ids, ImageId, JournalEvent,
+    JournalView, Layout, Name, NoMemory, Op, OpKind, Reply, Role, Shared, SnapId, SnapStatus,
+    SnapView, Snaps, TryClone,
 };
 use std::alloc::Global;
 use std::process::Abort;
@@ -21,7 +21,7 @@ fn values_cross_threads(_rt: HostRuntime) {
     crosses_threads::<JournalView>();
     crosses_threads::<Op>();
     crosses_threads::<Answer>();
-    crosses_threads::<Event>();
+    crosses_threads::<JournalEvent>();
     crosses_threads::<Reply>();
 }
 

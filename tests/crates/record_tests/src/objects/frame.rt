@@ -1,9 +1,9 @@
 //! What is decoded from some bytes. The wanted answers were worked out from the table of kinds in
 //! prose.
 use Wanted::*;
-use rbd_frame::FrameFault::*;
-use rbd_frame::{FrameFault, decode, encode};
-use rbd_kinds::{Bytes, Event, Name, NoMemory};
+use rbd_journal::FrameFault::*;
+use rbd_journal::{FrameFault, decode, encode};
+use rbd_kinds::{Bytes, JournalEvent, Name, NoMemory};
 use std::alloc::Global;
 use std::test::Fail;
 
@@ -174,19 +174,23 @@ const TABLE: &[(&[u8], Wanted)] = &[
     (b"\x17\0\0\0\0\x18", Demote(5)),
 ];
 
-fn is_wanted(event: &Event, length: usize, wanted: &Wanted) -> bool {
+fn is_wanted(event: &JournalEvent, length: usize, wanted: &Wanted) -> bool {
     match (event, wanted) {
-        (Event::Write { at, bytes }, Write(a, b, n)) => {
+        (JournalEvent::Write { at, bytes }, Write(a, b, n)) => {
             *at == *a && bytes.as_slice() == *b && length == *n
         }
-        (Event::Discard { at, len }, Discard(a, l, n)) => *at == *a && *len == *l && length == *n,
-        (Event::Resize { size }, Resize(s, n)) => *size == *s && length == *n,
-        (Event::SnapCreate { name }, SnapCreate(t, n)) => name.as_slice() == *t && length == *n,
-        (Event::SnapRemove { name }, SnapRemove(t, n)) => name.as_slice() == *t && length == *n,
-        (Event::SnapRollback { name }, SnapRollback(t, n)) => {
+        (JournalEvent::Discard { at, len }, Discard(a, l, n)) => *at == *a
+            && *len == *l
+            && length == *n,
+        (JournalEvent::Resize { size }, Resize(s, n)) => *size == *s && length == *n,
+        (JournalEvent::SnapCreate { name }, SnapCreate(t, n)) => name.as_slice() == *t
+            && length == *n,
+        (JournalEvent::SnapRemove { name }, SnapRemove(t, n)) => name.as_slice() == *t
+            && length == *n,
+        (JournalEvent::SnapRollback { name }, SnapRollback(t, n)) => {
             name.as_slice() == *t && length == *n
         }
-        (Event::Demote, Demote(n)) => length == *n,
+        (JournalEvent::Demote, Demote(n)) => length == *n,
         _ => false,
     }
 }
@@ -195,7 +199,7 @@ fn is_wanted(event: &Event, length: usize, wanted: &Wanted) -> bool {
 fn is_read(
     alloc: Global,
     bytes: &[u8],
-    event: &Event,
+    event: &JournalEvent,
     length: usize,
     wanted: &Wanted,
 ) -> Result<bool, NoMemory> {
@@ -227,7 +231,7 @@ fn decodes_the_table(rt: HostRuntime) -> Result<(), Fail> {
 #[test]
 fn encodes_a_write(rt: HostRuntime) -> Result<(), Fail> {
     let alloc = rt.alloc();
-    let event = Event::Write {
+    let event = JournalEvent::Write {
         at: 4094,
         bytes: Bytes::from_slice(alloc, b"hello")?,
     };
@@ -241,7 +245,7 @@ fn encodes_a_write(rt: HostRuntime) -> Result<(), Fail> {
 fn encodes_a_snapshot(rt: HostRuntime) -> Result<(), Fail> {
     let alloc = rt.alloc();
     let name = Name::parse(Bytes::from_slice(alloc, b".sync")?).ok_or(".sync is a name")?;
-    let frame = encode(alloc, &Event::SnapCreate { name })?;
+    let frame = encode(alloc, &JournalEvent::SnapCreate { name })?;
     assert!(rt; frame.as_slice() == b"\x14\0\0\0\x05.sync".as_slice());
     Ok(())
 }

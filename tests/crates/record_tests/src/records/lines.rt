@@ -1,5 +1,5 @@
 //! What is known of lines on both sides of the edges of pages, worked out by hand.
-use rbd_lines::LineMap;
+use rbd_line_table::LineMap;
 use std::process::Abort;
 use std::test::Fail;
 

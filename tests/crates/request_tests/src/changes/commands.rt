@@ -1,12 +1,11 @@
 //! The requests of the commands that a row spells.
 use super::removal::removing;
 use crate::fixtures::{RowError, Scene, asked, name, play};
-use rbd_admin::ListRequest;
-use rbd_discard::discard_request;
+use rbd_data::discard_request;
+use rbd_image::{ListRequest, RemoveRequest, ResizeRequest};
 use rbd_kinds::{Command, SessionNo, SiteId};
 use rbd_machine::Machine;
-use rbd_remove::RemoveRequest;
-use rbd_resize::{ResizeRequest, RollbackRequest};
+use rbd_snap::RollbackRequest;
 use std::alloc::Global;
 
 /// Who removes.

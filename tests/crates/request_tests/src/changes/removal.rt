@@ -1,8 +1,8 @@
 //! The removal of an image alone, as a request: by a header that lists snapshots, which no `rm`
 //! removes.
 use crate::fixtures::{Alone, IMAGE, header};
+use rbd_image::Remove;
 use rbd_kinds::{NoMemory, SiteId};
-use rbd_remove::Remove;
 use std::alloc::Global;
 
 /// The removal by the header that a look tells.

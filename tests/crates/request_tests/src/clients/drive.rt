@@ -17,12 +17,12 @@
 use super::notices::{hears, was_told};
 use super::operations::is_operation;
 use crate::fixtures::{ME, Slots, can_give, number, served};
+use rbd_catalog::SessionRequest;
 use rbd_client::Client;
 use rbd_kinds::{
-    Answer, Command, Fed, HeaderOp, ImageAt, ImageId, Instance, NoMemory, Op, Reply, SiteId, Slot,
-    Turn,
+    Answer, Command, Fed, Flow, HeaderOp, ImageAt, ImageId, Instance, NoMemory, Op, Reply, SiteId,
+    Slot,
 };
-use rbd_requests::SessionRequest;
 use std::alloc::Global;
 
 /// What a client does that takes the lock of the image 7, and leaves it at rest.
@@ -123,10 +123,10 @@ fn may_give(client: &Inner, site: SiteId, op: &Op, answer: &Answer) -> bool {
     can_give(op, answer) && is_at_rest(client, site, op)
 }
 
-fn turn_of(reply: Option<Reply>) -> Turn {
+fn turn_of(reply: Option<Reply>) -> Flow {
     match reply {
-        Some(reply) => Turn::Done(reply),
-        None => Turn::More,
+        Some(reply) => Flow::Done(reply),
+        None => Flow::More,
     }
 }
 
@@ -136,7 +136,7 @@ fn tell(
     client: &mut Inner,
     slot: Slot,
     fed: &Fed,
-) -> Result<Option<Turn>, NoMemory> {
+) -> Result<Option<Flow>, NoMemory> {
     let Fed::Answer(answer) = fed else {
         return Ok(None);
     };
@@ -196,7 +196,7 @@ impl Slots for Tested {
         self.client.refuse(slot)
     }
 
-    fn tell(&mut self, alloc: Global, slot: Slot, fed: &Fed) -> Result<Option<Turn>, NoMemory> {
+    fn tell(&mut self, alloc: Global, slot: Slot, fed: &Fed) -> Result<Option<Flow>, NoMemory> {
         tell(alloc, &mut self.client, slot, fed)
     }
 

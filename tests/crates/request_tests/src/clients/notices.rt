@@ -2,8 +2,8 @@
 use super::operations::image;
 use crate::fixtures::{ME, OWNER};
 use rbd_client::Client;
-use rbd_course::Request;
 use rbd_kinds::{Bytes, NoMemory, Notice, NoticeKind, SiteId};
+use rbd_machine::Request;
 use std::alloc::Global;
 
 /// What a notice of a word says: a word that is none of the lock's is told as it is.

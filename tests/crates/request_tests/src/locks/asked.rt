@@ -16,10 +16,10 @@
 //! What it did is what the site wrote down, exactly. Where it is left out it isn't looked at.
 use super::site::{HERE, Site, instance};
 use crate::fixtures::{IMAGE, RowError, behind, has, hello, holds, name, number, play};
-use rbd_close::CloseRequest;
 use rbd_kinds::Command;
+use rbd_lock::{Acquire, Release};
 use rbd_machine::Reason;
-use rbd_owner::{Acquire, Release};
+use rbd_session::CloseRequest;
 use std::alloc::Global;
 use std::process::Abort;
 

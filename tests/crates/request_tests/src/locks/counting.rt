@@ -1,7 +1,7 @@
 //! What is counted of three images behind each step of a course.
 use super::steps::{image_at, step};
 use rbd_kinds::{ImageAt, NoMemory, SiteId};
-use rbd_locks::{LockState, Locks};
+use rbd_lock::{LockState, Locks};
 use std::alloc::Global;
 use std::process::Abort;
 

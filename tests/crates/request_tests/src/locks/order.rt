@@ -1,7 +1,7 @@
 //! In which order images that were asked for come.
 use super::steps::{image_at, step};
 use rbd_kinds::{NoMemory, SiteId};
-use rbd_locks::Locks;
+use rbd_lock::Locks;
 use std::alloc::Global;
 use std::process::Abort;
 

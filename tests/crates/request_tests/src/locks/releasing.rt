@@ -5,7 +5,7 @@
 use super::asked::table_holds;
 use crate::fixtures::{IMAGE, OWNER};
 use rbd_kinds::{Answer, HeaderOp, Op};
-use rbd_locks::owns_lock_after;
+use rbd_lock::owns_lock_after;
 
 const ROWS: &str = "\
 release|owned|done waits 0|lock-drop: done, notify ReleasedLock: done

@@ -8,8 +8,8 @@ use rbd_kinds::{
     Answer, DirectoryOp, HeaderOp, Instance, Instances, NoMemory, NoticeKind, Op, Shared, SiteId,
     Want,
 };
+use rbd_lock::is_waiting;
 use rbd_machine::Reason;
-use rbd_owner::is_waiting;
 use std::alloc::Global;
 
 /// The site of these tests.

@@ -3,7 +3,7 @@ use rbd_kinds::{
     Answer, Bytes, HeaderOp, ImageAt, ImageId, Instance, NoMemory, Notice, NoticeKind, Op,
     SessionNo, SiteId,
 };
-use rbd_locks::Locks;
+use rbd_lock::Locks;
 use std::alloc::Global;
 
 const fn instance(session: u8) -> Instance {

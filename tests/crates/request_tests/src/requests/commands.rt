@@ -5,10 +5,11 @@
 use crate::fixtures::{
     RowError, asked, fails, fill_length, holds, name, number, payload, plays, read_length,
 };
-use rbd_admin::{CreateRequest, ListRequest, SnapRequest};
+use rbd_data::{ReadRequest, write_request};
+use rbd_image::{CreateRequest, ListRequest};
 use rbd_kinds::{AskedName, Command, Number, Shape, SiteId};
 use rbd_machine::Machine;
-use rbd_request::{ReadRequest, write_request};
+use rbd_snap::SnapRequest;
 use std::alloc::Global;
 use std::process::Abort;
 

@@ -3,8 +3,8 @@
 use super::commands::first_row;
 use crate::fixtures::{IMAGE, holds, plays};
 use rbd_kinds::{
-    Answer, Bytes, Fed, HeaderView, Name, NoMemory, Op, Refusal, Reply, Role, Sharing, SiteId,
-    Turn, Want,
+    Answer, Bytes, Fed, Flow, HeaderView, Name, NoMemory, Op, Refusal, Reply, Role, Sharing,
+    SiteId, Want,
 };
 use rbd_machine::{
     Approach, Machine, Progress, Reason, Refuses, non_primary, told_done, told_header, told_image,
@@ -57,16 +57,16 @@ impl Machine for Change {
     }
 
     fn ready(&mut self, _alloc: Global, _fed: &Fed) -> Result<(), NoMemory> {
-        let is_own = self.way.owning() == Some(IMAGE);
+        let is_own = self.way.under_lock() == Some(IMAGE);
         self.own.push(if is_own { 'o' } else { '-' })?;
         Ok(())
     }
 
-    fn feed(&mut self, fed: &Fed) -> Turn {
+    fn feed(&mut self, fed: &Fed) -> Flow {
         match self.way.feed(&RULE, fed) {
-            Progress::More => Turn::More,
-            Progress::Ended(_) => Turn::Done(Reply::Done),
-            Progress::Refused(refusal) => Turn::Done(Reply::Refused(refusal)),
+            Progress::More => Flow::More,
+            Progress::Ended(_) => Flow::Done(Reply::Done),
+            Progress::Refused(refusal) => Flow::Done(Reply::Refused(refusal)),
         }
     }
 }
@@ -149,7 +149,7 @@ header-get => fenced
 Fenced";
 
 #[test]
-fn changes_go_to_their_own_look(rt: HostRuntime) {
+fn changes_go_to_their_look_under_lock(rt: HostRuntime) {
     cases_go(&rt, rt.alloc(), CASES);
 }
 

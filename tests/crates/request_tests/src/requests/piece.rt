@@ -8,7 +8,7 @@ use rbd_kinds::{
 };
 use rbd_layout::Piece;
 use rbd_machine::Progress;
-use rbd_piece::{Gather, WritePiece};
+use rbd_pieces::{Gather, WritePiece};
 use std::alloc::Global;
 use std::process::Abort;
 use std::test::Fail;

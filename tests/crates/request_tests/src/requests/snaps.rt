@@ -1,9 +1,9 @@
 //! A snapshot is taken, and one removed, by the parts of a request that come behind its event: each
 //! as a request of its own, to its end. What it has to want was worked out from its diagram.
 use crate::fixtures::{Alone, IMAGE, header, holds, plays};
-use rbd_admin::{RemoveSnap, TakeSnap};
 use rbd_header::is_full;
 use rbd_kinds::{Bytes, HeaderView, Name, NoMemory, SiteId, SnapView};
+use rbd_snap::{RemoveSnap, TakeSnap};
 use std::alloc::Global;
 
 // ---- a snapshot is taken

@@ -9,9 +9,9 @@
 //! Whether a request may go on, and wants an operation that can give an answer, is looked at before
 //! it is fed: nothing proves that the rows of a test keep to that.
 use crate::fixtures::{ME, Slots, can_give, number, served};
-use rbd_kinds::{Answer, Command, Fed, ImageAt, ImageId, NoMemory, Op, Reply, SiteId, Slot, Turn};
-use rbd_requests::SessionRequest;
-use rbd_session::Session;
+use rbd_catalog::SessionRequest;
+use rbd_kinds::{Answer, Command, Fed, Flow, ImageAt, ImageId, NoMemory, Op, Reply, SiteId, Slot};
+use rbd_slots::Session;
 use std::alloc::Global;
 
 /// Who has requests of all commands.
@@ -64,11 +64,11 @@ fn feed(
     session: &mut Inner,
     slot: Slot,
     fed: &Fed,
-) -> Result<Option<Turn>, NoMemory> {
+) -> Result<Option<Flow>, NoMemory> {
     session.ready(alloc, slot, fed)?;
     match session.feed(slot, fed) {
-        Some(reply) => Ok(Some(Turn::Done(reply))),
-        None => Ok(Some(Turn::More)),
+        Some(reply) => Ok(Some(Flow::Done(reply))),
+        None => Ok(Some(Flow::More)),
     }
 }
 
@@ -78,7 +78,7 @@ fn tell(
     session: &mut Inner,
     slot: Slot,
     fed: &Fed,
-) -> Result<Option<Turn>, NoMemory> {
+) -> Result<Option<Flow>, NoMemory> {
     let Fed::Answer(answer) = fed else {
         return Ok(None);
     };
@@ -90,7 +90,7 @@ fn tell(
 
 /// Whether a slot stands at the look under the lock of the image of this number, or at none.
 fn looks_at(session: &Inner, slot: Slot, word: &str) -> bool {
-    match session.own_look(slot) {
+    match session.look_under_lock(slot) {
         Some(at) => at.site == SiteId::A && u64::from(at.image.0) == number(word),
         None => word == "none",
     }
@@ -139,7 +139,7 @@ impl Slots for Tested {
         self.session.refuse(slot)
     }
 
-    fn tell(&mut self, alloc: Global, slot: Slot, fed: &Fed) -> Result<Option<Turn>, NoMemory> {
+    fn tell(&mut self, alloc: Global, slot: Slot, fed: &Fed) -> Result<Option<Flow>, NoMemory> {
         tell(alloc, &mut self.session, slot, fed)
     }
 

@@ -92,7 +92,7 @@ free 2
 free 1";
 
 #[test]
-fn own_looks_and_rest(rt: HostRuntime) -> Result<(), Fail> {
+fn looks_under_lock_and_rest(rt: HostRuntime) -> Result<(), Fail> {
     cases_hold::<Tested>(rt.alloc(), "", CASES)?;
     Ok(())
 }

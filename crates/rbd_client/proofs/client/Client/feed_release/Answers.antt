@@ -4,7 +4,7 @@ use Rattle.rbd_client.specs.declared.actor.Actor.TheVariants as actor
 use Rattle.rbd_client.specs.Actor.{actor_at, op_by, op_wanted}
 use Rattle.rbd_client.specs.Client.{ClientView}
 use Rattle.rbd_client.specs.Feeding.{comings_of, CountsAll}
-use Rattle.rbd_owner.specs.Release.{release_op}
+use Rattle.rbd_lock.specs.Release.{release_op}
 use Rattle.rbd_client.proofs.OnWay.{release_sound}
 use Rattle.rbd_client.proofs.client.Client.feed_release.Goals as goal
 use Rattle.rbd_commands.specs.declared.quiescing.Quiescing.TheVariants as quiescing

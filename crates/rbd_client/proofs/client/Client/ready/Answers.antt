@@ -3,8 +3,8 @@ use Rattle.rbd_client.specs.declared.actor.Actor.TheVariants as actor
 use Rattle.rbd_client.specs.Actor.{actor_at}
 use Rattle.rbd_client.specs.Client.{ClientView}
 use Rattle.rbd_client.specs.Feeding.{CanGet, IsClientAlike}
-use Rattle.rbd_session.specs.Session.{held_in}
-use Rattle.rbd_session.proofs.Readied.{alike_itself}
+use Rattle.rbd_slots.specs.Session.{held_in}
+use Rattle.rbd_slots.proofs.Readied.{alike_itself}
 use Rattle.rbd_client.proofs.Alike.{ready_then, ready_without, sound_alike, stays_where_same}
 use Rattle.rbd_client.proofs.client.Client.ready.Goals as goal
 

@@ -1,7 +1,7 @@
 use Rattle.std.proofs.Common.{◌≡◌, ◌∙◌, refl, sym, ap}
 use Rattle.rbd_client.specs.Client.{newcomer}
 use Rattle.rbd_client.proofs.Calls.{newcomer_held, slot_set_sound}
-use Rattle.rbd_session.specs.Session.{held_in, seat_of}
+use Rattle.rbd_slots.specs.Session.{held_in, seat_of}
 use Rattle.rbd_client.proofs.client.Client.submit.Goals as goal
 
 pub invariant_of-self-2 : goal.invariant_of-self-2

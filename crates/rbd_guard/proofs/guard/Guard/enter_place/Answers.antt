@@ -1,6 +1,6 @@
 use Rattle.std.proofs.Common.{ℕ, ◌+◌, ◌-◌, ◌<◌, ◌^◌, ◌++◌, [], ◌∷◌, Some, cond, nat_eq, refl, sym, ap, ◌∙◌, arith}
 use Rattle.rbd_guard.specs.Slab.{used_at}
-use Rattle.rbd_guard.specs.Tickets.{Tickets, queue, list, object_of, request_of}
+use Rattle.rbd_guard.specs.Tickets.{Tickets, queue, list, ticket_object, ticket_request}
 use Rattle.rbd_guard.specs.contracts.guard.Guard.{the_view}
 use Rattle.rbd_guard.proofs.Holding.{again, sound}
 use Rattle.rbd_guard.proofs.Taken.{IsEntered, entered_held, entered_queue, entered_list, entered_object, entered_request, no_object}
@@ -54,15 +54,15 @@ returns-clause-list c = λ r.
 pub returns-clause-object : goal.returns-clause-object
 returns-clause-object c = λ t.
     entered_object _ _ _ _ _ _ _ (again _ _ c.self.invariant) (entered c _) t
-    ∙ ap (λ g. cond (nat_eq c.self.inside.drawn t) (Some c.args.object) (object_of t g)) c.self.view_is
+    ∙ ap (λ g. cond (nat_eq c.self.inside.drawn t) (Some c.args.object) (ticket_object t g)) c.self.view_is
 
 pub returns-clause-request : goal.returns-clause-request
 returns-clause-request c = λ t.
     entered_request _ _ _ _ _ _ _ (again _ _ c.self.invariant) (entered c _) t
-    ∙ ap (λ g. cond (nat_eq c.self.inside.drawn t) (Some c.args.request) (request_of t g)) c.self.view_is
+    ∙ ap (λ g. cond (nat_eq c.self.inside.drawn t) (Some c.args.request) (ticket_request t g)) c.self.view_is
 
 pub returns-clause-fresh : goal.returns-clause-fresh
-returns-clause-fresh c = sym (ap (object_of c.self.inside.drawn) c.self.view_is) ∙ no_object (the_view c.self.inside) (again _ _ c.self.invariant)
+returns-clause-fresh c = sym (ap (ticket_object c.self.inside.drawn) c.self.view_is) ∙ no_object (the_view c.self.inside) (again _ _ c.self.invariant)
 
 pub returns-clause-sound : goal.returns-clause-sound
 returns-clause-sound c = sound _ (entered_held _ _ _ _ _ _ _ (again _ _ c.self.invariant) (entered c _))

@@ -1,9 +1,9 @@
 use Rattle.std.proofs.Common.{ℕ, None, cond, nat_eq, refl, ap, ◌∙◌}
 use Rattle.std.specs.Option.{is_some, option_map}
-use Rattle.rbd_guard.specs.declared.link.Place.{Place}
+use Rattle.rbd_guard.specs.declared.link.SlabPlace.{SlabPlace}
 use Rattle.rbd_guard.specs.Order.{without}
 use Rattle.rbd_guard.specs.Slab.{queue_link, list_link}
-use Rattle.rbd_guard.specs.Tickets.{queue, list, object_of, request_of, ends_at}
+use Rattle.rbd_guard.specs.Tickets.{queue, list, ticket_object, ticket_request, ends_at}
 use Rattle.rbd_guard.specs.contracts.guard.Guard.{the_view}
 use Rattle.rbd_guard.proofs.Removed.{some_stand}
 use Rattle.rbd_guard.proofs.Holding.{again, sound, has_place, place_used}
@@ -13,8 +13,8 @@ use Rattle.rbd_guard.proofs.guard.Guard.leave.Goals as goal
 pub take_place-at-requires : goal.take_place-at-requires
 take_place-at-requires c =
     has_place (the_view c.self.inside) (again _ _ c.self.invariant) c.ticket.inside.number
-    (ap (λ g. is_some (object_of c.ticket.inside.number g)) c.self.view_is
-    ∙ ap (λ t. is_some (object_of t c.args.self.now)) c.ticket.view_is ∙ c.requires)
+    (ap (λ g. is_some (ticket_object c.ticket.inside.number g)) c.self.view_is
+    ∙ ap (λ t. is_some (ticket_object t c.args.self.now)) c.ticket.view_is ∙ c.requires)
 
 pub leave-left-requires : goal.leave-left-requires
 leave-left-requires c =
@@ -23,12 +23,12 @@ leave-left-requires c =
 pub leave_queue-requires : goal.leave_queue-requires
 leave_queue-requires c =
     some_stand (queue_link c.self.inside.slab.places) (ends_at c.self.inside.queues.entries) c.take_place-at.result c.leave-left.result.queue
-    c.self.invariant.queues (ap (λ o. option_map (λ (p : Place). p.queue) o) c.leave-left.ensures.was)
+    c.self.invariant.queues (ap (λ o. option_map (λ (p : SlabPlace). p.queue) o) c.leave-left.ensures.was)
 
 pub leave_list-requires : goal.leave_list-requires
 leave_list-requires c =
     some_stand (list_link c.self.inside.slab.places) (ends_at c.self.inside.lists.entries) c.take_place-at.result c.leave-left.result.list
-    c.self.invariant.lists (ap (λ o. option_map (λ (p : Place). p.list) o) c.leave-left.ensures.was)
+    c.self.invariant.lists (ap (λ o. option_map (λ (p : SlabPlace). p.list) o) c.leave-left.ensures.was)
 
 is_out : (c : goal.After-leave_list) (room : ℕ)
     → IsOut (the_view c.self.inside)
@@ -74,14 +74,14 @@ returns-clause-list c = λ r.
 pub returns-clause-object : goal.returns-clause-object
 returns-clause-object c = λ t.
     left_object _ _ _ _ _ _ _ (again _ _ c.self.invariant) (is_out c _) t
-    ∙ ap (λ g. cond (nat_eq c.ticket.inside.number t) None (object_of t g)) c.self.view_is
-    ∙ ap (λ n. cond (nat_eq n t) None (object_of t c.args.self.now)) c.ticket.view_is
+    ∙ ap (λ g. cond (nat_eq c.ticket.inside.number t) None (ticket_object t g)) c.self.view_is
+    ∙ ap (λ n. cond (nat_eq n t) None (ticket_object t c.args.self.now)) c.ticket.view_is
 
 pub returns-clause-request : goal.returns-clause-request
 returns-clause-request c = λ t.
     left_request _ _ _ _ _ _ _ (again _ _ c.self.invariant) (is_out c _) t
-    ∙ ap (λ g. cond (nat_eq c.ticket.inside.number t) None (request_of t g)) c.self.view_is
-    ∙ ap (λ n. cond (nat_eq n t) None (request_of t c.args.self.now)) c.ticket.view_is
+    ∙ ap (λ g. cond (nat_eq c.ticket.inside.number t) None (ticket_request t g)) c.self.view_is
+    ∙ ap (λ n. cond (nat_eq n t) None (ticket_request t c.args.self.now)) c.ticket.view_is
 
 pub returns-clause-sound : goal.returns-clause-sound
 returns-clause-sound c = sound _ (left_held _ _ _ _ _ _ _ (again _ _ c.self.invariant) (is_out c _))

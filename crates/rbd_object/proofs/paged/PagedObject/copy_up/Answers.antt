@@ -1,6 +1,6 @@
 use Rattle.std.proofs.Common.{◌≡◌, false, None, ◌∙◌, ap, sym, subst, rules}
 use Rattle.rbd_object.specs.Paged.{Paged}
-use Rattle.rbd_object.specs.Shared.{IsKept, bytes_of}
+use Rattle.rbd_object.specs.Shared.{KeepsHead, bytes_of}
 use Rattle.rbd_object.proofs.PagedLemmas.{filled_paged, refused_paged}
 use Rattle.std.proofs.Common.{refl}
 use Rattle.rbd_object.proofs.paged.PagedObject.copy_up.Goals as goal
@@ -10,7 +10,7 @@ pub invariant_of-self : goal.invariant_of-self
 invariant_of-self c =
     let none : c.self.inside.head ≡ None = search rules in
     (refused_paged c.self.inside.sheaves c.fill.new.sheaves c.self.inside.head c.fill.new.head c.self.inside.seq c.self.inside.versions.items c.self.inside.versions.items
-    (subst (λ h. IsKept false c.self.inside.sheaves h c.fill.new.sheaves c.fill.new.head None) (sym none) c.fill.ensures.ok)
+    (subst (λ h. KeepsHead false c.self.inside.sheaves h c.fill.new.sheaves c.fill.new.head None) (sym none) c.fill.ensures.ok)
     (ap (bytes_of c.fill.new.sheaves) c.in_err-fill.ensures.err ∙ sym (ap (bytes_of c.self.inside.sheaves) none)) refl c.self.invariant).0
 
 pub returns-in_err-fill-clause-err : goal.returns-in_err-fill-clause-err
@@ -18,7 +18,7 @@ returns-in_err-fill-clause-err c =
     let none : c.self.inside.head ≡ None = search rules in
     on_err_always _
     ((refused_paged c.self.inside.sheaves c.fill.new.sheaves c.self.inside.head c.fill.new.head c.self.inside.seq c.self.inside.versions.items c.self.inside.versions.items
-    (subst (λ h. IsKept false c.self.inside.sheaves h c.fill.new.sheaves c.fill.new.head None) (sym none) c.fill.ensures.ok)
+    (subst (λ h. KeepsHead false c.self.inside.sheaves h c.fill.new.sheaves c.fill.new.head None) (sym none) c.fill.ensures.ok)
     (ap (bytes_of c.fill.new.sheaves) c.in_err-fill.ensures.err ∙ sym (ap (bytes_of c.self.inside.sheaves) none)) refl c.self.invariant).1
     ∙ ap (λ (x : Paged). x.shown) c.self.view_is)
 

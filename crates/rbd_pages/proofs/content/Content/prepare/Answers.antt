@@ -1,6 +1,6 @@
 use Rattle.std.proofs.Common.{◌∙◌, ap, refl, sym, subst}
 use Rattle.rbd_pages.specs.Paging.{AreCounted}
-use Rattle.rbd_pages.specs.Listed.{Listed, bytes_in}
+use Rattle.rbd_pages.specs.Listed.{Listed, listed_bytes}
 use Rattle.rbd_pages.specs.Sheaves.{Exchanged, sheaves_for}
 use Rattle.rbd_pages.proofs.ListedLemmas.{refused_content}
 use Rattle.rbd_pages.proofs.content.Content.prepare.Goals as goal
@@ -23,4 +23,4 @@ pub returns-in-Err-clause-err : goal.returns-in-Err-clause-err
 returns-in-Err-clause-err c = (refused_content c.args.sheaves.now c.prepare.new.sheaves c.cut.new.sheaves (record { sheaves = c.self.inside.list.items; len = c.self.inside.len })
     (record { sheaves = c.cut.new.list.items; len = c.self.inside.len }) c.prepare.new.list.items _
     (rw c.self.view_is c.requires.content) (subst (λ (x : Listed). AreCounted c.args.sheaves.now.sheaves x.sheaves) (sym c.self.view_is) c.requires.counted)
-    c.in-Err.ensures.prepared (c.sheaves_for.ensures ∙ ap sheaves_for c.pages_for-held.ensures) c.cut.ensures.list refl c.cut.ensures.exchanged c.cut.ensures.kept).1.1 ∙ ap (bytes_in c.args.sheaves.now) c.self.view_is
+    c.in-Err.ensures.prepared (c.sheaves_for.ensures ∙ ap sheaves_for c.pages_for-held.ensures) c.cut.ensures.list refl c.cut.ensures.exchanged c.cut.ensures.kept).1.1 ∙ ap (listed_bytes c.args.sheaves.now) c.self.view_is

@@ -1,5 +1,5 @@
 use Rattle.std.proofs.Common.{◌+◌, ◌≡◌, ◌∙◌, ap, length, arith}
-use Rattle.rbd_pages.specs.Paging.{byte_at}
+use Rattle.rbd_pages.specs.Paging.{byte_on_pages}
 use Rattle.rbd_pages.specs.Listed.{Listed}
 use Rattle.rbd_pages.specs.Sheaves.{pages_in}
 use Rattle.rbd_pages.proofs.ListedLemmas.{past_window, read_window}
@@ -14,4 +14,4 @@ pub returns : goal.returns
 returns c =
     let list = c.as_slice.ensures.value ∙ ap (λ (x : Listed). x.sheaves) c.self.view_is in
     read_window c.args.sheaves.now c.args.self.now c.args.at (length c.args.into.now) c.read.new.into c.requires.content c.read.ensures.len
-    (λ j below. c.read.ensures.bytes j below ∙ ap (λ p. byte_at c.args.sheaves.now.sheets (pages_in c.args.sheaves.now.sheaves p) (c.args.at + j)) list)
+    (λ j below. c.read.ensures.bytes j below ∙ ap (λ p. byte_on_pages c.args.sheaves.now.sheets (pages_in c.args.sheaves.now.sheaves p) (c.args.at + j)) list)

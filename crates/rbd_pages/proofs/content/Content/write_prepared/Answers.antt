@@ -1,7 +1,7 @@
 use Rattle.std.proofs.Common.{◌+◌, ◌≡◌, ◌≤◌, ◌<◌, ◌/◌, ◌∙◌, ap, length, get_or, max, sym, subst, inl, inr, rules, arith}
 use Rattle.rbd_pages.specs.Paging.{IsWritten, pages_for}
 use Rattle.rbd_pages.specs.Listed.{Listed}
-use Rattle.rbd_pages.specs.Sheaves.{IsOwn, IsPrepared, pages_in}
+use Rattle.rbd_pages.specs.Sheaves.{IsOwnPage, ArePagesPrepared, pages_in}
 use Rattle.rbd_pages.specs.Sheets.{in_use}
 use Rattle.rbd_pages.proofs.ListedLemmas.{overwritten_none, length-bytes_in, written_at, written_used}
 use Rattle.rbd_pages.proofs.content.Content.write_prepared.Goals.{else-is_empty-via-then-is_empty+else-at-self, else-is_empty-via-else-is_empty}
@@ -20,10 +20,10 @@ returns-clause-exchanged c =
     let len = ap (λ (x : Listed). x.len) c.self-2.view_is ∙ c.in_ok-prepare.ensures.same in
     (written_at c.args.sheaves.now c.prepare.new.sheaves c.put.new.self c.args.self.now
     (record { sheaves = c.self-2.inside.list.items; len = c.max-self-inside.result }) c.args.at c.args.bytes.now c.requires.content c.put.ensures.stocked
-    (subst (IsPrepared c.args.sheaves.now c.args.self.now.sheaves c.prepare.new.sheaves) (sym list) c.in_ok-prepare.ensures.prepared)
+    (subst (ArePagesPrepared c.args.sheaves.now c.args.self.now.sheaves c.prepare.new.sheaves) (sym list) c.in_ok-prepare.ensures.prepared)
     (ap length list ∙ c.in_ok-prepare.ensures.held)
     (subst (λ x. pages_for (c.args.at + length c.args.bytes.now) ≤ length (pages_in c.prepare.new.sheaves.sheaves x)) (sym list) c.in_ok-prepare.ensures.long)
-    (λ j below. subst (λ x. IsOwn c.prepare.new.sheaves x ((c.args.at + j) / 4096) (get_or c.args.bytes.now j 0)) (sym list) (c.in_ok-prepare.ensures.ready j below))
+    (λ j below. subst (λ x. IsOwnPage c.prepare.new.sheaves x ((c.args.at + j) / 4096) (get_or c.args.bytes.now j 0)) (sym list) (c.in_ok-prepare.ensures.ready j below))
     c.put.ensures.sheaves
     (subst (λ x. IsWritten (pages_in c.prepare.new.sheaves.sheaves x) c.args.at c.args.bytes.now c.prepare.new.sheaves.sheets c.put.new.self.sheets) c.as_slice.ensures.value c.put.ensures.written)
     (c.max-self-inside.ensures ∙ ap (λ n. max n (c.args.at + length c.args.bytes.now)) len) c.requires.within).0
@@ -34,10 +34,10 @@ returns-clause-content c =
     let len = ap (λ (x : Listed). x.len) c.self-2.view_is ∙ c.in_ok-prepare.ensures.same in
     (written_at c.args.sheaves.now c.prepare.new.sheaves c.put.new.self c.args.self.now
     (record { sheaves = c.self-2.inside.list.items; len = c.max-self-inside.result }) c.args.at c.args.bytes.now c.requires.content c.put.ensures.stocked
-    (subst (IsPrepared c.args.sheaves.now c.args.self.now.sheaves c.prepare.new.sheaves) (sym list) c.in_ok-prepare.ensures.prepared)
+    (subst (ArePagesPrepared c.args.sheaves.now c.args.self.now.sheaves c.prepare.new.sheaves) (sym list) c.in_ok-prepare.ensures.prepared)
     (ap length list ∙ c.in_ok-prepare.ensures.held)
     (subst (λ x. pages_for (c.args.at + length c.args.bytes.now) ≤ length (pages_in c.prepare.new.sheaves.sheaves x)) (sym list) c.in_ok-prepare.ensures.long)
-    (λ j below. subst (λ x. IsOwn c.prepare.new.sheaves x ((c.args.at + j) / 4096) (get_or c.args.bytes.now j 0)) (sym list) (c.in_ok-prepare.ensures.ready j below))
+    (λ j below. subst (λ x. IsOwnPage c.prepare.new.sheaves x ((c.args.at + j) / 4096) (get_or c.args.bytes.now j 0)) (sym list) (c.in_ok-prepare.ensures.ready j below))
     c.put.ensures.sheaves
     (subst (λ x. IsWritten (pages_in c.prepare.new.sheaves.sheaves x) c.args.at c.args.bytes.now c.prepare.new.sheaves.sheets c.put.new.self.sheets) c.as_slice.ensures.value c.put.ensures.written)
     (c.max-self-inside.ensures ∙ ap (λ n. max n (c.args.at + length c.args.bytes.now)) len) c.requires.within).1.0
@@ -48,10 +48,10 @@ returns-clause-ok c =
     let len = ap (λ (x : Listed). x.len) c.self-2.view_is ∙ c.in_ok-prepare.ensures.same in
     (written_at c.args.sheaves.now c.prepare.new.sheaves c.put.new.self c.args.self.now
     (record { sheaves = c.self-2.inside.list.items; len = c.max-self-inside.result }) c.args.at c.args.bytes.now c.requires.content c.put.ensures.stocked
-    (subst (IsPrepared c.args.sheaves.now c.args.self.now.sheaves c.prepare.new.sheaves) (sym list) c.in_ok-prepare.ensures.prepared)
+    (subst (ArePagesPrepared c.args.sheaves.now c.args.self.now.sheaves c.prepare.new.sheaves) (sym list) c.in_ok-prepare.ensures.prepared)
     (ap length list ∙ c.in_ok-prepare.ensures.held)
     (subst (λ x. pages_for (c.args.at + length c.args.bytes.now) ≤ length (pages_in c.prepare.new.sheaves.sheaves x)) (sym list) c.in_ok-prepare.ensures.long)
-    (λ j below. subst (λ x. IsOwn c.prepare.new.sheaves x ((c.args.at + j) / 4096) (get_or c.args.bytes.now j 0)) (sym list) (c.in_ok-prepare.ensures.ready j below))
+    (λ j below. subst (λ x. IsOwnPage c.prepare.new.sheaves x ((c.args.at + j) / 4096) (get_or c.args.bytes.now j 0)) (sym list) (c.in_ok-prepare.ensures.ready j below))
     c.put.ensures.sheaves
     (subst (λ x. IsWritten (pages_in c.prepare.new.sheaves.sheaves x) c.args.at c.args.bytes.now c.prepare.new.sheaves.sheets c.put.new.self.sheets) c.as_slice.ensures.value c.put.ensures.written)
     (c.max-self-inside.ensures ∙ ap (λ n. max n (c.args.at + length c.args.bytes.now)) len) c.requires.within).1.1

@@ -5,7 +5,7 @@ use Rattle.std.specs.Map.{keys_of}
 use Rattle.std.specs.List.Sorted.{IsStrictlySortedBy}
 use Rattle.std.specs.Prelude.{IsTrue, ◌↔◌}
 use Rattle.std.proofs.lemmas.Map.Made.{filter_same_pairs}
-use Rattle.rbd_registry.specs.Directory.{Listing, listing_of, name_cmp, id_of, but, freed, holds, IsNamed, IsSoundListing}
+use Rattle.rbd_registry.specs.Directory.{Listing, listing_of, name_cmp, id_of, but, freed, holds_id, IsNamed, IsSoundListing}
 use Rattle.rbd_registry.proofs.Listings.{stays, free_listed, id_freed, sound_freed, found_freed, held_freed, same_freed}
 use Rattle.rbd_registry.proofs.directory.Directory.remove.Goals as goal
 
@@ -31,7 +31,7 @@ returns c =
       found = subst (λ d. IsTrue (not (eqb c.len.result c.len-before.result)) ↔ IsNamed d image) c.self.view_is
           (found_freed image es n sorted c.len.result c.len-before.result (c.len.ensures.len ∙ ap length same) c.len-before.ensures.len);
       held = held_freed image es n sorted c.len.result c.len-before.result (c.len.ensures.len ∙ ap length same) c.len-before.ensures.len
-          ∙ ap (holds image) c.self.view_is;
+          ∙ ap (holds_id image) c.self.view_is;
       each = λ name. ap (λ (d : Listing). id_of d name) now ∙ id_freed image es n sorted name ∙ ap (λ (d : Listing). but image (id_of d name)) c.self.view_is;
       freed = now ∙ free_listed image es n sorted ∙ ap (freed image) c.self.view_is;
       missing = subst (λ d. OnFalse (not (eqb c.len.result c.len-before.result)) (d ≡ c.args.self.now)) (sym now)

@@ -4,7 +4,7 @@ use Rattle.std.proofs.lemmas.Option.{slice_get_past, slice_get-get_or}
 use Rattle.rbd_world.specs.Seen.{seen}
 use Rattle.rbd_schedule.specs.declared.given.Given.{Given}
 use Rattle.rbd_world.specs.Step.{is_begun}
-use Rattle.rbd_schedule.specs.Playing.{at_place, has_line, is_beside, is_over}
+use Rattle.rbd_schedule.specs.Playing.{at_place, has_line, may_start_beside, is_over}
 use Rattle.rbd_schedule.specs.Starts.{earliest}
 use Rattle.rbd_schedule.proofs.Earliest.{earliest_beside, earliest_front, earliest_none, earliest_open, found_there, none_beside}
 use Rattle.rbd_schedule.proofs.queue.Queue.earliest.Goals as goal
@@ -43,7 +43,7 @@ returns-then-self-len-clause-earliest c =
     let x : Given = get_or xs n c.in_ok-first.first.now in
     let is : slice_get xs n ≡ Some x = slice_get-get_or xs n c.in_ok-first.first.now below in
     is ∙ sym (beside_alone c ∙ earliest_beside (λ line. is_begun line (seen c.args.world.now).history) (λ line. has_line line c.args.ended.now) n xs x
-    (subst (λ (ys : List Given). All (λ x. is_beside (λ line. is_begun line (seen c.args.world.now).history) x ≡ false) (take n ys)) c.as_slice-2.ensures.value c.first_beside-self.ensures.begun) is
+    (subst (λ (ys : List Given). All (λ x. may_start_beside (λ line. is_begun line (seen c.args.world.now).history) x ≡ false) (take n ys)) c.as_slice-2.ensures.value c.first_beside-self.ensures.begun) is
     (c.first_beside-self.ensures.beside x (subst (λ (ys : List Given). slice_get ys n ≡ Some x) (sym c.as_slice-2.ensures.value) is)))
 
 pub returns-then-self-len-clause-queue : goal.returns-then-self-len-clause-queue
@@ -51,7 +51,7 @@ returns-then-self-len-clause-queue c = record {
   front = subst (λ (ys : List Given). c.first_open-self.result ≤ length ys) c.as_slice.ensures.value c.first_open-self.ensures.end;
   over = subst (λ (ys : List Given). All (λ x. is_over (λ line. is_begun line (seen c.args.world.now).history) (λ line. has_line line c.args.ended.now) x ≡ true) (take c.first_open-self.result ys)) c.as_slice.ensures.value c.first_open-self.ensures.over;
   next = subst (λ (ys : List Given). c.first_beside-self.result ≤ length ys) c.as_slice-2.ensures.value c.first_beside-self.ensures.end;
-  passed = subst (λ (ys : List Given). All (λ x. is_beside (λ line. is_begun line (seen c.args.world.now).history) x ≡ false) (take c.first_beside-self.result ys)) c.as_slice-2.ensures.value c.first_beside-self.ensures.begun;
+  passed = subst (λ (ys : List Given). All (λ x. may_start_beside (λ line. is_begun line (seen c.args.world.now).history) x ≡ false) (take c.first_beside-self.result ys)) c.as_slice-2.ensures.value c.first_beside-self.ensures.begun;
 }
 
 pub returns-else-self-len-clause-earliest : goal.returns-else-self-len-clause-earliest
@@ -65,7 +65,7 @@ returns-else-self-len-clause-earliest c =
     (c.first_open-self.ensures.open c.in_ok-first.first.now (subst (λ (ys : List Given). slice_get ys c.first_open-self.result ≡ Some c.in_ok-first.first.now) (sym c.as_slice.ensures.value) is))
     (sym c.if-not-has_begun.ensures.begun)
     ∙ none_beside (λ line. is_begun line (seen c.args.world.now).history) (λ line. has_line line c.args.ended.now) n xs
-    (subst (λ (ys : List Given). All (λ x. is_beside (λ line. is_begun line (seen c.args.world.now).history) x ≡ false) (take n ys)) c.as_slice-2.ensures.value c.first_beside-self.ensures.begun)
+    (subst (λ (ys : List Given). All (λ x. may_start_beside (λ line. is_begun line (seen c.args.world.now).history) x ≡ false) (take n ys)) c.as_slice-2.ensures.value c.first_beside-self.ensures.begun)
     (slice_get_past xs n past))
 
 pub returns-else-self-len-clause-queue : goal.returns-else-self-len-clause-queue
@@ -73,5 +73,5 @@ returns-else-self-len-clause-queue c = record {
   front = subst (λ (ys : List Given). c.first_open-self.result ≤ length ys) c.as_slice.ensures.value c.first_open-self.ensures.end;
   over = subst (λ (ys : List Given). All (λ x. is_over (λ line. is_begun line (seen c.args.world.now).history) (λ line. has_line line c.args.ended.now) x ≡ true) (take c.first_open-self.result ys)) c.as_slice.ensures.value c.first_open-self.ensures.over;
   next = subst (λ (ys : List Given). c.first_beside-self.result ≤ length ys) c.as_slice-2.ensures.value c.first_beside-self.ensures.end;
-  passed = subst (λ (ys : List Given). All (λ x. is_beside (λ line. is_begun line (seen c.args.world.now).history) x ≡ false) (take c.first_beside-self.result ys)) c.as_slice-2.ensures.value c.first_beside-self.ensures.begun;
+  passed = subst (λ (ys : List Given). All (λ x. may_start_beside (λ line. is_begun line (seen c.args.world.now).history) x ≡ false) (take c.first_beside-self.result ys)) c.as_slice-2.ensures.value c.first_beside-self.ensures.begun;
 }

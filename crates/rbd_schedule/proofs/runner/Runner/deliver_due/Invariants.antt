@@ -2,8 +2,8 @@ use Rattle.std.proofs.Common.{◌≡◌, ℕ, ◌+◌, ◌≤◌}
 use Rattle.rbd_client.specs.Seen.{as_is}
 use Rattle.rbd_world.specs.Seen.{seen}
 use Rattle.rbd_schedule.specs.Deeds.{Deeds}
-use Rattle.rbd_schedule.specs.Notices.{is_due}
-use Rattle.rbd_schedule.specs.Playing.{GoesOn, given_to, lost_in}
+use Rattle.rbd_schedule.specs.Notices.{is_notice_due}
+use Rattle.rbd_schedule.specs.Playing.{RunnerGoesOn, given_to, lost_in}
 use Rattle.rbd_schedule.specs.Schedule.{DeliversWhere}
 use Rattle.rbd_schedule.proofs.runner.Runner.deliver_due.Given as goal
 
@@ -11,7 +11,7 @@ use Rattle.rbd_schedule.proofs.runner.Runner.deliver_due.Given as goal
 -- due
 abbrev pub invariant-loop-k : goal.invariant-loop-k
 invariant-loop-k l = record {
-  goes : GoesOn l.fn.self l.self;
-  notices : Deeds (λ k. DeliversWhere as_is (given_to l.fn.self) (is_due (lost_in l.fn.self) l.fn.session (k + 1) (seen l.fn.self.world)) (k + 1)) l.k (seen l.fn.self.world) (seen l.self.world);
-  due : (k : ℕ) → l.k ≤ k → is_due (lost_in l.fn.self) l.fn.session (k + 1) (seen l.self.world) ≡ is_due (lost_in l.fn.self) l.fn.session (k + 1) (seen l.fn.self.world);
+  goes : RunnerGoesOn l.fn.self l.self;
+  notices : Deeds (λ k. DeliversWhere as_is (given_to l.fn.self) (is_notice_due (lost_in l.fn.self) l.fn.session (k + 1) (seen l.fn.self.world)) (k + 1)) l.k (seen l.fn.self.world) (seen l.self.world);
+  due : (k : ℕ) → l.k ≤ k → is_notice_due (lost_in l.fn.self) l.fn.session (k + 1) (seen l.self.world) ≡ is_notice_due (lost_in l.fn.self) l.fn.session (k + 1) (seen l.fn.self.world);
 }

@@ -1,7 +1,7 @@
 use Rattle.std.proofs.Common.{◌<◌, ◌++◌, length, sym, ap, ◌∙◌, subst}
 use Rattle.std.proofs.lemmas.Result.{on_ok_weaker}
 use Rattle.rbd_world.specs.Seen.{seen}
-use Rattle.rbd_schedule.specs.Given.{given_by, loses, of_session}
+use Rattle.rbd_schedule.specs.Given.{given_by, loses_notice, of_session}
 use Rattle.rbd_schedule.specs.Playing.{given_to}
 use Rattle.rbd_schedule.specs.declared.runner.Runner.{Runner}
 use Rattle.rbd_schedule.proofs.Goes.{keeps_lost}
@@ -10,7 +10,7 @@ use Rattle.rbd_schedule.proofs.runner.Runner.give.Goals as goal
 pub returns-clause-keeps : goal.returns-clause-keeps
 returns-clause-keeps c =
     on_ok_weaker c.queue.result (λ keeps played before.
-    keeps played (keeps_lost c.args.self.now c.lose_by.new.self (λ number. loses number c.args.line.now.said) before c.lose_by.ensures.rest c.in_ok-lose_by.ensures.lost)) c.queue.ensures.keeps
+    keeps played (keeps_lost c.args.self.now c.lose_by.new.self (λ number. loses_notice number c.args.line.now.said) before c.lose_by.ensures.rest c.in_ok-lose_by.ensures.lost)) c.queue.ensures.keeps
 
 pub returns-clause-given : goal.returns-clause-given
 returns-clause-given c =

@@ -3,13 +3,13 @@ use Rattle.std.proofs.lemmas.Result.{on_ok_weaker}
 use Rattle.rbd_client.specs.Seen.{as_is}
 use Rattle.rbd_world.specs.Seen.{seen}
 use Rattle.rbd_world.specs.Sound.{IsSoundWorld}
-use Rattle.rbd_world.specs.Step.{IsStep}
-use Rattle.rbd_schedule.specs.Playing.{GoesOn, given_to}
+use Rattle.rbd_world.specs.Step.{IsWorldStep}
+use Rattle.rbd_schedule.specs.Playing.{RunnerGoesOn, given_to}
 use Rattle.rbd_schedule.specs.declared.runner.Runner.{Runner}
 use Rattle.rbd_schedule.proofs.Goes.{comes_then, goes_by_note, goes_then}
 use Rattle.rbd_schedule.proofs.runner.Runner.happen.Goals as goal
 
-first : (c : goal.After-start_all-arg-1) → GoesOn c.args.self.now c.note.new.self
+first : (c : goal.After-start_all-arg-1) → RunnerGoesOn c.args.self.now c.note.new.self
 first c =
     goes_by_note c.args.event c.args.self.now c.step.new.self c.note.new.self (length c.history-from.result.now) c.notice_of-told.result c.in_ok-outcome.outcome c.requires.none
     (ap length c.history-from.ensures) c.notice_of-told.ensures c.in_ok-outcome.ensures.step c.step.ensures.sound c.step.ensures.rest c.note.ensures.rest
@@ -27,7 +27,7 @@ returns-clause-happens c =
       result = c.in_ok-outcome.outcome;
       comes = comes_then as_is c.args.event c.in_ok-outcome.outcome (seen c.args.self.now.world) (seen c.note.new.self.world) (seen c.start_all.new.self.world)
           (given_to c.args.self.now) (given_to c.note.new.self) goes.given
-          (subst (λ w. IsStep as_is c.args.event (seen c.args.self.now.world) c.in_ok-outcome.outcome w) (sym (ap (λ (r : Runner). seen r.world) c.note.ensures.rest)) c.in_ok-outcome.ensures.step)
+          (subst (λ w. IsWorldStep as_is c.args.event (seen c.args.self.now.world) c.in_ok-outcome.outcome w) (sym (ap (λ (r : Runner). seen r.world) c.note.ensures.rest)) c.in_ok-outcome.ensures.step)
           (subst (IsSoundWorld as_is) (sym (ap (λ (r : Runner). seen r.world) c.note.ensures.rest)) c.step.ensures.sound)
           starts;
     }) c.start_all.ensures.starts

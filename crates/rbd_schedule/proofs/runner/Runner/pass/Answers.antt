@@ -4,9 +4,9 @@ use Rattle.std.proofs.lemmas.Bool.{cases_lt}
 use Rattle.std.proofs.lemmas.Option.{slice_get_read}
 use Rattle.std.specs.Vec.{vec_len, with_item}
 use Rattle.rbd_client.specs.Seen.{as_is}
-use Rattle.rbd_watch.specs.Posting.{numbered}
+use Rattle.rbd_watch.specs.Posting.{notice_numbered}
 use Rattle.rbd_world.specs.Seen.{seen}
-use Rattle.rbd_schedule.specs.Playing.{IsPassed, count_of, is_settled, lost_in}
+use Rattle.rbd_schedule.specs.Playing.{IsPassed, count_of, is_dealt_with, lost_in}
 use Rattle.rbd_schedule.proofs.Goes.{goes_by_pass}
 use Rattle.rbd_schedule.proofs.Passing.{passed_not_due, settled_passed}
 use Rattle.rbd_schedule.proofs.runner.Runner.pass.Goals as goal
@@ -25,7 +25,7 @@ all_passed c k below = by (cases_lt k c.in-Some-get_mut.passed.now)
         (subst (λ n. k < n) (sym (ap count_of (ap (slice_get c.args.self.now.passed.items) (sym c.session.view_is) ∙ there c))) before)
     by (inr from) =
         settled_passed as_is (lost_in c.args.self.now) (seen c.args.self.now.world) c.in-Some.who c.args.session (k + 1) c.requires.sound (sym c.running.ensures.running ∙ c.in-Some.is)
-        (subst (λ (heard : ℕ → Bool). is_settled heard (lost_in c.args.self.now) c.in-Some.who (k + 1) (numbered (k + 1) (seen c.args.self.now.world).sites.mail) ≡ true)
+        (subst (λ (heard : ℕ → Bool). is_dealt_with heard (lost_in c.args.self.now) c.in-Some.who (k + 1) (notice_numbered (k + 1) (seen c.args.self.now.world).sites.mail) ≡ true)
         (fun_ext c.requires.heard) (c.passed_on.ensures.passed k from below))
 
 pub returns-clause-none : goal.returns-clause-none

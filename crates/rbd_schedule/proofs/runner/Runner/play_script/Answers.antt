@@ -5,7 +5,7 @@ use Rattle.std.proofs.lemmas.Option.{slice_get_read}
 use Rattle.rbd_client.specs.Seen.{as_is}
 use Rattle.rbd_world.specs.Seen.{seen}
 use Rattle.rbd_schedule.specs.Deeds.{Deeds}
-use Rattle.rbd_schedule.specs.Given.{commands_of, given_in, is_lost_by, loses}
+use Rattle.rbd_schedule.specs.Given.{commands_of, given_in, is_lost_by, loses_notice}
 use Rattle.rbd_schedule.specs.InOrder.{AreDeclared}
 use Rattle.rbd_schedule.specs.Playing.{given_to, lost_in}
 use Rattle.rbd_schedule.specs.Schedule.{PlaysLine, closing_rounds}
@@ -37,7 +37,7 @@ loop-line-preserved c =
     = λ declared. given_along c.loop-line.self c.give.new.self (length c.args.script.now.sessions) c.args.script.now.lines c.loop-line.line-index c.line-item.result declared
     within is c.loop-line.invariant.queues (c.in_ok-give.ensures.queues ∙ c.loop-line.invariant.queues) (c.loop-line.invariant.given declared) c.in_ok-give.ensures.given in
     let losing : lost_in c.give.new.self ≡ is_lost_by (take (c.loop-line.line-index + 1) c.args.script.now.lines)
-    = fun_ext (λ number. c.in_ok-give.ensures.lost number ∙ ap (λ f. f number || loses number c.line-item.result.said) c.loop-line.invariant.lost
+    = fun_ext (λ number. c.in_ok-give.ensures.lost number ∙ ap (λ f. f number || loses_notice number c.line-item.result.said) c.loop-line.invariant.lost
     ∙ sym (lost_more c.args.script.now.lines c.loop-line.line-index c.line-item.result number within is)) in
     record {
       queues = c.in_ok-play_line.ensures.goes.queues ∙ c.in_ok-give.ensures.queues ∙ c.loop-line.invariant.queues;

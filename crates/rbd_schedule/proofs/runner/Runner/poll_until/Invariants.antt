@@ -1,13 +1,13 @@
 use Rattle.rbd_client.specs.Seen.{as_is}
 use Rattle.rbd_world.specs.Seen.{seen}
 use Rattle.rbd_schedule.specs.Deeds.{Deeds}
-use Rattle.rbd_schedule.specs.Playing.{GoesOn, given_to}
+use Rattle.rbd_schedule.specs.Playing.{RunnerGoesOn, given_to}
 use Rattle.rbd_schedule.specs.Schedule.{PollsBefore}
 use Rattle.rbd_schedule.proofs.runner.Runner.poll_until.Given as goal
 
 -- so many polls were made so far, and before each the slot didn't want the kind
 abbrev pub invariant-loop : goal.invariant-loop
 invariant-loop l = record {
-  goes : GoesOn l.fn.self l.self;
+  goes : RunnerGoesOn l.fn.self l.self;
   polls : Deeds (λ k. PollsBefore as_is (given_to l.fn.self) l.fn.session l.fn.slot l.fn.kind) l.counter (seen l.fn.self.world) (seen l.self.world);
 }

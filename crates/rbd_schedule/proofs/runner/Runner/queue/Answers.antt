@@ -2,7 +2,7 @@ use Rattle.std.proofs.Common.{◌≡◌, Some, true, [], ◌∷◌, ◌++◌, sl
 use Rattle.std.proofs.lemmas.Option.{slice_get_read, slice_get_within}
 use Rattle.std.proofs.lemmas.Result.{on_ok_weaker}
 use Rattle.std.specs.Vec.{vec_len, with_item}
-use Rattle.rbd_schedule.specs.Given.{given_by, listed, of_session}
+use Rattle.rbd_schedule.specs.Given.{given_by, given_or_none, of_session}
 use Rattle.rbd_schedule.specs.declared.given.Given.{Given}
 use Rattle.rbd_schedule.specs.Playing.{commands_in, given_to}
 use Rattle.rbd_schedule.proofs.Goes.{keeps_more, one_given}
@@ -20,7 +20,7 @@ there c =
     (c.in-Some-get_mut.ensures.variant.0 refl) c.in-Some-get_mut.ensures.value
 
 told : (c : goal.After-self-in-Some-get_mut-1) → c.in-Some.given ∷ [] ≡ given_by c.args.line.now.number c.args.line.now.said
-told c = sym (ap listed c.in-Some.is) ∙ c.in_ok-given.ensures
+told c = sym (ap given_or_none c.in-Some.is) ∙ c.in_ok-given.ensures
 
 pub returns-in-Some-get_mut-clause-keeps : goal.returns-in-Some-get_mut-clause-keeps
 returns-in-Some-get_mut-clause-keeps c =

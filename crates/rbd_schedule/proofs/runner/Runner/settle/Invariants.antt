@@ -2,14 +2,14 @@ use Rattle.std.proofs.Common.{◌≡◌, ℕ, ◌+◌, ◌≤◌, length}
 use Rattle.rbd_client.specs.Seen.{as_is}
 use Rattle.rbd_world.specs.Seen.{seen}
 use Rattle.rbd_schedule.specs.Deeds.{Deeds}
-use Rattle.rbd_schedule.specs.Playing.{GoesOn, given_to, lost_in}
+use Rattle.rbd_schedule.specs.Playing.{RunnerGoesOn, given_to, lost_in}
 use Rattle.rbd_schedule.specs.Schedule.{RoundsOn}
 use Rattle.rbd_schedule.proofs.runner.Runner.settle.Given as goal
 
 -- so many rounds were made so far
 abbrev pub invariant-loop-left : goal.invariant-loop-left
 invariant-loop-left l = record {
-  goes : GoesOn l.fn.self l.self;
+  goes : RunnerGoesOn l.fn.self l.self;
   count : ℕ;
   all : count + l.left ≡ l.fn.rounds;
   few : l.idle ≤ 8;

@@ -3,7 +3,7 @@ use Rattle.rbd_client.specs.Seen.{as_is}
 use Rattle.rbd_world.specs.Seen.{seen}
 use Rattle.rbd_world.specs.Step.{is_begun}
 use Rattle.rbd_schedule.specs.Deeds.{Deeds}
-use Rattle.rbd_schedule.specs.Playing.{GoesOn, given_to}
+use Rattle.rbd_schedule.specs.Playing.{RunnerGoesOn, given_to}
 use Rattle.rbd_schedule.specs.Schedule.{Starts}
 use Rattle.rbd_schedule.proofs.Left.{left_in}
 use Rattle.rbd_schedule.proofs.runner.Runner.start_all.Given as goal
@@ -11,7 +11,7 @@ use Rattle.rbd_schedule.proofs.runner.Runner.start_all.Given as goal
 -- so many commands were started so far
 abbrev pub invariant-loop : goal.invariant-loop
 invariant-loop l = record {
-  goes : GoesOn l.fn.self l.self;
+  goes : RunnerGoesOn l.fn.self l.self;
   count : ℕ;
   starts : Deeds (λ k. Starts as_is (given_to l.fn.self)) count (seen l.fn.self.world) (seen l.self.world);
 }

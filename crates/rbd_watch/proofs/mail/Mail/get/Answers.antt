@@ -1,6 +1,6 @@
 use Rattle.std.proofs.Common.{◌≡◌, ◌+◌, ◌-◌, ◌<◌, ◌≤◌, sym, ap, ◌∙◌, arith}
 use Rattle.std.specs.Prelude.{slice_get, option_copied}
-use Rattle.rbd_watch.specs.Posting.{numbered}
+use Rattle.rbd_watch.specs.Posting.{notice_numbered}
 use Rattle.rbd_watch.proofs.Numbers.{at_place, below}
 use Rattle.rbd_watch.proofs.mail.Mail.get.Goals as goal
 
@@ -11,7 +11,7 @@ returns-in_err-index c =
     let least : number < 1 = omega (arith, none) in
     ap option_copied c.from_residual.ensures
     ∙ sym (below 1 number c.self.inside.notices.items c.self.invariant least)
-    ∙ ap (numbered number) c.self.view_is
+    ∙ ap (notice_numbered number) c.self.view_is
 
 pub returns : goal.returns
 returns c =
@@ -23,5 +23,5 @@ returns c =
     c.notice_at.ensures
     ∙ ap (λ ns. slice_get ns index) c.as_slice-notices.ensures.value
     ∙ sym (at_place 1 index mail c.self.invariant)
-    ∙ ap (λ n. numbered n mail) place
-    ∙ ap (numbered number) c.self.view_is
+    ∙ ap (λ n. notice_numbered n mail) place
+    ∙ ap (notice_numbered number) c.self.view_is

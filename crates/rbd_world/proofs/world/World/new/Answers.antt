@@ -1,6 +1,6 @@
 use Rattle.std.proofs.Common.{sym, ap, ◌∙◌}
 use Rattle.rbd_client.specs.Seen.{as_is}
-use Rattle.rbd_requests.specs.Session.{stands_of}
+use Rattle.rbd_catalog.specs.Session.{stands_of}
 use Rattle.rbd_world.specs.Seen.{seen, seen_by}
 use Rattle.rbd_world.specs.Step.{is_begun}
 use Rattle.rbd_world.proofs.Beginning.{new_world_is_sound}

@@ -1,5 +1,0 @@
-use Rattle.rbd_admin.proofs.Bounds.{bounded_names}
-use Rattle.rbd_admin.proofs.laws.names_are_listed_at_once.Goals as goal
-
-pub returns : goal.returns
-returns c = λ home. bounded_names home 0

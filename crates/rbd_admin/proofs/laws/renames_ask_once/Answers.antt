@@ -1,5 +1,0 @@
-use Rattle.rbd_admin.proofs.Bounds.{bounded_rename}
-use Rattle.rbd_admin.proofs.laws.renames_ask_once.Goals as goal
-
-pub returns : goal.returns
-returns c = λ home from to. bounded_rename home from to 0

@@ -1,5 +1,0 @@
-use Rattle.rbd_admin.proofs.Shown.{name_is_changed}
-use Rattle.rbd_admin.proofs.laws.renames_change_the_name.Goals as goal
-
-pub returns : goal.returns
-returns c = λ site from to feds steps walk. name_is_changed site from to feds steps walk

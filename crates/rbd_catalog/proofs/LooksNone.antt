@@ -1,0 +1,113 @@
+-- Steps and parts of requests that look at no header.
+use Rattle.std.proofs.Common.{ℕ, List, [], ◌∷◌, Bool, true, false, Option, Some, None}
+use Rattle.std.specs.Prelude.{nat_le}
+use Rattle.rbd_kinds.specs.declared.header.HeaderView.{HeaderView}
+use Rattle.rbd_kinds.specs.declared.header.SnapContext.{SnapContext}
+use Rattle.rbd_kinds.specs.declared.header.SnapView.{SnapView}
+use Rattle.rbd_kinds.specs.declared.id.SiteId.{SiteId}
+use Rattle.rbd_kinds.specs.declared.operation.Op.{Op}
+use Rattle.rbd_kinds.specs.declared.reply.Reply.TheVariants as reply
+use Rattle.rbd_kinds.specs.declared.reply.Reply.{Reply}
+use Rattle.rbd_layout.specs.Pieces.{pieces_of}
+use Rattle.rbd_layout.specs.declared.types.Piece.{Piece}
+use Rattle.rbd_header.specs.Header.{context_of}
+use Rattle.rbd_machine.specs.Plan.{Plan, Return, Ask, Await, Note, Goto}
+use Rattle.rbd_machine.specs.Steps.{applied}
+use Rattle.rbd_machine.specs.Path.{at_operation}
+use Rattle.rbd_machine.specs.Label.{Label}
+use Rattle.rbd_meaning.specs.Count.{object_count}
+use Rattle.rbd_meaning.specs.Rollbacks.{at_size}
+use Rattle.rbd_pieces.specs.Gather.{gather}
+use Rattle.rbd_pieces.specs.Full.{cut_bytes, full_by, full_piece, replacing, writing_full}
+use Rattle.rbd_pieces.specs.Shrink.{pieces_from}
+use Rattle.rbd_pieces.specs.Size.{cutting, resize, resize_by, sizing}
+use Rattle.rbd_pieces.specs.Size as of_size
+use Rattle.rbd_pieces.specs.Zero.{emptying, head_of, is_inside, is_whole, removing, setting, zero_all, zero_by, zero_piece, zeroing}
+use Rattle.rbd_data.specs.Discard.{zero_in_turns}
+use Rattle.rbd_image.specs.Remove.{remove_each}
+use Rattle.rbd_snap.specs.Rollback.{restore_all, restore_pieces, roll_back_listed}
+use Rattle.rbd_catalog.specs.NoLooks.{AreNoLooks}
+use Rattle.rbd_catalog.specs.Looking.{LooksNoMore}
+use Rattle.rbd_catalog.proofs.PlanSteps.{at_done, at_bits, at_bytes, at_removed}
+
+-- ---- steps
+
+-- a reply looks at none
+pub none_ends : (r : Reply) → LooksNoMore (Return r)
+none_ends r = tt
+
+-- what comes up to the next operation looks at none either
+pub none_at_operation : (labels : Label → Plan) (p : Plan) → LooksNoMore p → LooksNoMore (at_operation labels p)
+none_at_operation labels (Ask site why o next) none = none
+none_at_operation labels (Await w next) none = none_at_operation labels next none
+none_at_operation labels (Note site image event next) none = none_at_operation labels next none
+none_at_operation labels (Return r) none = tt
+none_at_operation labels (Goto label) none = absurd none
+
+-- ---- parts of discard, resize and rollback
+
+module _ (site : SiteId) (image : ℕ) (context : SnapContext) (piece : Piece) (next : Plan) (none : LooksNoMore next) where
+  none_all : (inside : Bool) → LooksNoMore (zero_all site image context piece inside next)
+  none_all true = (tt, at_done LooksNoMore none_ends (emptying site image context piece next) (tt, at_done LooksNoMore none_ends next none))
+  none_all false =
+      (tt, at_done LooksNoMore none_ends (removing site image context piece (setting site image context piece 0 next)) (tt, at_done LooksNoMore none_ends (setting site image context piece 0 next) (tt, at_done LooksNoMore none_ends next none)))
+
+  none_by : (whole inside : Bool) → LooksNoMore (zero_by site image context piece whole inside next)
+  none_by true inside = none_all inside
+  none_by false true = (tt, at_done LooksNoMore none_ends (zeroing site image context piece true next) (tt, at_done LooksNoMore none_ends next none))
+  none_by false false = (tt, at_done LooksNoMore none_ends next none)
+
+  none_replacing : (bytes : List ℕ) → LooksNoMore (replacing site image context piece.object bytes next)
+  none_replacing bytes = (tt, at_done LooksNoMore none_ends (writing_full site image context piece.object bytes next) (tt, at_done LooksNoMore none_ends next none))
+
+module _ (site : SiteId) (image : ℕ) (h : HeaderView) where
+  none_zero : (piece : Piece) (next : Plan) → LooksNoMore next → LooksNoMore (zero_piece site image h piece next)
+  none_zero piece next none = none_by site image (context_of h) piece next none (is_whole h piece) (is_inside h piece.object)
+
+  none_full_by : (left : List ℕ) (piece : Piece) (next : Plan) → LooksNoMore next → LooksNoMore (full_by site image h piece left next)
+  none_full_by [] piece next none = none_all site image (context_of h) piece next none (is_inside h piece.object)
+  none_full_by (byte ∷ left) piece next none = none_replacing site image (context_of h) piece next none (byte ∷ left)
+
+  none_zeros : (pieces : List Piece) (next : Plan) → LooksNoMore next → LooksNoMore (of_size.zero_pieces site image h pieces next)
+  none_zeros [] next none = none
+  none_zeros (p ∷ pieces) next none = none_zero p (of_size.zero_pieces site image h pieces next) (none_zeros pieces next none)
+
+  none_resize_by : (grows : Bool) (to objects : ℕ) (next : Plan) → LooksNoMore next → LooksNoMore (resize_by grows site image h to objects next)
+  none_resize_by true to objects next none = (tt, at_done LooksNoMore none_ends (sizing site image to next) (tt, at_done LooksNoMore none_ends next none))
+  none_resize_by false to objects next none =
+      (tt, at_bits LooksNoMore none_ends (cutting site image h to next) (λ bits. none_zeros (pieces_from h to bits) (sizing site image to next) (tt, at_done LooksNoMore none_ends next none)))
+
+  pub none_resize : (to objects : ℕ) (next : Plan) → LooksNoMore next → LooksNoMore (resize site image h to objects next)
+  none_resize to objects next none = none_resize_by (nat_le h.size to) to objects next none
+
+-- ---- pieces
+
+pub none_zeroed : (pieces : List Piece) (site : SiteId) (image : ℕ) (h : HeaderView) → LooksNoMore (zero_in_turns site image h pieces (applied site image))
+none_zeroed [] site image h = tt
+none_zeroed (p ∷ pieces) site image h = none_zero site image h p (zero_in_turns site image h pieces (applied site image)) (none_zeroed pieces site image h)
+
+-- ---- snap rollback
+
+none_restored : (pieces : List Piece) (site : SiteId) (image : ℕ) (h : HeaderView) (snap : ℕ) → LooksNoMore (restore_pieces site image h snap pieces (applied site image))
+none_restored [] site image h snap = tt
+none_restored (p ∷ pieces) site image h snap =
+    let later = restore_pieces site image h snap pieces (applied site image) in (
+      tt,
+      at_bytes LooksNoMore none_ends p.parts (λ bytes. gather site image (Some snap) [] bytes (λ read. full_piece site image h p read later)) (λ bytes.
+          none_full_by site image h (cut_bytes bytes) p later (none_restored pieces site image h snap)),
+    )
+
+pub none_listed : (site : SiteId) (snap : List ℕ) (image : ℕ) (h : HeaderView) (listed : Option SnapView) → LooksNoMore (roll_back_listed site snap image h listed)
+none_listed site snap image h None = tt
+none_listed site snap image h (Some listed) =
+    let head = at_size listed.size h in
+    none_resize site image h listed.size (object_count h.layout listed.size) (restore_all site image head listed.id (applied site image))
+    (none_restored (pieces_of h.layout (head_of head)) site image head listed.id)
+
+-- ---- rm
+
+pub none_each : (site : SiteId) (ops : List Op) → AreNoLooks ops → LooksNoMore (remove_each site ops (Return reply.Done))
+none_each site [] are = tt
+none_each site (o ∷ ops) are =
+    let later = remove_each site ops (Return reply.Done) in
+    (are.0, at_removed LooksNoMore none_ends o later (none_each site ops are.1))

@@ -1,0 +1,62 @@
+-- How requests that aren't reads look at headers: the definition that all of them keep, and its
+-- steps.
+use Rattle.std.proofs.Common.{◌≡◌, refl}
+use Rattle.rbd_kinds.specs.declared.answer.Answer.{Answer}
+use Rattle.rbd_kinds.specs.declared.answer.Answer.TheVariants as answer
+use Rattle.rbd_kinds.specs.declared.header.HeaderView.{HeaderView}
+use Rattle.rbd_kinds.specs.declared.header_op.HeaderOp.TheVariants as header
+use Rattle.rbd_kinds.specs.declared.operation.Op.{Op}
+use Rattle.rbd_kinds.specs.declared.operation.Op.TheVariants as op
+use Rattle.rbd_machine.specs.Plan.{Plan, Ask, Await, Note, Return, Goto}
+use Rattle.rbd_machine.specs.Steps.{EndsIt, not_there, on_header}
+use Rattle.rbd_catalog.specs.NoLooks.{IsNoLook}
+use Rattle.rbd_catalog.specs.Looking.{LookedIf, LooksNoMore, LooksOnce}
+
+-- ---- each look at a header
+
+-- what isn't there and the fence end it
+abbrev pub EndsAt : Op → (Answer → Plan) → Type 0
+EndsAt (op.Header image header.Get) next = (a : Answer) → EndsIt a → next a ≡ not_there a
+EndsAt _ next = Unit {0}
+
+-- so does each look at a header, and behind it the plan waits for the lock, or looks at none any
+-- more
+abbrev pub LooksWell : Plan → Type 0
+LooksWell (Ask site why o next) = EndsAt o next × ((a : Answer) → LookedIf o (next a) × LooksWell (next a))
+LooksWell (Await w next) = LooksWell next
+LooksWell (Note site image event next) = LooksWell next
+LooksWell (Return r) = Unit {0}
+LooksWell (Goto label) = Unit {0}
+
+pub once_of : (p : Plan) → LooksWell p → LooksOnce p
+once_of (Ask site why o next) well = λ a. ((well.1 a).0, once_of (next a) (well.1 a).1)
+once_of (Await w next) well = once_of next well
+once_of (Note site image event next) well = once_of next well
+once_of (Return r) well = tt
+once_of (Goto label) well = tt
+
+-- ---- who looks at none
+
+-- another operation is no look
+pub no_look_ends : (o : Op) (next : Answer → Plan) → IsNoLook o → EndsAt o next
+no_look_ends (op.Header image header.Get) next no_look = absurd no_look
+no_look_ends o next no_look = tt
+
+if_none : (o : Op) (p : Plan) → IsNoLook o → LookedIf o p
+if_none (op.Header image header.Get) p none = absurd none
+if_none (op.Header image o) p none = tt
+if_none o p none = tt
+
+pub at_none : (p : Plan) → LooksNoMore p → LooksWell p
+at_none (Ask site why o next) none = (no_look_ends o next none.0, λ a. (if_none o (next a) none.0, at_none (next a) (none.1 a)))
+at_none (Await w next) none = at_none next none
+at_none (Note site image event next) none = at_none next none
+at_none (Return r) none = tt
+at_none (Goto label) none = absurd none
+
+-- ---- steps
+
+pub header_ends : (next : HeaderView → Plan) (a : Answer) → EndsIt a → on_header next a ≡ not_there a
+header_ends next answer.Absent ends = refl
+header_ends next answer.Fenced ends = refl
+header_ends next _ ends = absurd ends

@@ -1,5 +1,0 @@
-use Rattle.rbd_client.proofs.Requests.{request_owns}
-use Rattle.rbd_client.proofs.laws.own_looks_need_the_lock.Goals as goal
-
-pub returns : goal.returns
-returns g c = λ client slot p sound at acts. request_owns g.R.Machine.stands slot client sound acts p at

@@ -1,5 +1,0 @@
-use Rattle.rbd_close.proofs.Labels.{closed_plan}
-use Rattle.rbd_close.proofs.laws.plans_go_to_no_label.Goals as goal
-
-pub returns : goal.returns
-returns c = closed_plan

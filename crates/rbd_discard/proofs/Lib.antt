@@ -1,9 +1,0 @@
-pub mod About
-pub mod Bounded
-pub mod Closed
-pub mod Discards
-pub mod Ended
-pub mod Lawful
-pub mod Meant
-pub mod Refusing
-pub mod Turns

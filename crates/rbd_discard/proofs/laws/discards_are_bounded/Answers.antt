@@ -1,8 +1,0 @@
-use Rattle.rbd_discard.proofs.Bounded.{bounded_discard, bounded_own}
-use Rattle.rbd_discard.proofs.laws.discards_are_bounded.Goals as goal
-
-pub returns-clause-pieces : goal.returns-clause-pieces
-returns-clause-pieces c = bounded_own
-
-pub returns-clause-all : goal.returns-clause-all
-returns-clause-all c = bounded_discard

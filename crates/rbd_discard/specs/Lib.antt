@@ -1,2 +1,0 @@
-pub mod Discard
-pub mod PieceLaws

@@ -1,3 +1,0 @@
-pub mod HeldLemmas
-pub mod ExtentLemmas
-pub mod ByteLemmas

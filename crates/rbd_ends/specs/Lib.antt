@@ -1,2 +1,0 @@
-pub mod OneChanger
-pub mod AddUp

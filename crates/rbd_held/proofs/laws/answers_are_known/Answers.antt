@@ -1,6 +1,0 @@
-use Rattle.rbd_held.proofs.Fed.{feeding_is_known}
-use Rattle.rbd_held.proofs.laws.answers_are_known.Goals as goal
-
-pub returns : goal.returns
-returns g c = λ old new knows slot site o f result sound session all slots leaves is can standalone fed.
-    feeding_is_known g.R.Machine.stands old new knows slot site o f result standalone sound session all slots leaves is can fed

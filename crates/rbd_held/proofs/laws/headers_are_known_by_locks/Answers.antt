@@ -1,5 +1,0 @@
-use Rattle.rbd_held.proofs.Owned.{knows_by_lock}
-use Rattle.rbd_held.proofs.laws.headers_are_known_by_locks.Goals as goal
-
-pub returns : goal.returns
-returns g c = λ client knows slot site r me t. knows_by_lock client knows slot site r me t

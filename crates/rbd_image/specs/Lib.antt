@@ -1,0 +1,11 @@
+pub mod RemovalPart
+pub mod Remnants
+pub mod Remove
+pub mod RemovalRequest
+pub mod Told
+pub mod Resize
+pub mod SizeLaws
+pub mod HeadersTold
+pub mod Create
+pub mod Listing
+pub mod Used

@@ -1,0 +1,109 @@
+-- What is known of objects stays true under what is permitted to others.
+use Rattle.std.proofs.Common.{◌≡◌, ◌≢◌, inl, inr, ℕ, Bool, Option, Some, refl, sym, ap, ◌∙◌, subst, true≢false}
+use Rattle.std.specs.Prelude.{IsFalse, IsSome, is_some}
+use Rattle.rbd_kinds.specs.declared.data_op.DataOp.{DataOp}
+use Rattle.rbd_kinds.specs.declared.data_op.DataOp.TheVariants as object
+use Rattle.rbd_kinds.specs.declared.header.HeaderView.{HeaderView}
+use Rattle.rbd_kinds.specs.declared.header.SnapContext.{SnapContext}
+use Rattle.rbd_kinds.specs.declared.id.Instance.{Instance}
+use Rattle.rbd_kinds.specs.declared.id.SiteId.{SiteId}
+use Rattle.rbd_kinds.specs.declared.operation.Op.{Op}
+use Rattle.rbd_kinds.specs.declared.operation.Op.TheVariants as op
+use Rattle.rbd_object.specs.Mapped.{Mapped}
+use Rattle.rbd_machine.specs.Knowledge.{Knowledge, objects_known_of}
+use Rattle.rbd_machine.specs.Permits.{Permits, PermitsOnObject, IsLeftOver, OwnsBy}
+use Rattle.rbd_site.specs.DataStep.{data_after}
+use Rattle.rbd_site.specs.Records.{Records, object_at, or_blank, put}
+use Rattle.rbd_site.specs.Step.{is_fenced, after, after_served}
+use Rattle.rbd_site.proofs.GenerationLemmas.{looked_at}
+use Rattle.rbd_stands.proofs.ObjectSteps.{put_there, put_elsewhere}
+use Rattle.rbd_interference.specs.Beside.{AreBeside, GoBesideOthers, LeavesObject, MayAct}
+use Rattle.rbd_interference.specs.Truth.{AreObjectsTrue, IsTrueAt, is_alone_on, known_header}
+use Rattle.rbd_interference.proofs.Each.{objects_alike}
+use Rattle.rbd_interference.proofs.Fenced.{after_free}
+use Rattle.rbd_interference.proofs.Headers.{unknown_while_waiting}
+use Rattle.rbd_interference.proofs.MapsBehind.{at_each}
+use Rattle.rbd_interference.proofs.MapsKept.{both_shared, known_apart}
+
+-- ---- the objects behind a change of one
+
+pub changed_object : (r : Records) (me : Instance) (image number : ℕ) (o : DataOp) → object_at (after_served r me (op.Data image number o)) image number ≡ or_blank (data_after (r.objects image number) o)
+changed_object r me image number o =
+    ap (λ (objects : ℕ → Option Mapped). or_blank (objects number)) (put_there r.objects image (put (r.objects image) number (data_after (r.objects image number) o)))
+    ∙ ap or_blank (put_there (r.objects image) number (data_after (r.objects image number) o))
+
+pub other_object : (r : Records) (me : Instance) (image number : ℕ) (o : DataOp) (n : ℕ) → n ≢ number → object_at (after_served r me (op.Data image number o)) image n ≡ object_at r image n
+other_object r me image number o n other =
+    ap (λ (objects : ℕ → Option Mapped). or_blank (objects n)) (put_there r.objects image (put (r.objects image) number (data_after (r.objects image number) o)))
+    ∙ ap or_blank (put_elsewhere (r.objects image) number (data_after (r.objects image number) o) n other)
+
+pub other_image : (r : Records) (me : Instance) (image number : ℕ) (o : DataOp) (i n : ℕ) → i ≢ image → object_at (after_served r me (op.Data image number o)) i n ≡ object_at r i n
+other_image r me image number o i n other =
+    ap (λ (objects : ℕ → Option Mapped). or_blank (objects n)) (put_elsewhere r.objects image (put (r.objects image) number (data_after (r.objects image number) o)) i other)
+
+module _ (site : SiteId) (r : Records) (k j : Knowledge) (me you : Instance) (t : IsTrueAt site r me k) (u : IsTrueAt site r you j) (beside : AreBeside site r me you k j) where
+  abbrev AreObjects : (image : ℕ) → (ℕ → Mapped) → Type 0
+  AreObjects image objects = (h : HeaderView) → known_header k site image ≡ Some h → AreObjectsTrue (is_alone_on k site image) h.layout objects (objects_known_of k.objects site image)
+
+  module _ (free : IsFalse (is_fenced r me)) (served : IsFalse (is_fenced r you)) (image number : ℕ) (o : DataOp) where
+    abbrev objects_then : ℕ → Mapped
+    objects_then = object_at (after_served r you (op.Data image number o)) image
+
+    -- where another owns the image too
+    owned_beside : (condition : (alone : Bool) → HeaderView → Type 0) → OwnsBy j site image condition → LeavesObject site image number r you me j k → AreObjects image objects_then
+    owned_beside condition owns may h known =
+        let some : IsSome (known_header k site image) = ap is_some known in
+        let was = t.objects free image h known in
+        let shared : GoBesideOthers site image k j = both_shared site r k j me you t u beside free served image condition owns some in
+        record {
+          absent = λ n gone.
+              ap (λ (m : Mapped). m.head)
+              (other_object r you image number o n (known_apart site r k j me you t u beside free served image condition owns number may some n (inr gone))) ∙ was.absent n gone;
+          blank = λ alone. absurd (true≢false (sym alone ∙ shared.one));
+        }
+
+    left_beside : IsLeftOver j site image → AreObjects image objects_then
+    left_beside left h known = absurd (unknown_while_waiting site r me k image t free (ap is_some known) (u.gone image left.gone).header)
+
+  -- of each image, where it holds of the one that was changed
+  each_image : IsFalse (is_fenced r me) → (image number : ℕ) (o : DataOp) → AreObjects image (object_at (after_served r you (op.Data image number o)) image)
+      → (i : ℕ) → AreObjects i (object_at (after_served r you (op.Data image number o)) i)
+  each_image free image number o here =
+      at_each (λ i. AreObjects i (object_at (after_served r you (op.Data image number o)) i)) image here
+      (λ i other h known.
+      objects_alike (is_alone_on k site i) h.layout (object_at r i) (object_at (after_served r you (op.Data image number o)) i) (objects_known_of k.objects site i)
+      (λ n. ap (λ (m : Mapped). m.head) (other_image r you image number o i n other)) (t.objects free i h known))
+
+  removal_kept : IsFalse (is_fenced r me) → IsFalse (is_fenced r you) → (image number : ℕ) (context : SnapContext) → PermitsOnObject j site image number (object.Remove context) → LeavesObject site image number r you me j k
+      → AreObjects image (object_at (after_served r you (op.Data image number (object.Remove context))) image)
+  removal_kept free served image number context (inl left) may = left_beside free served image number (object.Remove context) left
+  removal_kept free served image number context (inr owns) may = owned_beside free served image number (object.Remove context) _ owns may
+
+  data_kept : IsFalse (is_fenced r me) → (image number : ℕ) (o : DataOp) → PermitsOnObject j site image number o → MayAct site r you me j k (op.Data image number o) → (i : ℕ) → AreObjects i (object_at (after r you (op.Data image number o)) i)
+  data_kept free image number (object.Read snap parts) permits may i =
+      subst (λ s. AreObjects i (object_at s i)) (sym (looked_at r you (op.Data image number (object.Read snap parts)) refl)) (t.objects free i)
+  data_kept free image number (object.Write context must parts bytes) permits may i =
+      after_free (λ s. AreObjects i (object_at s i)) r you (op.Data image number (object.Write context must parts bytes)) (t.objects free i)
+      (λ served. each_image free image number (object.Write context must parts bytes)
+      (owned_beside free served image number (object.Write context must parts bytes) _ permits may) i)
+  data_kept free image number (object.WriteFull context bytes) permits may i =
+      after_free (λ s. AreObjects i (object_at s i)) r you (op.Data image number (object.WriteFull context bytes)) (t.objects free i)
+      (λ served. each_image free image number (object.WriteFull context bytes) (owned_beside free served image number (object.WriteFull context bytes) _ permits may) i)
+  data_kept free image number (object.Zero context must parts) permits may i =
+      after_free (λ s. AreObjects i (object_at s i)) r you (op.Data image number (object.Zero context must parts)) (t.objects free i)
+      (λ served. each_image free image number (object.Zero context must parts) (owned_beside free served image number (object.Zero context must parts) _ permits may) i)
+  data_kept free image number (object.Empty context) permits may i =
+      after_free (λ s. AreObjects i (object_at s i)) r you (op.Data image number (object.Empty context)) (t.objects free i)
+      (λ served. each_image free image number (object.Empty context) (owned_beside free served image number (object.Empty context) _ permits may) i)
+  data_kept free image number (object.Remove context) permits may i =
+      after_free (λ s. AreObjects i (object_at s i)) r you (op.Data image number (object.Remove context)) (t.objects free i)
+      (λ served. each_image free image number (object.Remove context) (removal_kept free served image number context permits may) i)
+  data_kept free image number _ permits may i = elim permits [ ]
+
+  pub objects_kept : IsFalse (is_fenced r me) → (o : Op) → Permits j site o → MayAct site r you me j k o → (image : ℕ) → AreObjects image (object_at (after r you o) image)
+  objects_kept free (op.Directory o) permits may image = after_free (λ s. AreObjects image (object_at s image)) r you (op.Directory o) (t.objects free image) (λ served. t.objects free image)
+  objects_kept free (op.BlockAdd i) permits may image = after_free (λ s. AreObjects image (object_at s image)) r you (op.BlockAdd i) (t.objects free image) (λ served. t.objects free image)
+  objects_kept free (op.Header other o) permits may image = after_free (λ s. AreObjects image (object_at s image)) r you (op.Header other o) (t.objects free image) (λ served. t.objects free image)
+  objects_kept free (op.Data other number o) permits may image = data_kept free other number o permits may image
+  objects_kept free (op.Map other o) permits may image = after_free (λ s. AreObjects image (object_at s image)) r you (op.Map other o) (t.objects free image) (λ served. t.objects free image)
+  objects_kept free _ permits may image = elim permits [ ]

@@ -1,0 +1,57 @@
+-- What two requests of two instances may know at the same time.
+use Rattle.std.specs.Prelude.{◌≡◌, ℕ, true, false, None, IsSome, IsFalse}
+use Rattle.rbd_kinds.specs.declared.data_op.DataOp.TheVariants as object
+use Rattle.rbd_kinds.specs.declared.id.Instance.{Instance}
+use Rattle.rbd_kinds.specs.declared.id.SiteId.{SiteId}
+use Rattle.rbd_kinds.specs.declared.header_op.HeaderOp.TheVariants as header
+use Rattle.rbd_kinds.specs.declared.map_op.MapOp.TheVariants as states
+use Rattle.rbd_kinds.specs.declared.operation.Op.{Op}
+use Rattle.rbd_kinds.specs.declared.operation.Op.TheVariants as op
+use Rattle.rbd_machine.specs.Knowledge.{Knowledge, own_of, is_drawn, is_gone}
+use Rattle.rbd_interference.specs.Truth.{is_alone_on, known_header}
+use Rattle.rbd_interference.specs.Turns.{KnowsOf}
+use Rattle.rbd_site.specs.Records.{Records}
+use Rattle.rbd_site.specs.Step.{is_fenced}
+use Rattle.rbd_stands.specs.Owned.{HasLock}
+
+pub record GoBesideOthers (site : SiteId) (image : ℕ) (k j : Knowledge) : Type 0 where
+  pub one : is_alone_on k site image ≡ false
+  pub other : is_alone_on j site image ≡ false
+
+-- neither instance is fenced
+abbrev pub AreUnfenced : Records → (me you : Instance) → Type 0
+AreUnfenced r me you = IsFalse (is_fenced r me) × IsFalse (is_fenced r you)
+
+-- Where both requests know the header of an image, after their looks under the lock, neither is
+-- alone on it. What a fenced instance knows of headers doesn't count: it does nothing by them. No
+-- id was drawn by both; none was drawn by one whose header the other removed; and no header was
+-- removed by both.
+pub record AreBeside (site : SiteId) (r : Records) (me you : Instance) (k j : Knowledge) : Type 0 where
+  pub shared : AreUnfenced r me you → (image : ℕ) → IsSome (known_header k site image) → IsSome (known_header j site image) → GoBesideOthers site image k j
+  pub apart : (image : ℕ) → is_drawn k.drawn site image ≡ true → is_drawn j.drawn site image ≡ false
+  pub gone : (image : ℕ) → is_gone k.gone site image ≡ true → is_drawn j.drawn site image ≡ false
+  pub gone_there : (image : ℕ) → is_gone j.gone site image ≡ true → is_drawn k.drawn site image ≡ false
+  pub removed : (image : ℕ) → is_gone k.gone site image ≡ true → is_gone j.gone site image ≡ false
+
+-- Where one request waited for the lock of an image, and the other knows its header, neither is
+-- alone.
+abbrev pub SharesLock : SiteId → (image : ℕ) → Records → (me you : Instance) → (k j : Knowledge) → Type 0
+SharesLock site image r me you k j = AreUnfenced r me you → IsSome (own_of k.owns site image) → IsSome (known_header j site image) → GoBesideOthers site image k j
+
+-- Where both know the header of an image, the other one knows nothing of an object.
+abbrev pub LeavesObject : SiteId → (image object : ℕ) → Records → (me you : Instance) → (k j : Knowledge) → Type 0
+LeavesObject site image object r me you k j = AreUnfenced r me you → IsSome (known_header k site image) → IsSome (known_header j site image) → KnowsOf j site image object → ⊥
+
+-- What one request may do beside another. It may look at the header of an image whose lock it
+-- waited for only where the other knows no header there, or neither of the two is alone. So it is
+-- with the drop of a lock that is its own: nobody of its session may rely on a header meanwhile. It
+-- may change an object, or its state, only where the other knows nothing of that object: it has its
+-- turn there, which the other had before or waits for. The line of a session and the lock see to
+-- all of that.
+abbrev pub MayAct : SiteId → Records → (me you : Instance) → (k j : Knowledge) → Op → Type 0
+MayAct site r me you k j (op.Header image header.Get) = SharesLock site image r me you k j
+MayAct site r me you k j (op.Header image header.LockDrop) = HasLock image me r → SharesLock site image r me you k j
+MayAct site r me you k j (op.Data image number (object.Read snap parts)) = Unit {0}
+MayAct site r me you k j (op.Data image number o) = LeavesObject site image number r me you k j
+MayAct site r me you k j (op.Map image (states.Set None number state)) = LeavesObject site image number r me you k j
+MayAct site r me you k j o = Unit {0}

@@ -1,0 +1,6 @@
+pub mod Truth
+pub mod Locks
+pub mod Turns
+pub mod Beside
+pub mod Owed
+pub mod Exact

@@ -1,0 +1,169 @@
+-- When what a request knows is true at a site, by the site's records.
+use Rattle.std.specs.Prelude.{◌≡◌, ◌≢◌, ◌⊎◌, ℕ, ◌<◌, ◌≤◌, ◌^◌, Bool, true, false, List, [], All, Any, length, slice_index, unwrap_or, Option, Some, None, IsFalse, IsSome}
+use Rattle.rbd_kinds.specs.declared.layout.Layout.{Layout}
+use Rattle.rbd_kinds.specs.declared.layout.Part.{Part}
+use Rattle.rbd_kinds.specs.Striping.{offset_of}
+use Rattle.rbd_layout.specs.Pieces.{IsIn}
+use Rattle.rbd_kinds.specs.declared.header.HeaderView.{HeaderView}
+use Rattle.rbd_kinds.specs.declared.id.Instance.{Instance}
+use Rattle.rbd_kinds.specs.declared.id.SiteId.{SiteId}
+use Rattle.rbd_object.specs.Mapped.{Mapped, mapped_blank}
+use Rattle.rbd_flat.specs.Flat.{Flat, after}
+use Rattle.rbd_flat.specs.declared.effect.Effect.{Effect}
+use Rattle.rbd_machine.specs.Knowledge.{Knowledge, MapsKnown, ObjectsKnown, Own, own_of, is_absent, is_drawn, is_fenced_by, is_gone, is_raised, maps_of, objects_known_of}
+use Rattle.rbd_machine.specs.Permits.{HasRoomFor}
+use Rattle.rbd_machine.specs.Standalone.{IsStandalone}
+use Rattle.rbd_site.specs.Records.{Records, object_at}
+use Rattle.rbd_site.specs.Step.{is_fenced}
+use Rattle.rbd_stands.specs.Condition.{IsDrawn}
+use Rattle.rbd_stands.specs.Covering.{AreCovered, Maps}
+use Rattle.rbd_stands.specs.View.{EachView}
+
+-- ---- headers
+
+-- the header that a request knows of an image whose lock it waited for: what its look under the
+-- lock told, with its own changes since
+abbrev pub header_of_own : Option Own → Option HeaderView
+header_of_own None = None
+header_of_own (Some o) = o.header
+
+abbrev pub known_header : Knowledge → SiteId → (image : ℕ) → Option HeaderView
+known_header k site image = header_of_own (own_of k.owns site image)
+
+-- The image still has the header that is known, but for the owner of its lock, which may have
+-- changed.
+abbrev pub IsStill : (known there : Option HeaderView) → Type 0
+IsStill None there = Unit {0}
+IsStill (Some known) None = ⊥
+IsStill (Some known) (Some there) = there ≡ record known { owner = there.owner }
+
+-- whether the request is alone on an image
+abbrev pub is_own_alone : Option Own → Bool
+is_own_alone None = false
+is_own_alone (Some o) = o.alone
+
+abbrev pub is_alone_on : Knowledge → SiteId → (image : ℕ) → Bool
+is_alone_on k site image = is_own_alone (own_of k.owns site image)
+
+-- ---- object maps
+
+-- the state of an object in a map, 0 where there is none
+abbrev pub map_state_in : (map : Option (List ℕ)) → (object : ℕ) → ℕ
+map_state_in None object = 0
+map_state_in (Some states) object = slice_index states object
+
+-- the state of each object is 0
+abbrev pub HasNoStates : (map : Option (List ℕ)) → Type 0
+HasNoStates map = (object : ℕ) → map_state_in map object ≡ 0
+
+-- These are the states of a map that is there, with some zeros behind them.
+pub record AreStatesOf (states : List ℕ) (map : Option (List ℕ)) : Type 0 where
+  pub there : List ℕ
+  pub is : map ≡ Some there
+  pub same : (object : ℕ) → slice_index states object ≡ slice_index there object
+  pub long : length there ≤ length states
+  pub few : length states ≤ 2 ^ 20
+
+-- a snapshot's map is there, with the states of the head
+pub record IsPutAs (put head : Option (List ℕ)) : Type 0 where
+  pub there : List ℕ
+  pub is : put ≡ Some there
+  pub same : (object : ℕ) → slice_index there object ≡ map_state_in head object
+
+-- a map is there, of so many objects at least
+pub record HasAtLeast (count : ℕ) (map : Option (List ℕ)) : Type 0 where
+  pub there : List ℕ
+  pub is : map ≡ Some there
+  pub long : count ≤ length there
+
+abbrev pub IsCountTrue : Option ℕ → (map : Option (List ℕ)) → Type 0
+IsCountTrue None map = Unit {0}
+IsCountTrue (Some count) map = HasAtLeast count map
+
+-- What is known of an image's maps is true: an object's state in the head's map that was raised
+-- isn't 0. A request that is alone on the image knows the head's states as they are, how long its
+-- map is at least, and that a map which it put still has them.
+pub record AreMapsTrue (alone : Bool) (maps : Maps) (m : MapsKnown) : Type 0 where
+  pub raised : (object : ℕ) → is_raised None object m.raised ≡ true → map_state_in (maps None) object ≢ 0
+  pub states : alone ≡ true → (states : List ℕ) → m.states ≡ Some states → AreStatesOf states (maps None)
+  pub count : alone ≡ true → IsCountTrue m.count (maps None)
+  pub put : alone ≡ true → (snap : ℕ) → m.put ≡ Some snap → IsPutAs (maps (Some snap)) (maps None)
+
+-- ---- objects
+
+-- each place of the parts is zero in an object's head, or each place of the object
+abbrev pub AreZeros : Layout → (head : Option (List ℕ)) → Option (List Part) → Type 0
+AreZeros layout head None = (offset : ℕ) → slice_index (unwrap_or head []) offset ≡ 0
+AreZeros layout head (Some parts) = (x : ℕ) → Any (IsIn x) parts → slice_index (unwrap_or head []) (offset_of layout x) ≡ 0
+
+-- What is known of an image's objects is true: one that the request removed isn't there. A request
+-- that is alone on the image knows that what it zeroed is still zero.
+pub record AreObjectsTrue (alone : Bool) (layout : Layout) (objects : ℕ → Mapped) (o : ObjectsKnown) : Type 0 where
+  pub absent : (number : ℕ) → is_absent number o.absent ≡ true → (objects number).head ≡ None
+  pub blank : alone ≡ true → All (λ b. AreZeros layout (objects b.object).head b.parts) o.blank
+
+-- ---- ids
+
+abbrev pub HasNoHeader : Records → (image : ℕ) → Type 0
+HasNoHeader r image = r.headers image ≡ None
+
+-- an image whose header was removed: its id isn't drawn again
+pub record IsGoneAt (r : Records) (image : ℕ) : Type 0 where
+  pub drawn : IsDrawn r image
+  pub header : HasNoHeader r image
+
+-- An id that was drawn waits for its header: nothing was done to it yet, and its head's map, where
+-- there is one, has no state of an object.
+pub record IsWaiting (r : Records) (image : ℕ) : Type 0 where
+  pub drawn : IsDrawn r image
+  pub header : HasNoHeader r image
+  pub blank : (number : ℕ) → object_at r image number ≡ mapped_blank
+  pub unraised : HasNoStates (r.maps image None)
+
+-- The request knows that an image has no header: it made none yet, or removed it.
+abbrev pub KnowsNoHeader : Knowledge → SiteId → (image : ℕ) → Type 0
+KnowsNoHeader k site image = (is_drawn k.drawn site image ≡ true) ⊎ (is_gone k.gone site image ≡ true)
+
+-- ---- all of it
+
+-- What a request of an instance knows is true at the site. Where the instance is fenced, its
+-- headers say nothing: its lock may be broken, and another may change the image. It does nothing by
+-- them any more. No id whose header the request removed waits for one.
+pub record IsTrueAt (site : SiteId) (r : Records) (me : Instance) (k : Knowledge) : Type 0 where
+  pub owned : IsFalse (is_fenced r me) → (image : ℕ) → IsStill (known_header k site image) (r.headers image)
+  pub drawn : (image : ℕ) → is_drawn k.drawn site image ≡ true → IsWaiting r image
+  pub fenced : (i : Instance) → is_fenced_by k.fenced site i ≡ true → is_fenced r i ≡ true
+  pub mapped : IsFalse (is_fenced r me) → (image : ℕ) → IsSome (known_header k site image) → AreMapsTrue (is_alone_on k site image) (r.maps image) (maps_of k.maps site image)
+  pub objects : IsFalse (is_fenced r me) → (image : ℕ) (h : HeaderView) → known_header k site image ≡ Some h
+      → AreObjectsTrue (is_alone_on k site image) h.layout (object_at r image) (objects_known_of k.objects site image)
+  pub gone : (image : ℕ) → is_gone k.gone site image ≡ true → IsGoneAt r image
+  pub apart : (image : ℕ) → is_gone k.gone site image ≡ true → is_drawn k.drawn site image ≡ false
+  pub counted : (image : ℕ) → KnowsNoHeader k site image → IsCountTrue (maps_of k.maps site image).count (r.maps image None)
+
+-- ---- the site
+
+-- No image has a parent or a journal. So it is until there are clones and journals.
+abbrev pub AreStandalone : Records → Type 0
+AreStandalone r = (image : ℕ) (h : HeaderView) → r.headers image ≡ Some h → IsStandalone h
+
+-- the objects of a map, none where there is no map
+abbrev pub map_len : (map : Option (List ℕ)) → ℕ
+map_len None = 0
+map_len (Some states) = length states
+
+-- An image has a map at each of its views, that of the head has all of its objects, and state 0
+-- means that an object is absent there.
+pub record HasMaps (h : HeaderView) (maps : Maps) (objects : ℕ → Mapped) : Type 0 where
+  pub covered : AreCovered h maps objects
+  pub there : EachView h (λ v shape. IsSome (maps v))
+  pub room : HasRoomFor h.layout h.size (map_len (maps None))
+
+-- Each image has its maps. What is kept of an id that the directory hasn't drawn has no state.
+pub record AreMapped (r : Records) : Type 0 where
+  pub images : (image : ℕ) (h : HeaderView) → r.headers image ≡ Some h → HasMaps h (r.maps image) (object_at r image)
+  pub fresh : (image : ℕ) → r.directory.drawn < image → HasNoStates (r.maps image None)
+
+-- the flat site after an effect, or after none
+abbrev pub changed_by : Flat → Option Effect → Flat
+changed_by f None = f
+changed_by f (Some e) = after f e

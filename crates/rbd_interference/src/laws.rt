@@ -1,0 +1,183 @@
+//! What requests may rely on, whatever the others do: each law is the contract of a function that
+//! does nothing. A law speaks of any records of a site, and of what is known there.
+ghost use Rattle.std.specs.Prelude.{◌≡◌, ◌≢◌, ℕ, [], IsFalse, None, true, false};
+ghost use Rattle.rbd_kinds.specs.declared.answer.Answer.{Answer};
+ghost use Rattle.rbd_kinds.specs.declared.answer.Answer.TheVariants as answered;
+ghost use Rattle.rbd_kinds.specs.declared.id.Instance.{Instance};
+ghost use Rattle.rbd_kinds.specs.declared.id.SiteId.{SiteId as Site};
+ghost use Rattle.rbd_kinds.specs.declared.header_op.HeaderOp.TheVariants as header;
+ghost use Rattle.rbd_kinds.specs.declared.operation.Op.{Op};
+ghost use Rattle.rbd_kinds.specs.declared.operation.Op.TheVariants as on;
+ghost use Rattle.rbd_flat.specs.Flat.{Flat};
+ghost use Rattle.rbd_machine.specs.Knowledge.{Knowledge, nothing_known, is_drawn, is_gone, learned, known_after_wait, same_site};
+ghost use Rattle.rbd_machine.specs.Permits.{Permits};
+ghost use Rattle.rbd_machine.specs.Refused.{IsGiven};
+ghost use Rattle.rbd_machine.specs.Standalone.{TellsStandalone};
+ghost use Rattle.rbd_machine.specs.Wait.{Wait};
+ghost use Rattle.rbd_machine.specs.Wait as waits;
+ghost use Rattle.rbd_site.specs.InForm.{AreInForm};
+ghost use Rattle.rbd_site.specs.Log.{expired, trimmed};
+ghost use Rattle.rbd_site.specs.Records.{Records, no_records};
+ghost use Rattle.rbd_site.specs.Step.{MayDo, is_fenced, answer_to, after};
+ghost use Rattle.rbd_site.specs.declared.done.DoneOp.TheVariants as done;
+ghost use Rattle.rbd_stands.specs.Effect.{effect_of};
+ghost use Rattle.rbd_stands.specs.Site.{StandsFor};
+ghost use Rattle.rbd_interference.specs.Beside.{AreBeside, AreUnfenced, LeavesObject, MayAct};
+ghost use Rattle.rbd_interference.specs.Locks.{HasLockWhileFree, KnowsByLock, gives_up};
+ghost use Rattle.rbd_stands.specs.Owned.{HasLock};
+ghost use Rattle.rbd_interference.specs.Truth.{AreMapped, IsTrueAt, AreStandalone, changed_by, known_header};
+ghost use Rattle.rbd_interference.specs.Turns.{KnowsInTurn, KnowsOf};
+
+/// Who knows nothing knows nothing false.
+pub fn nothing_is_false_at_first()
+    ensures { (site : Site) (r : Records) (me : Instance) → IsTrueAt site r me nothing_known }
+{}
+
+/// What a request of an instance `me` knows stays true while another request does what its own true
+/// knowledge permits, and what it may do beside the first. `you` is the instance of the other
+/// request; it may be the same one.
+pub fn others_keep_what_is_known()
+    ensures { (site : Site) (r : Records) (k j : Knowledge) (me you : Instance) (op : Op)
+        → IsTrueAt site r me k → IsTrueAt site r you j → AreBeside site r me you k j → Permits j site op → MayAct site r you me j k op
+        → IsTrueAt site (after r you op) me k }
+{}
+
+/// A trim by the store keeps what is known.
+pub fn trims_keep_what_is_known()
+    ensures { (site : Site) (r : Records) (me : Instance) (k : Knowledge) (image number : ℕ) → IsTrueAt site r me k → IsTrueAt site (trimmed image number r) me k }
+{}
+
+/// The end of a watch keeps what is known.
+pub fn expiries_keep_what_is_known()
+    ensures { (site : Site) (r : Records) (me : Instance) (k : Knowledge) (image : ℕ) (i : Instance) → IsTrueAt site r me k → IsTrueAt site (expired image i r) me k }
+{}
+
+/// What a request learns by an operation that is permitted to it is true after that operation.
+pub fn answers_teach_what_is_true()
+    ensures { (site : Site) (r : Records) (f : Flat) (k : Knowledge) (me : Instance) (op : Op) (most : ℕ)
+        → StandsFor [] r f → AreInForm r most → AreMapped r → IsTrueAt site r me k → Permits k site op
+        → IsTrueAt site (after r me op) me (learned k site op (answer_to r me op)) }
+{}
+
+/// A request of a fenced instance learns nothing.
+pub fn fences_teach_nothing()
+    ensures { (site : Site) (k : Knowledge) (op : Op) → learned k site op answered.Fenced ≡ k }
+{}
+
+/// What a request may count on after a wait is true.
+pub fn waits_teach_what_is_true()
+    ensures { (site : Site) (r : Records) (me : Instance) (k : Knowledge) (wait : Wait) → IsTrueAt site r me k → IsTrueAt site r me (known_after_wait k wait) }
+{}
+
+/// What a request learns at one site changes nothing of what it knows of the other: that stays
+/// true, and two requests stay beside each other there.
+pub fn sites_are_known_apart()
+    ensures truth { (site other : Site) (r : Records) (me : Instance) (k : Knowledge) (op : Op) (answer : Answer)
+        → IsFalse (same_site site other) → IsTrueAt other r me k → IsTrueAt other r me (learned k site op answer) }
+    ensures beside { (site other : Site) (r : Records) (me you : Instance) (k j : Knowledge) (op : Op) (answer : Answer)
+        → IsFalse (same_site site other) → AreBeside other r me you k j → AreBeside other r me you (learned k site op answer) j }
+{}
+
+/// Two requests that are beside each other stay so: whatever one of them learns by an operation
+/// that is permitted to it, and that it may do beside the other; whatever it waited for; and
+/// whatever anybody else or the store does. It doesn't matter which of the two is named first.
+pub fn requests_stay_beside()
+    ensures answered { (site : Site) (r : Records) (k j : Knowledge) (me you : Instance) (op : Op)
+        → IsTrueAt site r you j → AreBeside site r me you k j → Permits k site op → MayAct site r me you k j op
+        → AreBeside site (after r me op) me you (learned k site op (answer_to r me op)) j }
+    ensures waited { (site : Site) (r : Records) (me you : Instance) (k j : Knowledge) (wait : Wait) → AreBeside site r me you k j → AreBeside site r me you (known_after_wait k wait) j }
+    ensures others { (site : Site) (r : Records) (him me you : Instance) (k j : Knowledge) (op : Op) → AreBeside site r me you k j → AreBeside site (after r him op) me you k j }
+    ensures trim { (site : Site) (r : Records) (me you : Instance) (k j : Knowledge) (image number : ℕ) → AreBeside site r me you k j → AreBeside site (trimmed image number r) me you k j }
+    ensures expiry { (site : Site) (r : Records) (me you i : Instance) (k j : Knowledge) (image : ℕ) → AreBeside site r me you k j → AreBeside site (expired image i r) me you k j }
+    ensures first { (site : Site) (r : Records) (me you : Instance) (j : Knowledge) → AreBeside site r me you nothing_known j }
+    ensures mutual { (site : Site) (r : Records) (me you : Instance) (k j : Knowledge) → AreBeside site r me you k j → AreBeside site r you me j k }
+{}
+
+/// A request that isn't alone on an image knows of an object only in its turn there, and nothing
+/// more once it waited for another turn, or for its event to count as applied.
+pub fn objects_are_known_in_their_turn()
+    ensures first { KnowsInTurn nothing_known }
+    ensures answered { (site : Site) (k : Knowledge) (op : Op) (answer : Answer) → KnowsInTurn k → Permits k site op → KnowsInTurn (learned k site op answer) }
+    ensures waited { (k : Knowledge) (wait : Wait) → KnowsInTurn k → KnowsInTurn (known_after_wait k wait) }
+    ensures turned { (site there : Site) (k : Knowledge) (image object of turn : ℕ)
+        → (KnowsOf (known_after_wait k (waits.Turn turn)) site image object → ⊥) × (KnowsOf (known_after_wait k (waits.Applied there of)) site image object → ⊥) }
+{}
+
+/// A lock is broken only where its owner is fenced, so that nothing the owner knew of the image
+/// rests on the lock any more. And where a request gives up a lock that is its own, or removes the
+/// header with it, no request that goes beside it relies on the image's header.
+pub fn nobody_relies_on_a_lock_that_ends()
+    ensures broken { (site : Site) (r : Records) (me owner : Instance) (k : Knowledge) (image : ℕ)
+        → IsTrueAt site r me k → Permits k site (on.Header image (header.LockBreak owner)) → is_fenced r owner ≡ true }
+    ensures dropped { (site : Site) (r : Records) (me you : Instance) (k j : Knowledge) (image : ℕ)
+        → AreUnfenced r me you → HasLock image me r
+        → Permits k site (on.Header image header.LockDrop) → MayAct site r me you k j (on.Header image header.LockDrop) → known_header j site image ≡ None }
+    ensures removed { (site : Site) (r : Records) (me you : Instance) (k j : Knowledge) (image : ℕ)
+        → AreUnfenced r me you → AreBeside site r me you k j → Permits k site (on.Header image header.Remove) → known_header j site image ≡ None }
+{}
+
+/// A lock has one owner, as long as nobody is fenced. So two instances that each know headers by
+/// their locks go beside each other; and who has the lock that it waited for may look.
+pub fn a_lock_has_one_owner()
+    ensures one { (r : Records) (me you : Instance) (image : ℕ) → AreUnfenced r me you → HasLockWhileFree r me image → HasLockWhileFree r you image → me ≡ you }
+    ensures beside { (site : Site) (r : Records) (me you : Instance) (k j : Knowledge)
+        → me ≢ you → KnowsByLock site r me k → KnowsByLock site r you j
+        → ((image : ℕ) → is_drawn k.drawn site image ≡ true → is_drawn j.drawn site image ≡ false)
+        → ((image : ℕ) → is_gone k.gone site image ≡ true → is_drawn j.drawn site image ≡ false)
+        → ((image : ℕ) → is_gone j.gone site image ≡ true → is_drawn k.drawn site image ≡ false)
+        → ((image : ℕ) → is_gone k.gone site image ≡ true → is_gone j.gone site image ≡ false) → AreBeside site r me you k j }
+    ensures looks { (site : Site) (r : Records) (me you : Instance) (k j : Knowledge) (image : ℕ)
+        → me ≢ you → HasLockWhileFree r me image → KnowsByLock site r you j → MayAct site r me you k j (on.Header image header.Get) }
+    ensures drops { (site : Site) (r : Records) (me you : Instance) (k j : Knowledge) (image : ℕ)
+        → me ≢ you → KnowsByLock site r you j → MayAct site r me you k j (on.Header image header.LockDrop) }
+    ensures changes { (site : Site) (r : Records) (me you : Instance) (k j : Knowledge) (image object : ℕ)
+        → me ≢ you → KnowsByLock site r me k → KnowsByLock site r you j → LeavesObject site image object r me you k j }
+{}
+
+/// A lock that was taken is its owner's until the owner gives it up or is fenced: nobody else ends
+/// it by what is permitted to an instance that knows headers by its locks.
+pub fn locks_last()
+    ensures taken { (r : Records) (me : Instance) (image : ℕ) → answer_to r me (on.Header image header.LockTake) ≡ answered.Done → HasLockWhileFree (after r me (on.Header image header.LockTake)) me image }
+    ensures operation { (site : Site) (r : Records) (me you : Instance) (j : Knowledge) (image : ℕ) (op : Op)
+        → IsTrueAt site r you j → KnowsByLock site r you j → Permits j site op → (you ≡ me → gives_up image op ≡ false)
+        → HasLockWhileFree r me image → HasLockWhileFree (after r you op) me image }
+    ensures trim { (r : Records) (me : Instance) (image other number : ℕ) → HasLockWhileFree r me image → HasLockWhileFree (trimmed other number r) me image }
+    ensures expiry { (r : Records) (me i : Instance) (image other : ℕ) → HasLockWhileFree r me image → HasLockWhileFree (expired other i r) me image }
+{}
+
+/// What true knowledge permits meets the site's condition, and is answered as an operation of the
+/// owner can be; the answer may be that of a fence.
+pub fn what_is_permitted_may_be_done()
+    ensures may { (site : Site) (r : Records) (k : Knowledge) (me : Instance) (op : Op) (most : ℕ)
+        → AreInForm r most → AreMapped r → IsTrueAt site r me k → Permits k site op → MayDo r me op }
+    ensures gives { (site : Site) (r : Records) (k : Knowledge) (me : Instance) (op : Op) (most : ℕ)
+        → AreInForm r most → AreMapped r → IsTrueAt site r me k → Permits k site op → IsGiven op (answer_to r me op) }
+{}
+
+/// Where the records stand for a flat site, what true knowledge permits has exactly its effect
+/// there. So each step of a request is a step of the flat-copy machine, or none.
+pub fn what_is_permitted_has_its_effect()
+    ensures { (site : Site) (r : Records) (f : Flat) (k : Knowledge) (me : Instance) (op : Op) (most : ℕ)
+        → StandsFor [] r f → AreInForm r most → AreStandalone r → AreMapped r → IsTrueAt site r me k → Permits k site op
+        → StandsFor [] (after r me op) (changed_by f (effect_of r (done.Op op) (answer_to r me op))) }
+{}
+
+/// Each image keeps its object maps, and state 0 goes on to mean that an object is absent: under
+/// all that true knowledge permits, whoever is fenced, and whatever the store does (Ceph: an object
+/// map may name an object that isn't there, and never misses one that is).
+pub fn images_keep_their_maps()
+    ensures first { AreMapped no_records }
+    ensures operation { (site : Site) (r : Records) (f : Flat) (k : Knowledge) (you : Instance) (op : Op) (most : ℕ)
+        → StandsFor [] r f → AreInForm r most → AreMapped r → IsTrueAt site r you k → Permits k site op → AreMapped (after r you op) }
+    ensures trim { (r : Records) (image number : ℕ) → AreMapped r → AreMapped (trimmed image number r) }
+    ensures expiry { (r : Records) (image : ℕ) (i : Instance) → AreMapped r → AreMapped (expired image i r) }
+{}
+
+/// What is permitted gives no image a parent or a journal, so no header that is told has one.
+pub fn images_stay_standalone()
+    ensures first { AreStandalone no_records }
+    ensures told { (r : Records) (me : Instance) (op : Op) → AreStandalone r → IsGiven op (answer_to r me op) → TellsStandalone (answer_to r me op) }
+    ensures operation { (site : Site) (r : Records) (k : Knowledge) (you : Instance) (op : Op) → AreStandalone r → Permits k site op → AreStandalone (after r you op) }
+    ensures trim { (r : Records) (image number : ℕ) → AreStandalone r → AreStandalone (trimmed image number r) }
+    ensures expiry { (r : Records) (image : ℕ) (i : Instance) → AreStandalone r → AreStandalone (expired image i r) }
+{}

@@ -1,0 +1,203 @@
+-- Who may go on may act, whatever another one knows.
+use Rattle.std.proofs.Common.{◌≡◌, ◌≢◌, inl, inr, ℕ, Bool, true, false, List, Option, Some, None, is_some, refl, sym, ap, ◌∙◌, subst}
+use Rattle.std.specs.Prelude.{IsSome}
+use Rattle.std.specs.List.{filter}
+use Rattle.std.specs.Option.{option_map}
+use Rattle.std.proofs.lemmas.Bool.{true≢false, or_parts}
+use Rattle.std.proofs.lemmas.Option.{none-some}
+use Rattle.rbd_kinds.specs.Sharing.{is_alone}
+use Rattle.rbd_machine.specs.Course.{is_waiting, has_just_joined}
+use Rattle.rbd_machine.specs.declared.stage.Stage.{Stage}
+use Rattle.rbd_machine.specs.declared.stage.Stage.TheVariants as stage
+use Rattle.rbd_kinds.specs.declared.answer.Answer.{Answer}
+use Rattle.rbd_kinds.specs.declared.data_op.DataOp.{DataOp}
+use Rattle.rbd_kinds.specs.declared.data_op.DataOp.TheVariants as object
+use Rattle.rbd_kinds.specs.declared.header.HeaderView.{HeaderView}
+use Rattle.rbd_kinds.specs.declared.header_op.HeaderOp.TheVariants as header
+use Rattle.rbd_kinds.specs.declared.id.Instance.{Instance}
+use Rattle.rbd_kinds.specs.declared.id.SiteId.{SiteId}
+use Rattle.rbd_kinds.specs.declared.map_op.MapOp.TheVariants as states
+use Rattle.rbd_kinds.specs.declared.operation.Op.{Op}
+use Rattle.rbd_kinds.specs.declared.operation.Op.TheVariants as op
+use Rattle.rbd_queue.specs.Line.{Member, changed_member, has_turn, holds_ticket, is_past, may_pass, member_of, passed, slots, IsFairLine}
+use Rattle.rbd_queue.proofs.Fair.{passed_fair}
+use Rattle.rbd_queue.proofs.Passing.{alone_past, found_at, own_changed, others_changed, passed_is_steady}
+use Rattle.rbd_machine.specs.Knowledge.{Knowledge, Own, own_of}
+use Rattle.rbd_machine.specs.Lawful.{IsLawful}
+use Rattle.rbd_machine.specs.Permits.{HasTurn, OwnsBy, Permits, PermitsOnObject}
+use Rattle.rbd_machine.specs.Plan.{Ask, Plan, Standing}
+use Rattle.rbd_machine.specs.declared.reason.Reason.{Reason}
+use Rattle.rbd_interference.specs.Beside.{LeavesObject, MayAct, SharesLock}
+use Rattle.rbd_interference.specs.Truth.{header_of_own, is_alone_on, is_own_alone, known_header}
+use Rattle.rbd_slots.specs.declared.running.Running.{Running}
+use Rattle.rbd_slots.specs.Advance.{track_of}
+use Rattle.rbd_slots.specs.Lines.{lines_of}
+use Rattle.rbd_slots.specs.Session.{SessionView, IsSoundSession, running_at}
+use Rattle.rbd_slots.specs.Track.{Track, Lines, line_in, course_of}
+use Rattle.rbd_slots.specs.Waits.{waits, awaits_line, awaits_turn, is_at_own}
+use Rattle.rbd_slots.proofs.Members.{at_own_slot}
+use Rattle.rbd_site.specs.Records.{Records}
+use Rattle.rbd_knowledge.specs.Knowing.{AllKnow, KnowsBy, KnowsIn}
+use Rattle.rbd_knowledge.proofs.Behind.{knows_there}
+use Rattle.rbd_knowledge.proofs.Firsts.{one_first}
+use Rattle.rbd_knowledge.proofs.There.{IsMemberFor, may_of, owner_there}
+use Rattle.rbd_knowledge.proofs.Turning.{turn_of_goes}
+
+-- it changes the object, or may
+abbrev changes_object : DataOp → Bool
+changes_object (object.Read snap parts) = false
+changes_object o = true
+
+-- ---- in one line
+
+-- two that are past are both shared
+both_past : (line : List Member) (one other : Member) → IsFairLine line → member_of one.slot line ≡ Some one → member_of other.slot line ≡ Some other → one.slot ≢ other.slot
+    → is_past one.stage ≡ true → is_past other.stage ≡ true → is_alone one.sharing ≡ false
+both_past line one other fair here there differ past behind = by (is_alone one.sharing) refl
+  where
+    by : (b : Bool) → is_alone one.sharing ≡ b → b ≡ false
+    by false is = refl
+    by true is = absurd (true≢false (sym behind ∙ alone_past line one other fair here there differ is past))
+
+apart_slots : (line : List Member) (slot other : ℕ) (m n : Member) → slot ≢ other → member_of slot line ≡ Some m → member_of other line ≡ Some n → m.slot ≢ n.slot
+apart_slots line slot other m n differ here there same = differ (sym (found_at line slot m here) ∙ same ∙ found_at line other n there)
+
+both_shared : (line : List Member) (slot other : ℕ) (m n : Member) → IsFairLine line → slot ≢ other → member_of slot line ≡ Some m → member_of other line ≡ Some n
+    → is_past m.stage ≡ true → is_past n.stage ≡ true → (is_alone m.sharing ≡ false) × (is_alone n.sharing ≡ false)
+both_shared line slot other m n fair differ here there past behind =
+    let apart = apart_slots line slot other m n differ here there in (
+      both_past line m n fair (at_own_slot slot line m here) (at_own_slot other line n there) apart past behind,
+      both_past line n m fair (at_own_slot other line n there) (at_own_slot slot line m here) (λ same. apart (sym same)) behind past,
+    )
+
+-- one that may pass is as one that is past
+pub may_shared : (line : List Member) (slot other : ℕ) (m n : Member) → IsFairLine line → slot ≢ other → member_of slot line ≡ Some m → member_of other line ≡ Some n
+    → may_pass slot line ≡ true → is_past n.stage ≡ true → (is_alone m.sharing ≡ false) × (is_alone n.sharing ≡ false)
+may_shared line slot other m n fair differ here there may behind =
+    both_shared (changed_member slot passed line) slot other (passed m) n (passed_fair slot line fair may) differ
+    (own_changed line slot passed passed_is_steady ∙ ap (option_map passed) here)
+    (others_changed line slot other passed passed_is_steady (λ same. differ (sym same)) ∙ there)
+    refl behind
+
+-- ---- who doesn't wait
+
+module _ (slot other : ℕ) (site : SiteId) (image : ℕ) (o p : Own) (t u : Track) (differ : slot ≢ other) (same : u.lines ≡ t.lines) (fair : IsFairLine (t.lines site image))
+    (goes : waits slot t ≡ false) (one : IsMemberFor slot site image o t) (two : IsMemberFor other site image p u) where
+  there : member_of other (t.lines site image) ≡ Some two.member
+  there = ap (λ (ls : Lines). member_of other (ls site image)) (sym same) ∙ two.found
+
+  may : is_waiting one.member.stage ≡ true → may_pass slot (t.lines site image) ≡ true
+  may waiting =
+      sym (ap (may_pass slot) one.line)
+      ∙ may_of (is_at_own (course_of slot t).place) (may_pass slot (line_in t.place t.lines)) (ap is_at_own one.place ∙ waiting) (or_parts (awaits_line slot t) (awaits_turn slot t) goes).0
+
+  are_shared : is_past two.member.stage ≡ true → (o.alone ≡ false) × (p.alone ≡ false)
+  are_shared past = let shared = by one.member.stage refl in (one.alone ∙ shared.0, two.alone ∙ shared.1)
+    where
+      by : (s : Stage) → one.member.stage ≡ s → (is_alone one.member.sharing ≡ false) × (is_alone two.member.sharing ≡ false)
+      by stage.Joined is = absurd (true≢false (sym (ap has_just_joined is) ∙ one.waits))
+      by stage.Waiting is = may_shared (t.lines site image) slot other one.member two.member fair differ one.found there (may (ap is_waiting is)) past
+      by stage.Past is = both_shared (t.lines site image) slot other one.member two.member fair differ one.found there (ap is_past is) past
+
+-- ---- looks
+
+module _ {R : Type 0} (stands : R → Standing) (s : SessionView R) (knows : ℕ → Knowledge) (sound : IsSoundSession stands s) (all : AllKnow stands knows s) where
+  -- the own of a request that runs
+  pub owner_runs : (slot : ℕ) (r : Running R) → running_at slot s ≡ Some r → (site : SiteId) (image : ℕ) (o : Own) → own_of (knows slot).owns site image ≡ Some o
+      → IsMemberFor slot site image o (track_of r s.lines)
+  owner_runs slot r runs site image o is =
+      owner_there slot site image o (track_of r s.lines) (sound.runs slot r runs).somewhere ((knows_there stands s knows slot r runs all).tied.owns site image o is)
+
+  -- who owns anything runs
+  pub runs_who_owns : (slot : ℕ) (site : SiteId) (image : ℕ) (o : Own) → own_of (knows slot).owns site image ≡ Some o → (r : Running R) × (running_at slot s ≡ Some r)
+  runs_who_owns slot site image o is = by (running_at slot s) refl (all slot)
+    where
+      by : (q : Option (Running R)) → running_at slot s ≡ q → KnowsIn stands slot q s.lines (knows slot) → (r : Running R) × (running_at slot s ≡ Some r)
+      by None rests nothing = absurd (none-some o (sym (ap (λ (k : Knowledge). own_of k.owns site image) nothing) ∙ is))
+      by (Some r) runs known = (r, runs)
+
+  module _ (slot other : ℕ) (differ : slot ≢ other) (r : Running R) (runs : running_at slot s ≡ Some r) (goes : waits slot (track_of r s.lines) ≡ false) (site : SiteId) (image : ℕ) where
+    owners_shared : (o p : Own) → own_of (knows slot).owns site image ≡ Some o → own_of (knows other).owns site image ≡ Some p → IsSome p.header → (o.alone ≡ false) × (p.alone ≡ false)
+    owners_shared o p mine others told =
+        let (q, others_run) = runs_who_owns other site image p others in
+        let two = owner_runs other q others_run site image p others in
+        are_shared slot other site image o p (track_of r s.lines) (track_of q s.lines) differ refl (sound.fair site image) goes (owner_runs slot r runs site image o mine) two (two.past told)
+
+    header_shared : (mine others : Option Own) → own_of (knows slot).owns site image ≡ mine → own_of (knows other).owns site image ≡ others → IsSome mine → IsSome (header_of_own others)
+        → (is_own_alone mine ≡ false) × (is_own_alone others ≡ false)
+    header_shared None others is that some told = absurd (true≢false (sym some))
+    header_shared (Some o) None is that some told = absurd (true≢false (sym told))
+    header_shared (Some o) (Some p) is that some told = owners_shared o p is that told
+
+    lock_shared : (records : Records) (me you : Instance) → SharesLock site image records me you (knows slot) (knows other)
+    lock_shared records me you free some told =
+        let shared = header_shared (own_of (knows slot).owns site image) (own_of (knows other).owns site image) refl refl some told in
+        record { one = shared.0; other = shared.1 }
+
+  -- ---- changes of an object
+
+  module _ (slot other : ℕ) (differ : slot ≢ other) (r : Running R) (runs : running_at slot s ≡ Some r) (goes : waits slot (track_of r s.lines) ≡ false) (site : SiteId) (image number : ℕ) where
+    -- who changes it has its turn there, and the other one would have it
+    others_know_nothing : (IsSome (known_header (knows slot) site image) → is_alone_on (knows slot) site image ≡ false → (knows slot).turn ≡ Some number)
+        → (records : Records) (me you : Instance) → LeavesObject site image number records me you (knows slot) (knows other)
+    others_know_nothing at_turn records me you free mine others known = by (own_of (knows slot).owns site image) refl (own_of (knows other).owns site image) refl mine others
+      where
+        by : (one : Option Own) → own_of (knows slot).owns site image ≡ one → (two : Option Own) → own_of (knows other).owns site image ≡ two → IsSome (header_of_own one) → IsSome (header_of_own two) → ⊥
+        by None is two that mine others = true≢false (sym mine)
+        by (Some o) is None that mine others = true≢false (sym others)
+        by (Some o) is (Some p) that told_one told_two =
+            let (q, others_run) = runs_who_owns other site image p that in
+            let shared = owners_shared slot other differ r runs goes site image o p is that told_two in
+            let one = owner_runs slot r runs site image o is in
+            let turn = at_turn (ap (λ x. is_some (header_of_own x)) is ∙ told_one) (ap is_own_alone is ∙ shared.0) in
+            let mine_knows = knows_there stands s knows slot r runs all in
+            let its = turn_of_goes slot (track_of r s.lines) goes number (sym (mine_knows.tied.turn site image (ap (λ x. is_some (header_of_own x)) is ∙ told_one)) ∙ turn) in
+            let theirs = (knows_there stands s knows other q others_run all).has_turn site image number (ap (λ x. is_some (header_of_own x)) that ∙ told_two) (ap is_own_alone that ∙ shared.1) known in
+            differ (one_first (slots (filter (holds_ticket number) (lines_of s.lines site image))) slot other (subst (λ ms. has_turn slot number ms ≡ true) one.line its) theirs)
+
+  module _ (slot : ℕ) (site : SiteId) (image number : ℕ) where
+    -- who owns an image that it isn't alone on has its turn, where it wants one
+    turn_by : (condition : (alone : Bool) → HeaderView → Type 0) → ((alone : Bool) (h : HeaderView) → condition alone h → HasTurn alone (knows slot).turn number) → OwnsBy (knows slot) site image condition
+        → is_alone_on (knows slot) site image ≡ false → (knows slot).turn ≡ Some number
+    turn_by condition wants owns shared = subst (λ alone. HasTurn alone (knows slot).turn number) (sym (ap is_own_alone owns.is) ∙ shared) (wants owns.alone owns.header owns.meets)
+
+    turn_at : (o : DataOp) → PermitsOnObject (knows slot) site image number o → changes_object o ≡ true → IsSome (known_header (knows slot) site image) → is_alone_on (knows slot) site image ≡ false
+        → (knows slot).turn ≡ Some number
+    turn_at (object.Read snap parts) permits changes some shared = absurd (true≢false (sym changes))
+    turn_at (object.Write context must parts bytes) permits changes some shared = turn_by _ (λ alone h may. may.at_turn) permits shared
+    turn_at (object.Zero context must parts) permits changes some shared = turn_by _ (λ alone h may. may.at_turn) permits shared
+    turn_at (object.Empty context) permits changes some shared = turn_by _ (λ alone h may. may.at_turn) permits shared
+    turn_at (object.Remove context) (inl over) changes some shared = absurd (true≢false (sym some ∙ ap (λ o. is_some (header_of_own o)) over.unowned))
+    turn_at (object.Remove context) (inr owns) changes some shared = turn_by _ (λ alone h may. may.at_turn) owns shared
+    turn_at (object.WriteFull context bytes) permits changes some shared = turn_by _ (λ alone h may. may.at_turn) permits shared
+    turn_at (object.CopyUp bytes) permits changes some shared = absurd permits
+
+  pub may_act : (slot other : ℕ) (r : Running R) (site : SiteId) (why : Reason) (o : Op) (next : Answer → Plan) → slot ≢ other → running_at slot s ≡ Some r → waits slot (track_of r s.lines) ≡ false
+      → (stands r.request).plan ≡ Ask site why o next → (records : Records) (me you : Instance) → MayAct site records me you (knows slot) (knows other) o
+  may_act slot other r site why o next differ runs goes asks records me you = by o permits
+    where
+      knows_by : KnowsBy stands slot r s.lines (knows slot)
+      knows_by = knows_there stands s knows slot r runs all
+
+      permits : Permits (knows slot) site o
+      permits = (subst (IsLawful knows_by.known_at (knows slot)) asks knows_by.lawful).0
+
+      changing : (image number : ℕ) (d : DataOp) → PermitsOnObject (knows slot) site image number d → changes_object d ≡ true → LeavesObject site image number records me you (knows slot) (knows other)
+      changing image number d may changes = others_know_nothing slot other differ r runs goes site image number (turn_at slot site image number d may changes) records me you
+
+      by : (o : Op) → Permits (knows slot) site o → MayAct site records me you (knows slot) (knows other) o
+      by (op.Header image header.Get) may = lock_shared slot other differ r runs goes site image records me you
+      by (op.Header image header.LockDrop) may = λ lock. lock_shared slot other differ r runs goes site image records me you
+      by (op.Header image o) may = tt
+      by (op.Data image number (object.Read snap parts)) may = tt
+      by (op.Data image number (object.Write context must parts bytes)) may = changing image number (object.Write context must parts bytes) may refl
+      by (op.Data image number (object.Zero context must parts)) may = changing image number (object.Zero context must parts) may refl
+      by (op.Data image number (object.Empty context)) may = changing image number (object.Empty context) may refl
+      by (op.Data image number (object.Remove context)) may = changing image number (object.Remove context) may refl
+      by (op.Data image number (object.WriteFull context bytes)) may = changing image number (object.WriteFull context bytes) may refl
+      by (op.Data image number (object.CopyUp bytes)) may = changing image number (object.CopyUp bytes) may refl
+      by (op.Map image (states.Set None number state)) may =
+          others_know_nothing slot other differ r runs goes site image number (λ some shared. turn_by slot site image number _ (λ alone h may_set. may_set.at_turn) may shared) records me you
+      by (op.Map image (states.Set (Some snap) number state)) may = tt
+      by (op.Map image o) may = tt
+      by _ may = tt

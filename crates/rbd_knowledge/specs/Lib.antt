@@ -1,0 +1,5 @@
+pub mod Calm
+pub mod Knowing
+pub mod Tied
+pub mod ClientsKnowing
+pub mod Truth

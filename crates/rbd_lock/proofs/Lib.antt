@@ -1,0 +1,17 @@
+pub mod Keys
+pub mod States
+pub mod Lasting
+pub mod Least
+pub mod OneOrder
+pub mod Standing
+pub mod Tells
+pub mod Ordered
+pub mod Behind
+pub mod Counted
+pub mod Owned
+pub mod Bounded
+pub mod Closed
+pub mod Lawful
+pub mod Released
+pub mod Apart
+pub mod Listed

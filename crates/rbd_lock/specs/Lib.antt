@@ -1,0 +1,11 @@
+pub mod Places
+pub mod States
+pub mod Locks
+pub mod Comings
+pub mod Steps
+pub mod Acquire
+pub mod Release
+pub mod Waiting
+pub mod Order
+pub mod Counts
+pub mod Past

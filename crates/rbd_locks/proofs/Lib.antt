@@ -1,5 +1,0 @@
-pub mod Keys
-pub mod States
-pub mod Lasting
-pub mod Least
-pub mod OneOrder

@@ -1,4 +1,0 @@
-pub mod Places
-pub mod States
-pub mod Locks
-pub mod Comings

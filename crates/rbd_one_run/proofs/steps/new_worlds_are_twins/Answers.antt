@@ -1,6 +1,0 @@
-use Rattle.rbd_client.specs.Seen.{as_is}
-use Rattle.rbd_one_run.proofs.NewTwins.{new_worlds_are_twins}
-use Rattle.rbd_one_run.proofs.steps.new_worlds_are_twins.Goals as goal
-
-pub returns : goal.returns
-returns c = new_worlds_are_twins as_is

@@ -1,5 +1,0 @@
-use Rattle.rbd_owner.proofs.Apart.{way_apart}
-use Rattle.rbd_owner.proofs.laws.ways_are_told_apart.Goals as goal
-
-pub returns : goal.returns
-returns c = λ labels site image watched next feds steps last same walk. way_apart labels site image next same watched feds steps last walk

@@ -1,5 +1,0 @@
-pub mod About
-pub mod Bounded
-pub mod Closed
-pub mod Lawful
-pub mod Tells

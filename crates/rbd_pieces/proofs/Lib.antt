@@ -1,0 +1,17 @@
+pub mod About
+pub mod Bounded
+pub mod Closed
+pub mod Lawful
+pub mod Tells
+pub mod AllBytes
+pub mod Below
+pub mod ZerosBounded
+pub mod ZerosClosed
+pub mod Ends
+pub mod Held
+pub mod ZerosLawful
+pub mod Resized
+pub mod Sizes
+pub mod ZerosTell
+pub mod Walked
+pub mod Zeroed

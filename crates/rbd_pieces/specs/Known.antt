@@ -1,0 +1,29 @@
+-- What a request knows where a part begins, and where it ends.
+use Rattle.std.specs.Prelude.{◌≡◌, ℕ, Bool, List, [], ◌∷◌, All, Some}
+use Rattle.rbd_kinds.specs.declared.header.HeaderView.{HeaderView}
+use Rattle.rbd_kinds.specs.declared.id.SiteId.{SiteId}
+use Rattle.rbd_layout.specs.declared.types.Piece.{Piece}
+use Rattle.rbd_machine.specs.Knowledge.{Knowledge, learned, own_of}
+use Rattle.rbd_machine.specs.Path.{Answered}
+use Rattle.rbd_machine.specs.Permits.{HasTurn, IsObjectOf, LiesBelow}
+
+-- behind operations that were done
+abbrev pub known_behind : Knowledge → List Answered → Knowledge
+known_behind k [] = k
+known_behind k (a ∷ steps) = known_behind (learned k a.site a.op a.answer) steps
+
+-- It owns the image by this header.
+abbrev pub OwnsByHeader : Knowledge → SiteId → (image : ℕ) → (alone : Bool) → HeaderView → Type 0
+OwnsByHeader k site image alone h =
+    own_of k.owns site image ≡ Some (record { site = site; image = image; alone = alone; header = Some h })
+
+-- It owns the image by this header, alone, or at its turn at the object.
+pub record OwnsObject (k : Knowledge) (site : SiteId) (image : ℕ) (h : HeaderView) (number : ℕ) : Type 0 where
+  pub alone : Bool
+  pub owns : OwnsByHeader k site image alone h
+  pub turn : HasTurn alone k.turn number
+
+-- The piece is one of the head: its parts lie in its object, and end within the size.
+pub record IsPieceOf (h : HeaderView) (p : Piece) : Type 0 where
+  pub object : IsObjectOf h p.object
+  pub parts : All (LiesBelow h p.object) p.parts

@@ -1,0 +1,4 @@
+pub mod Twins
+pub mod OneRun
+pub mod OneChanger
+pub mod AddUp

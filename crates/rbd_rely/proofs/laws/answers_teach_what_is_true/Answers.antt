@@ -1,5 +1,0 @@
-use Rattle.rbd_rely.proofs.Learned.{own_learned}
-use Rattle.rbd_rely.proofs.laws.answers_teach_what_is_true.Goals as goal
-
-pub returns : goal.returns
-returns c = own_learned

@@ -1,5 +1,0 @@
-use Rattle.rbd_rely.proofs.Kept.{expiries_keep}
-use Rattle.rbd_rely.proofs.laws.expiries_keep_what_is_known.Goals as goal
-
-pub returns : goal.returns
-returns c = expiries_keep

@@ -1,5 +1,0 @@
-use Rattle.rbd_rely.proofs.Kept.{trims_keep}
-use Rattle.rbd_rely.proofs.laws.trims_keep_what_is_known.Goals as goal
-
-pub returns : goal.returns
-returns c = trims_keep

@@ -1,4 +1,0 @@
-pub mod Truth
-pub mod Locks
-pub mod Turns
-pub mod Beside

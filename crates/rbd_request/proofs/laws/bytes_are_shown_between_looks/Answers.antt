@@ -1,5 +1,0 @@
-use Rattle.rbd_request.proofs.Passes.{read_shows}
-use Rattle.rbd_request.proofs.laws.bytes_are_shown_between_looks.Goals as goal
-
-pub returns : goal.returns
-returns c = read_shows

@@ -1,8 +1,0 @@
-use Rattle.rbd_request.proofs.Bounded.{bounded_pass, bounded_read}
-use Rattle.rbd_request.proofs.laws.reads_are_bounded.Goals as goal
-
-pub returns-clause-pass : goal.returns-clause-pass
-returns-clause-pass c = bounded_pass
-
-pub returns-clause-all : goal.returns-clause-all
-returns-clause-all c = bounded_read

@@ -1,5 +1,0 @@
-use Rattle.rbd_request.proofs.Lawful.{lawful_read}
-use Rattle.rbd_request.proofs.laws.reads_are_lawful.Goals as goal
-
-pub returns : goal.returns
-returns c = lawful_read

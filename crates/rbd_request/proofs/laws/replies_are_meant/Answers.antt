@@ -1,8 +1,0 @@
-use Rattle.rbd_request.proofs.Meant.{write_plan_means, read_plan_means}
-use Rattle.rbd_request.proofs.laws.replies_are_meant.Goals as goal
-
-pub returns-clause-write : goal.returns-clause-write
-returns-clause-write c = write_plan_means
-
-pub returns-clause-read : goal.returns-clause-read
-returns-clause-read c = read_plan_means

@@ -1,5 +1,0 @@
-use Rattle.rbd_request.proofs.Whole.{write_is_whole}
-use Rattle.rbd_request.proofs.laws.writes_are_whole.Goals as goal
-
-pub returns : goal.returns
-returns c = write_is_whole

@@ -1,4 +1,0 @@
-pub mod PieceLaws
-pub mod Read
-pub mod Seen
-pub mod Write

@@ -1,5 +1,0 @@
-use Rattle.rbd_requests.proofs.Closed.{command_is_closed}
-use Rattle.rbd_requests.proofs.laws.commands_are_closed.Goals as goal
-
-pub returns : goal.returns
-returns c = command_is_closed

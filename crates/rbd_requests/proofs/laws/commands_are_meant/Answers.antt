@@ -1,5 +1,0 @@
-use Rattle.rbd_requests.specs.CommandsMeant.{command_is_meant}
-use Rattle.rbd_requests.proofs.laws.commands_are_meant.Goals as goal
-
-pub returns : goal.returns
-returns c = command_is_meant

@@ -1,5 +1,0 @@
-use Rattle.rbd_requests.proofs.Looks.{looks_refuse}
-use Rattle.rbd_requests.proofs.laws.looks_refuse_what_isnt_there.Goals as goal
-
-pub returns : goal.returns
-returns c = looks_refuse

@@ -1,5 +1,0 @@
-use Rattle.rbd_requests.proofs.Wrong.{shared_quiesce_is_refused}
-use Rattle.rbd_requests.proofs.rows.a_quiesce_joins_alone.Goals as goal
-
-pub returns : goal.returns
-returns c = shared_quiesce_is_refused

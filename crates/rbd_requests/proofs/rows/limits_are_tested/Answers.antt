@@ -1,5 +1,0 @@
-use Rattle.rbd_requests.specs.Limits.{limits_are_told}
-use Rattle.rbd_requests.proofs.rows.limits_are_tested.Goals as goal
-
-pub returns : goal.returns
-returns c = limits_are_told

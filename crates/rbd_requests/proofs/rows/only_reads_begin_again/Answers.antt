@@ -1,5 +1,0 @@
-use Rattle.rbd_requests.proofs.FollowsAll.{begins_once}
-use Rattle.rbd_requests.proofs.rows.only_reads_begin_again.Goals as goal
-
-pub returns : goal.returns
-returns c = begins_once

@@ -1,5 +1,0 @@
-use Rattle.rbd_requests.proofs.Plans.{is_planned}
-use Rattle.rbd_requests.proofs.rows.what_is_served_has_a_plan.Goals as goal
-
-pub returns : goal.returns
-returns c = is_planned

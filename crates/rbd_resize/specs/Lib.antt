@@ -1,6 +1,0 @@
-pub mod Resize
-pub mod Rollback
-pub mod Restore
-pub mod Rolling
-pub mod PartLaws
-pub mod Told

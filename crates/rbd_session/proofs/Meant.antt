@@ -1,0 +1,129 @@
+-- What replies mean, command by command.
+use Rattle.std.proofs.Common.{◌≡◌, inl, inr, ℕ, List, Bool, true, false, refl, subst}
+use Rattle.rbd_kinds.specs.declared.sharing.Sharing.TheVariants as sharing
+use Rattle.rbd_kinds.specs.declared.answer.Answer.{Answer}
+use Rattle.rbd_kinds.specs.declared.answer.Answer.TheVariants as answer
+use Rattle.rbd_commands.specs.declared.command.Command.{Command}
+use Rattle.rbd_commands.specs.declared.command.Command.TheVariants as command
+use Rattle.rbd_kinds.specs.declared.id.SiteId.{SiteId}
+use Rattle.rbd_kinds.specs.declared.machine.Fed.{Fed}
+use Rattle.rbd_kinds.specs.declared.notice.NoticeKind.{NoticeKind}
+use Rattle.rbd_kinds.specs.declared.notice.NoticeKind.TheVariants as notice
+use Rattle.rbd_commands.specs.declared.refusal.Refusal.{Refusal}
+use Rattle.rbd_commands.specs.declared.refusal.Refusal.TheVariants as refusal
+use Rattle.rbd_kinds.proofs.Results.{same_refusal}
+use Rattle.rbd_kinds.specs.declared.reply.Reply.{Reply}
+use Rattle.rbd_kinds.specs.declared.reply.Reply.TheVariants as reply
+use Rattle.rbd_machine.specs.About.{look_up, AreOwn}
+use Rattle.rbd_machine.specs.Path.{Answered, IsWalk}
+use Rattle.rbd_machine.specs.Plan.{Plan, Return, Goto}
+use Rattle.rbd_machine.specs.Refused.{refuses_none, never, AreGiven, IsGiven, IsRefused, IsRefusedBy}
+use Rattle.rbd_machine.specs.Steps.{on_done}
+use Rattle.rbd_machine.specs.declared.seat.Seat.{Seat}
+use Rattle.rbd_machine.proofs.Refused.{IsRefusing, Answers, EndsBy, ends_by, refusing_find, refusing_change}
+use Rattle.rbd_meaning.specs.Closes.{gone_or_fenced, CloseMeans, QuiesceMeans, ResumeMeans, TellMeans}
+use Rattle.rbd_meaning.specs.Meant.{IsMeantBy}
+use Rattle.rbd_lock.specs.Steps.{lock_drop}
+use Rattle.rbd_session.specs.Close.{is_close, replies_done, notify, unwatch, unwatching, on_dropped, joining, close, quiesced, quiesce, resumed_plan, resume, telling_others, tell, close_plan}
+use Rattle.rbd_session.proofs.About.{close_is_own, quiesce_is_own, resume_is_own, tell_is_own}
+use Rattle.rbd_session.proofs.Ended.{closes, looks_twice, finds, says}
+
+abbrev IsDone : Reply → Type 0
+IsDone reply.Done = Unit {0}
+IsDone _ = ⊥
+
+-- ---- an operation that is done, or isn't since the image is gone or the instance is fenced
+
+module _ (late : Refusal → Type 0) (changed : Bool) (gone : changed ≡ true → late refusal.NoImage) (fenced : changed ≡ true → late refusal.Fenced)
+    (next : Plan) (goes_on : IsRefusing refuses_none late IsDone true next) (image : ℕ) where
+  refusing_notify : (kind : NoticeKind) (a : Answer) → IsGiven (notify image kind) a → Answers refuses_none late IsDone changed (notify image kind) a (on_done next a)
+  refusing_notify kind answer.Done can = inr (λ live. refl, goes_on)
+  refusing_notify kind answer.Absent can = inl (record { why = refusal.NoImage; is = refl; ends = refl; comes = gone })
+  refusing_notify kind answer.Fenced can = inl (record { why = refusal.Fenced; is = refl; ends = refl; comes = fenced })
+  refusing_notify kind _ can = let no = can.can.word in cc
+
+  refusing_unwatch : (a : Answer) → IsGiven (unwatch image) a → Answers refuses_none late IsDone changed (unwatch image) a (on_done next a)
+  refusing_unwatch answer.Done can = inr (λ live. refl, goes_on)
+  refusing_unwatch answer.Absent can = inl (record { why = refusal.NoImage; is = refl; ends = refl; comes = gone })
+  refusing_unwatch answer.Fenced can = inl (record { why = refusal.Fenced; is = refl; ends = refl; comes = fenced })
+  refusing_unwatch _ can = let no = can.can.word in cc
+
+module _ (site : SiteId) where
+  -- ---- close
+
+  refusing_unwatching : (image : ℕ) → IsRefusing refuses_none gone_or_fenced IsDone true (unwatching site image)
+  refusing_unwatching image = refusing_unwatch gone_or_fenced true (λ was. tt) (λ was. tt) replies_done tt image
+
+  refusing_dropped : (image : ℕ) (a : Answer) → IsGiven (lock_drop image) a → Answers refuses_none gone_or_fenced IsDone false (lock_drop image) a (on_dropped site image a)
+  refusing_dropped image answer.Done can =
+      inr (λ live. refl, refusing_notify gone_or_fenced true (λ was. tt) (λ was. tt) (unwatching site image) (refusing_unwatching image) image notice.ReleasedLock)
+  refusing_dropped image answer.Changed can = inr (λ live. refl, refusing_unwatching image)
+  refusing_dropped image answer.Absent can = inl (record { why = refusal.NoImage; is = refl; ends = refl; comes = λ was. tt })
+  refusing_dropped image answer.Fenced can = inl (record { why = refusal.Fenced; is = refl; ends = refl; comes = λ was. tt })
+  refusing_dropped image _ can = let no = can.can.word in cc
+
+  refusing_close : (name : List ℕ) → IsRefusing refuses_none gone_or_fenced IsDone false (close site name)
+  refusing_close name = refusing_find refuses_none gone_or_fenced IsDone name (joining site) refusing_dropped
+
+  -- ---- the others change nothing before their last operation
+
+  refusing_quiesce : (name : List ℕ) → IsRefusing refuses_none never IsDone false (quiesce site name)
+  refusing_quiesce name = refusing_change refuses_none never IsDone site name sharing.Alone quiesced (λ i h may. tt)
+
+  refusing_resume : (name : List ℕ) → IsRefusing refuses_none never IsDone false (resume site name)
+  refusing_resume name = refusing_find refuses_none never IsDone name resumed_plan (λ i. tt)
+
+  refusing_tell : (name bytes : List ℕ) → IsRefusing refuses_none never IsDone false (tell site name bytes)
+  refusing_tell name bytes =
+      refusing_find refuses_none never IsDone name (telling_others site bytes) (λ i. refusing_notify never false (λ was. cc) (λ was. cc) replies_done tt i (notice.Custom bytes))
+
+-- ---- replies
+
+module _ (late : Refusal → Type 0) (site : SiteId) (name : List ℕ) (steps : List Answered) where
+  -- how a request may end: done, or refused by its last answer
+  abbrev EndsSo : Reply → Type 0
+  EndsSo r = EndsBy refuses_none late IsDone false steps r
+
+  is_refused : (x y : Refusal) → AreOwn site (look_up name) steps → reply.Refused x ≡ reply.Refused y → IsRefusedBy refuses_none late steps y → IsRefused site (look_up name) refuses_none late steps x
+  is_refused x y own same by = record { own = own; by = subst (IsRefusedBy refuses_none late steps) (same_refusal x y same) by }
+
+module _ (site : SiteId) (name : List ℕ) (feds : List Fed) (steps : List Answered) where
+  close_means : (r : Reply) → EndsSo gone_or_fenced site name steps r → IsWalk Goto (close site name) feds steps (Return r) → CloseMeans site name steps r
+  close_means reply.Done ends walk = closes site name feds steps walk
+  close_means (reply.Refused x) (inl granted) walk = absurd granted
+  close_means (reply.Refused x) (inr (y, same, from)) walk = is_refused gone_or_fenced site name steps x y (close_is_own site name feds steps (Return (reply.Refused x)) walk) same from.by
+  close_means _ (inl granted) walk = absurd granted
+  close_means _ (inr (y, same, from)) walk = cc
+
+  quiesce_means : (r : Reply) → EndsSo never site name steps r → IsWalk Goto (quiesce site name) feds steps (Return r) → QuiesceMeans site name steps r
+  quiesce_means reply.Done ends walk = looks_twice site name feds steps walk
+  quiesce_means (reply.Refused x) (inl granted) walk = absurd granted
+  quiesce_means (reply.Refused x) (inr (y, same, from)) walk = is_refused never site name steps x y (quiesce_is_own site name feds steps (Return (reply.Refused x)) walk) same from.by
+  quiesce_means _ (inl granted) walk = absurd granted
+  quiesce_means _ (inr (y, same, from)) walk = cc
+
+  resume_means : (r : Reply) → EndsSo never site name steps r → IsWalk Goto (resume site name) feds steps (Return r) → ResumeMeans site name steps r
+  resume_means reply.Done ends walk = finds site name feds steps walk
+  resume_means (reply.Refused x) (inl granted) walk = absurd granted
+  resume_means (reply.Refused x) (inr (y, same, from)) walk = is_refused never site name steps x y (resume_is_own site name feds steps (Return (reply.Refused x)) walk) same from.by
+  resume_means _ (inl granted) walk = absurd granted
+  resume_means _ (inr (y, same, from)) walk = cc
+
+  tell_means : (bytes : List ℕ) (r : Reply) → EndsSo never site name steps r → IsWalk Goto (tell site name bytes) feds steps (Return r) → TellMeans site name bytes steps r
+  tell_means bytes reply.Done ends walk = says site name bytes feds steps walk
+  tell_means bytes (reply.Refused x) (inl granted) walk = absurd granted
+  tell_means bytes (reply.Refused x) (inr (y, same, from)) walk = is_refused never site name steps x y (tell_is_own site name bytes feds steps (Return (reply.Refused x)) walk) same from.by
+  tell_means bytes _ (inl granted) walk = absurd granted
+  tell_means bytes _ (inr (y, same, from)) walk = cc
+
+pub means : (seat : Seat) (c : Command) (feds : List Fed) (steps : List Answered) (r : Reply) → is_close c ≡ true → AreGiven steps
+    → IsWalk Goto (close_plan seat.home c) feds steps (Return r) → IsMeantBy seat c steps r
+means seat (command.Close image) feds steps r is given walk =
+    close_means seat.home image feds steps r (ends_by refuses_none gone_or_fenced IsDone feds false (close seat.home image) steps r (refusing_close seat.home image) given walk) walk
+means seat (command.Quiesce image) feds steps r is given walk =
+    quiesce_means seat.home image feds steps r (ends_by refuses_none never IsDone feds false (quiesce seat.home image) steps r (refusing_quiesce seat.home image) given walk) walk
+means seat (command.Resume image) feds steps r is given walk =
+    resume_means seat.home image feds steps r (ends_by refuses_none never IsDone feds false (resume seat.home image) steps r (refusing_resume seat.home image) given walk) walk
+means seat (command.Tell image bytes) feds steps r is given walk =
+    tell_means seat.home image feds steps bytes r (ends_by refuses_none never IsDone feds false (tell seat.home image bytes) steps r (refusing_tell seat.home image bytes) given walk) walk
+means seat _ feds steps r is given walk = cc

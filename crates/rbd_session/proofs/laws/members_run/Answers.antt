@@ -1,5 +1,0 @@
-use Rattle.rbd_session.proofs.Consequences.{members_run_there}
-use Rattle.rbd_session.proofs.laws.members_run.Goals as goal
-
-pub returns : goal.returns
-returns R c = members_run_there _

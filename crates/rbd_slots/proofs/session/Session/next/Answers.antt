@@ -1,0 +1,22 @@
+use Rattle.std.proofs.Common.{◌≡◌, IfOk, ap, subst}
+use Rattle.rbd_slots.specs.Session.{SessionView, IsSoundSession, op_asked, of_going}
+use Rattle.rbd_slots.proofs.Shown.{next_there, asks_there, going_there}
+use Rattle.rbd_slots.proofs.session.Session.next.Goals as goal
+
+pub op_in-requires : goal.op_in-requires
+op_in-requires g c =
+    let s : SessionView _ = record { instance = c.self.inside.instance; home = c.self.inside.home; slots = c.self.inside.slots.items; lowest = c.self.inside.lowest; lines = c.self.inside.lines } in
+    record {
+      next = next_there g.R.Machine.stands s c.self.invariant c.args.slot c.as_slice.result.now c.as_slice.ensures.value;
+      asks = asks_there g.R.Machine.stands s c.self.invariant c.args.slot c.as_slice.result.now c.as_slice.ensures.value;
+    }
+
+pub returns-clause-op : goal.returns-clause-op
+returns-clause-op g c =
+    let s : SessionView _ = record { instance = c.self.inside.instance; home = c.self.inside.home; slots = c.self.inside.slots.items; lowest = c.self.inside.lowest; lines = c.self.inside.lines } in
+    subst (λ (o : _). IfOk c.op_in.result (λ told. told ≡ o))
+    (ap (of_going g.R.Machine.stands op_asked) (going_there g.R.Machine.stands s c.self.invariant c.args.slot c.as_slice.result.now c.as_slice.ensures.value c.args.self.now c.self.view_is))
+    c.op_in.ensures
+
+pub returns-clause-sound : goal.returns-clause-sound
+returns-clause-sound g c = subst (IsSoundSession g.R.Machine.stands) c.self.view_is c.self.invariant

@@ -1,0 +1,17 @@
+pub mod Restored
+pub mod Rolled
+pub mod Named
+pub mod Removed
+pub mod Changes
+pub mod About
+pub mod Bounds
+pub mod Closed
+pub mod Lawful
+pub mod Meant
+pub mod RollbacksBounded
+pub mod RollbacksBuilt
+pub mod RollbacksClosed
+pub mod RollbacksLawful
+pub mod RollbacksMeant
+pub mod RollbacksOwn
+pub mod RollbacksWhole

@@ -1,0 +1,9 @@
+pub mod Rollback
+pub mod Restore
+pub mod Rolling
+pub mod Snap
+pub mod SnapParts
+pub mod Snapping
+pub mod SnapLaws
+pub mod RollbackTold
+pub mod RollbackLaws

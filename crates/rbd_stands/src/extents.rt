@@ -1,0 +1,111 @@
+//! The image bytes of an object's parts.
+ghost use Rattle.std.specs.Prelude.{◌≡◌, ℕ, ◌++◌, ◌^◌, ◌<◌, IfOk, OnOk};
+ghost use Rattle.rbd_kinds.specs.Form.{IsHeaderInForm};
+ghost use Rattle.rbd_kinds.specs.Striping.{IsLayout, byte_at};
+ghost use Rattle.rbd_stands.specs.Kept as of_kept;
+ghost use Rattle.rbd_stands.specs.Kept.{extents_between, IsHeldBelow};
+ghost use Rattle.rbd_stands.specs.Effect as of_effect;
+
+use crate::held::{held_below, kept_len};
+use rbd_flat::Extents;
+use rbd_kinds::{Extent, HeaderView, Layout, NoMemory, Part};
+use std::alloc::Global;
+
+/// The image bytes below the size of parts of an object, in the order of the parts.
+pub fn extents_below(
+    alloc: Global,
+    header: &HeaderView,
+    object: u64,
+    parts: &[Part],
+) -> Result<Extents, NoMemory>
+    requires form { IsHeaderInForm header.now }
+    ensures { IfOk result (λ at. at ≡ of_effect.extents_below header.now.layout header.now.size object parts.now) }
+{
+    let held = held_below(&header.layout, object, header.size);
+    let mut found = Vec::new(alloc);
+    for part in parts {
+        push_part(&mut found, &header.layout, object, held, part)?;
+    }
+    Ok(Extents::from_vec(found))
+}
+
+/// The image bytes of a whole object below the size.
+pub fn whole_object(alloc: Global, header: &HeaderView, object: u64) -> Result<Extents, NoMemory>
+    requires form { IsHeaderInForm header.now }
+    ensures { IfOk result (λ at. at ≡ of_effect.whole_object header.now.layout header.now.size object) }
+{
+    let end = held_below(&header.layout, object, header.size).min(header.layout.object);
+    let mut found = Vec::new(alloc);
+    push_between(&mut found, &header.layout, object, 0, end)?;
+    Ok(Extents::from_vec(found))
+}
+
+/// Adds the image bytes of those of a part's offsets that are held.
+fn push_part(
+    found: &mut Vec<Extent>,
+    layout: &Layout,
+    object: u64,
+    held: u64,
+    part: &Part,
+) -> Result<(), NoMemory>
+    requires layout { IsLayout layout.now }
+    requires within { (offset : ℕ) → offset < held → byte_at layout.now object offset < 2 ^ 63 }
+    ensures { OnOk result ((size : ℕ) → IsHeldBelow layout.now object size held
+        → found.new.items ≡ found.old.items ++ of_effect.joined_extents layout.now (of_effect.places_below layout.now size object part.now)) }
+{
+    let kept = kept_len(held, part);
+    if kept == 0 {
+        return Ok(());
+    }
+    push_between(found, layout, object, part.offset, part.offset + kept)
+}
+
+/// Adds the image bytes of the offsets from one to another.
+///
+/// Where a stripe has no other object, the bytes of an object lie together in the image too, else
+/// those of a unit.
+fn push_between(
+    found: &mut Vec<Extent>,
+    layout: &Layout,
+    object: u64,
+    from: u64,
+    end: u64,
+) -> Result<(), NoMemory>
+    requires layout { IsLayout layout.now }
+    requires within { (offset : ℕ) → offset < end → byte_at layout.now object offset < 2 ^ 63 }
+    ensures { OnOk result (found.new.items ≡ found.old.items ++ extents_between layout.now object from end) }
+{
+    let mut offset = from;
+    while offset < end {
+        let at = image_byte(layout, object, offset);
+        let len = run_from(layout, offset, end);
+        found.push(Extent { at, len })?;
+        offset += len;
+    }
+    Ok(())
+}
+
+/// How many bytes from an offset on, up to another, lie together in the image.
+fn run_from(layout: &Layout, offset: u64, end: u64) -> u64
+    requires layout { IsLayout layout.now }
+    requires some { offset < end }
+    ensures { result ≡ of_kept.run_from layout.now offset end }
+{
+    if layout.count == 1 {
+        return end - offset;
+    }
+    (layout.unit - offset % layout.unit).min(end - offset)
+}
+
+/// The image byte at an offset of an object.
+fn image_byte(layout: &Layout, object: u64, offset: u64) -> u64
+    requires layout { IsLayout layout.now }
+    requires byte { byte_at layout.now object offset < 2 ^ 63 }
+    ensures { result ≡ byte_at layout.now object offset }
+{
+    let count = u64::from(layout.count);
+    let units = layout.object / layout.unit;
+    let stripe = object / count * units + offset / layout.unit;
+    let block = stripe * count + object % count;
+    block * layout.unit + offset % layout.unit
+}

@@ -1,5 +1,0 @@
-use Rattle.rbd_zero.proofs.Sizes.{pieces_of_head}
-use Rattle.rbd_zero.proofs.laws.pieces_are_of_the_head.Goals as goal
-
-pub returns : goal.returns
-returns c = pieces_of_head

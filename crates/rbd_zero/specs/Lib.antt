@@ -1,6 +1,0 @@
-pub mod Full
-pub mod Known
-pub mod Operations
-pub mod Shrink
-pub mod Size
-pub mod Zero
