@@ -1,18 +1,22 @@
 -- Heads that are changed part by part.
-use Rattle.std.proofs.Common.{◌≡◌, ℕ, ◌+◌, ◌<◌, ◌≤◌, List, [], ◌∷◌, Option, Some, None, length, get_or, take, drop, min, max, refl, sym, ap, ◌∙◌, subst, drop-cons, length-take, length-drop, add-one, arith}
+use Rattle.std.proofs.Common.{◌≡◌, ℕ, ◌+◌, ◌-◌, ◌/◌, ◌<◌, ◌≤◌, inl, inr, List, [], ◌∷◌, Option, Some, None, length, get_or, take, drop, min, max, refl, sym, ap, ◌∙◌, subst, drop-cons, length-take, length-drop, add-one, arith}
 use Rattle.std.specs.Prelude.{option_map, unwrap_or}
+use Rattle.std.proofs.lemmas.Bool.{cases_lt}
 use Rattle.std.proofs.lemmas.List.{drop_all}
 use Rattle.rbd_kinds.specs.declared.layout.Part.{Part}
 use Rattle.rbd_parts.specs.Contents.{overwritten, zeroed}
 use Rattle.rbd_kinds.specs.Parts.{parts_len}
 use Rattle.rbd_parts.specs.Parts.{parts_written, parts_zeroed, AreWithin}
 use Rattle.rbd_parts.specs.declared.parts.TheConstants.{LARGEST_OBJECT}
-use Rattle.rbd_pages.specs.Sheaves.{Exchanged, Stock}
+use Rattle.rbd_pages.specs.Sheaves.{Exchanged, Stock, sheaves_between, sheaves_for}
 use Rattle.rbd_pages.specs.Sheets.{in_use}
-use Rattle.rbd_pages.specs.Listed.{Listed, touched}
-use Rattle.rbd_object.specs.Shared.{IsHead, begun_head, bytes_of, len_of, sheaves_of, written_touch, zeroed_touch}
+use Rattle.rbd_pages.specs.Listed.{Listed, sheaves_touched, touched}
+use Rattle.rbd_pages.specs.Paging.{pages_for}
+use Rattle.rbd_pages.specs.Places.{Grown}
+use Rattle.rbd_object.specs.Shared.{IsHead, begun_head, bytes_of, len_of, sheaves_of, written_sheaves, written_touch, zeroed_sheaves, zeroed_touch}
 use Rattle.rbd_parts.proofs.ContentsLemmas.{length_overwritten}
 use Rattle.rbd_object.proofs.HeadLemmas.{empty_content}
+use Rattle.rbd_pages.proofs.GrownLemmas.{between_all, grown_more, grown_refl, grown_trans, past_is, within_is}
 use Rattle.rbd_pages.proofs.ListsLemmas.{exchanged_refl, exchanged_trans}
 use Rattle.rbd_pages.proofs.ListedLemmas.{length-bytes_in}
 
@@ -41,13 +45,15 @@ pub record IsWritingParts (parts : List Part) (bytes : List ℕ) (old : Stock) (
   pub left : parts_written (drop i parts) rest (unwrap_or (bytes_of new head) []) ≡ parts_written parts bytes (unwrap_or (bytes_of old before) [])
   pub long : length rest ≡ parts_len (drop i parts)
   pub used : in_use new.sheets + written_touch (len_of head) (drop i parts) ≤ in_use old.sheets + written_touch (len_of before) parts
+  pub grown : (next : Stock) → Grown (written_touch (len_of head) (drop i parts)) (written_sheaves (len_of head) (drop i parts)) new next
+      → Grown (written_touch (len_of before) parts) (written_sheaves (len_of before) parts) old next
 
 pub parts_begun : (parts : List Part) (bytes : List ℕ) (a : Stock) (before head : Option Listed) → head ≡ begun_head before → IsHead a before
     → length bytes ≡ parts_len parts → IsWritingParts parts bytes a before 0 bytes a head
 parts_begun parts bytes a before head e is long = subst (IsWritingParts parts bytes a before 0 bytes a) (sym e) (go before is) where
   go : (before : Option Listed) → IsHead a before → IsWritingParts parts bytes a before 0 bytes a (begun_head before)
-  go None is = record { exchanged = exchanged_refl a []; is = empty_content a; there = refl; left = refl; long = long; used = omega arith }
-  go (Some c) is = record { exchanged = exchanged_refl a c.sheaves; is = is; there = refl; left = refl; long = long; used = omega arith }
+  go None is = record { exchanged = exchanged_refl a []; is = empty_content a; there = refl; left = refl; long = long; used = omega arith; grown = λ next all. all }
+  go (Some c) is = record { exchanged = exchanged_refl a c.sheaves; is = is; there = refl; left = refl; long = long; used = omega arith; grown = λ next all. all }
 
 pub parts_fit : (parts : List Part) (bytes : List ℕ) (old : Stock) (before : Option Listed) (i : ℕ) (rest : List ℕ) (a : Stock) (head : Option Listed)
     → IsWritingParts parts bytes old before i rest a head → i < length parts → (get_or parts i no_part).len ≤ length rest
@@ -65,8 +71,10 @@ pub parts_more : (parts : List Part) (bytes : List ℕ) (old : Stock) (before : 
     → Exchanged a (sheaves_of head) b (sheaves_of after) → IsHead b after
     → bytes_of b after ≡ Some (overwritten (unwrap_or (bytes_of a head) []) (get_or parts i no_part).offset first)
     → in_use b.sheets ≤ in_use a.sheets + touched (min (len_of head) (get_or parts i no_part).offset) ((get_or parts i no_part).offset + length first)
+    → Grown (touched (min (len_of head) (get_or parts i no_part).offset) ((get_or parts i no_part).offset + length first))
+    (sheaves_touched (min (len_of head) (get_or parts i no_part).offset) ((get_or parts i no_part).offset + length first)) a b
     → IsWritingParts parts bytes old before (i + 1) back b after
-parts_more parts bytes old before i rest a b head after first back w below f r exchanged is written used =
+parts_more parts bytes old before i rest a b head after first back w below f r exchanged is written used grown =
     let p = get_or parts i no_part in
     let fits = parts_fit parts bytes old before i rest a head w below in
     let short : length first ≡ p.len = ap length f ∙ length-take p.len rest ∙ omega arith in
@@ -89,6 +97,12 @@ parts_more parts bytes old before i rest a b head after first back w below f r e
           let step : in_use b.sheets ≤ in_use a.sheets + touched (min (len_of head) p.offset) (p.offset + p.len) =
           subst (λ n. in_use b.sheets ≤ in_use a.sheets + touched (min (len_of head) p.offset) (p.offset + n)) short used in
           subst (λ n. in_use b.sheets + written_touch n (drop (i + 1) parts) ≤ in_use old.sheets + written_touch (len_of before) parts) (sym len) (omega arith);
+      grown = λ next rest.
+          let step = subst (λ n. Grown (touched (min (len_of head) p.offset) (p.offset + n)) (sheaves_touched (min (len_of head) p.offset) (p.offset + n)) a b) short grown in
+          let others = subst (λ n. Grown (written_touch n (drop (i + 1) parts)) (written_sheaves n (drop (i + 1) parts)) b next) len rest in
+          w.grown next
+          (subst (λ ps. Grown (written_touch (len_of head) ps) (written_sheaves (len_of head) ps) a next) (sym (next_part parts i below))
+          (grown_trans _ _ _ _ a b next step others));
     }
 
 -- a part that was refused
@@ -115,6 +129,24 @@ pub parts_used : (parts : List Part) (bytes : List ℕ) (old : Stock) (before : 
     → IsWritingParts parts bytes old before i rest a head → in_use a.sheets ≤ in_use old.sheets + written_touch (len_of before) parts
 parts_used parts bytes old before i rest a head w = let all = w.used in omega arith
 
+pub parts_grown : (parts : List Part) (bytes : List ℕ) (old : Stock) (before : Option Listed) (i : ℕ) (rest : List ℕ) (a b : Stock) (head : Option Listed) (first : List ℕ)
+    → IsWritingParts parts bytes old before i rest a head → i < length parts → first ≡ take (get_or parts i no_part).len rest
+    → Grown (touched (min (len_of head) (get_or parts i no_part).offset) ((get_or parts i no_part).offset + length first))
+    (sheaves_touched (min (len_of head) (get_or parts i no_part).offset) ((get_or parts i no_part).offset + length first)) a b
+    → Grown (written_touch (len_of before) parts) (written_sheaves (len_of before) parts) old b
+parts_grown parts bytes old before i rest a b head first w below f grown =
+    let p = get_or parts i no_part in
+    let fits = parts_fit parts bytes old before i rest a head w below in
+    let short : length first ≡ p.len = ap length f ∙ length-take p.len rest ∙ omega arith in
+    let step = subst (λ n. Grown (touched (min (len_of head) p.offset) (p.offset + n)) (sheaves_touched (min (len_of head) p.offset) (p.offset + n)) a b) short grown in
+    w.grown b
+    (subst (λ ps. Grown (written_touch (len_of head) ps) (written_sheaves (len_of head) ps) a b) (sym (next_part parts i below))
+    (grown_more _ _ _ _ a b step (omega arith) (omega arith)))
+
+pub parts_grown_so : (parts : List Part) (bytes : List ℕ) (old : Stock) (before : Option Listed) (i : ℕ) (rest : List ℕ) (a : Stock) (head : Option Listed)
+    → IsWritingParts parts bytes old before i rest a head → Grown (written_touch (len_of before) parts) (written_sheaves (len_of before) parts) old a
+parts_grown_so parts bytes old before i rest a head w = w.grown a (grown_refl _ _ a)
+
 -- ---- parts that are made zero
 
 pub record IsZeroingParts (parts : List Part) (old : Stock) (before : Option Listed) (i : ℕ) (new : Stock) (head : Option Listed) : Type 0 where
@@ -122,9 +154,11 @@ pub record IsZeroingParts (parts : List Part) (old : Stock) (before : Option Lis
   pub is : IsHead new head
   pub left : option_map (parts_zeroed (drop i parts)) (bytes_of new head) ≡ option_map (parts_zeroed parts) (bytes_of old before)
   pub used : in_use new.sheets + zeroed_touch (drop i parts) ≤ in_use old.sheets + zeroed_touch parts
+  pub grown : (next : Stock) → Grown (zeroed_touch (drop i parts)) (zeroed_sheaves (drop i parts)) new next
+      → Grown (zeroed_touch parts) (zeroed_sheaves parts) old next
 
 pub zeros_begun : (parts : List Part) (a : Stock) (head : Option Listed) → IsHead a head → IsZeroingParts parts a head 0 a head
-zeros_begun parts a head is = record { exchanged = exchanged_refl a (sheaves_of head); is = is; left = refl; used = omega arith }
+zeros_begun parts a head is = record { exchanged = exchanged_refl a (sheaves_of head); is = is; left = refl; used = omega arith; grown = λ next all. all }
 
 zeroed_then : (parts : List Part) (p : Part) (held : Option (List ℕ))
     → option_map (parts_zeroed parts) (option_map (λ xs. zeroed xs p.offset p.len) held) ≡ option_map (parts_zeroed (p ∷ parts)) held
@@ -136,8 +170,10 @@ pub zeros_more : (parts : List Part) (old : Stock) (before : Option Listed) (i :
     → Exchanged a (sheaves_of head) b (sheaves_of after) → IsHead b after
     → bytes_of b after ≡ option_map (λ xs. zeroed xs (get_or parts i no_part).offset (get_or parts i no_part).len) (bytes_of a head)
     → in_use b.sheets ≤ in_use a.sheets + touched (get_or parts i no_part).offset ((get_or parts i no_part).offset + (get_or parts i no_part).len)
+    → Grown (touched (get_or parts i no_part).offset ((get_or parts i no_part).offset + (get_or parts i no_part).len))
+    (sheaves_touched (get_or parts i no_part).offset ((get_or parts i no_part).offset + (get_or parts i no_part).len)) a b
     → IsZeroingParts parts old before (i + 1) b after
-zeros_more parts old before i a b head after z below exchanged is written used =
+zeros_more parts old before i a b head after z below exchanged is written used grown =
     let next = next_part parts i below in
     record {
       exchanged = exchanged_trans old a b (sheaves_of before) (sheaves_of head) (sheaves_of after) z.exchanged exchanged;
@@ -148,6 +184,8 @@ zeros_more parts old before i a b head after z below exchanged is written used =
           ∙ sym (ap (λ ps. option_map (parts_zeroed ps) (bytes_of a head)) next)
           ∙ z.left;
       used = let all = z.used in let split = ap zeroed_touch next in omega arith;
+      grown = λ end rest.
+          z.grown end (subst (λ ps. Grown (zeroed_touch ps) (zeroed_sheaves ps) a end) (sym next) (grown_trans _ _ _ _ a b end grown rest));
     }
 
 pub zeros_refused : (parts : List Part) (old : Stock) (before : Option Listed) (i : ℕ) (a b : Stock) (head : Option Listed)
@@ -157,6 +195,20 @@ pub zeros_refused : (parts : List Part) (old : Stock) (before : Option Listed) (
 zeros_refused parts old before i a b head z below used =
     let all = z.used in let split = ap zeroed_touch (next_part parts i below) in omega arith
 
+pub zeros_grown : (parts : List Part) (old : Stock) (before : Option Listed) (i : ℕ) (a b : Stock) (head : Option Listed)
+    → IsZeroingParts parts old before i a head → i < length parts
+    → Grown (touched (get_or parts i no_part).offset ((get_or parts i no_part).offset + (get_or parts i no_part).len))
+    (sheaves_touched (get_or parts i no_part).offset ((get_or parts i no_part).offset + (get_or parts i no_part).len)) a b
+    → Grown (zeroed_touch parts) (zeroed_sheaves parts) old b
+zeros_grown parts old before i a b head z below grown =
+    z.grown b
+    (subst (λ ps. Grown (zeroed_touch ps) (zeroed_sheaves ps) a b) (sym (next_part parts i below))
+    (grown_more _ _ _ _ a b grown (omega arith) (omega arith)))
+
+pub zeros_grown_so : (parts : List Part) (old : Stock) (before : Option Listed) (i : ℕ) (a : Stock) (head : Option Listed)
+    → IsZeroingParts parts old before i a head → Grown (zeroed_touch parts) (zeroed_sheaves parts) old a
+zeros_grown_so parts old before i a head z = z.grown a (grown_refl _ _ a)
+
 zeroed_nothing : (held : Option (List ℕ)) → option_map (parts_zeroed []) held ≡ held
 zeroed_nothing None = refl
 zeroed_nothing (Some xs) = refl
@@ -165,3 +217,34 @@ pub zeros_done : (parts : List Part) (old : Stock) (before : Option Listed) (i :
     → IsZeroingParts parts old before i a head → length parts ≤ i → bytes_of a head ≡ option_map (parts_zeroed parts) (bytes_of old before)
 zeros_done parts old before i a head z past =
     sym (ap (λ ps. option_map (parts_zeroed ps) (bytes_of a head)) (drop_all i parts past) ∙ zeroed_nothing (bytes_of a head)) ∙ z.left
+
+-- ---- a head that begins
+
+-- a write into an absent head
+pub begun_grown : (a b : Stock) (head : Option Listed) (c : Listed) (at n : ℕ) → head ≡ None → c ≡ record { sheaves = []; len = 0 }
+    → Grown (touched (min c.len at) (at + n)) (sheaves_touched (min c.len at) (at + n)) a b
+    → Grown (touched (min (len_of head) at) (at + n)) (sheaves_touched (min (len_of head) at) (at + n)) a b
+begun_grown a b head c at n none blank grown =
+    let same : c.len ≡ len_of head = ap (λ (x : Listed). x.len) blank ∙ sym (ap len_of none) in
+    subst (λ len. Grown (touched (min len at) (at + n)) (sheaves_touched (min len at) (at + n)) a b) same grown
+
+-- a write of all bytes
+pub whole_grown : (a b : Stock) (len n : ℕ) → Grown (touched (min len 0) (0 + n)) (sheaves_touched (min len 0) (0 + n)) a b
+    → Grown (pages_for n) (sheaves_for (pages_for n)) a b
+whole_grown a b len n grown =
+    let zero : min len 0 ≡ 0 = omega arith in
+    let same : 0 + n ≡ n = omega arith in
+    go n (subst (λ m. Grown (touched 0 m) (sheaves_touched 0 m) a b) same (subst (λ m. Grown (touched m (0 + n)) (sheaves_touched m (0 + n)) a b) zero grown))
+  where
+    go : (n : ℕ) → Grown (touched 0 n) (sheaves_touched 0 n) a b → Grown (pages_for n) (sheaves_for (pages_for n)) a b
+    go n grown = elim (cases_lt 0 n) [
+      | inr none ↦
+          let pages : touched 0 n ≡ 0 = rw (past_is 0 n none) refl in
+          let sheaves : sheaves_touched 0 n ≡ 0 = rw (past_is 0 n none) refl in
+          grown_more _ _ _ _ a b grown (omega arith) (omega arith)
+      | inl some ↦
+          let pages : touched 0 n ≡ pages_for n - 0 / 4096 = rw (within_is 0 n some) refl in
+          let sheaves : sheaves_touched 0 n ≡ sheaves_between (0 / 4096) (pages_for n) = rw (within_is 0 n some) refl in
+          let all = between_all (pages_for n) in
+          grown_more _ _ _ _ a b grown (omega arith) (omega arith)
+    ]

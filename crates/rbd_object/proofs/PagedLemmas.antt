@@ -7,10 +7,11 @@ use Rattle.rbd_kinds.specs.declared.header.SnapContext.{SnapContext}
 use Rattle.rbd_pages.specs.Sheaves.{AreStocked, IsSame, Stock, named_in}
 use Rattle.rbd_pages.specs.Sheets.{Sheet, bytes_at, count_at, in_use}
 use Rattle.rbd_pages.specs.Paging.{occurs, pages_for, AreCounted}
+use Rattle.rbd_pages.specs.Places.{Grown}
 use Rattle.rbd_pages.specs.Listed.{Listed, IsContent, listed_bytes, pages_on}
 use Rattle.rbd_object.specs.Shared.{Stored, AreContents, AreNamed, AreShared, IsHead, KeepsHead, bytes_of, dead_named, dead_sheaves, is_live, kept_in, len_of, live_versions, named, sheaves_of, view_in}
-use Rattle.rbd_object.specs.Paged.{IsPaged, Paged, paged_of}
-use Rattle.rbd_object.specs.Changes.{pages_taken}
+use Rattle.rbd_object.specs.Paged.{AreCalls, Call, IsPaged, KeepsPlaces, Paged, most_pages, most_sheaves, paged_of}
+use Rattle.rbd_object.specs.Changes.{pages_taken, sheaves_taken}
 use Rattle.rbd_object.specs.declared.change.ObjectChange.{ObjectChange}
 use Rattle.rbd_object.proofs.EachLemmas.{len_is}
 use Rattle.rbd_object.proofs.VersionLemmas.{live_next}
@@ -171,6 +172,21 @@ pub pages_step : (a b : Stock) (head : Option Listed) (seq : ℕ) (versions : Li
 pages_step a b head seq versions o change is few =
     subst (λ (x : Paged). in_use b.sheets ≤ x.pages + pages_taken change (length (unwrap_or x.shown.head []))) is
     (subst (λ n. in_use b.sheets ≤ in_use a.sheets + pages_taken change n) (len_is a head) few)
+
+-- the same of the places
+pub places_step : (a b : Stock) (head after : Option Listed) (seq next : ℕ) (versions items : List Stored) (o : Paged) (change : ObjectChange)
+    → paged_of a head seq versions ≡ o → Grown (pages_taken change (len_of head)) (sheaves_taken change (len_of head)) a b
+    → KeepsPlaces (pages_taken change (length (unwrap_or o.shown.head []))) (sheaves_taken change (length (unwrap_or o.shown.head []))) o (paged_of b after next items)
+places_step a b head after seq next versions items o change is grown =
+    subst (λ (x : Paged). KeepsPlaces (pages_taken change (length (unwrap_or x.shown.head []))) (sheaves_taken change (length (unwrap_or x.shown.head []))) x (paged_of b after next items)) is
+    (subst (λ n. KeepsPlaces (pages_taken change n) (sheaves_taken change n) (paged_of a head seq versions) (paged_of b after next items)) (len_is a head)
+    (record { page_places = grown.page_places; sheaf_places = grown.sheaf_places; sheaves = grown.sheaves_used }))
+
+pub places_filled : (pages sheaves : ℕ) (a b : Stock) (head after : Option Listed) (seq : ℕ) (versions : List Stored) (o : Paged)
+    → paged_of a head seq versions ≡ o → Grown pages sheaves a b → KeepsPlaces pages sheaves o (paged_of b after seq versions)
+places_filled pages sheaves a b head after seq versions o is grown =
+    subst (λ (x : Paged). KeepsPlaces pages sheaves x (paged_of b after seq versions)) is
+    (record { page_places = grown.page_places; sheaf_places = grown.sheaf_places; sheaves = grown.sheaves_used })
 
 pub wanted_is : (n : ℕ) (snaps : List ℕ) (empty : Bool) → empty ≡ eqb n 0 → n ≡ length snaps → not empty ≡ has_any snaps
 wanted_is n [] empty e long = grind arith
@@ -470,3 +486,21 @@ paged_blank stock versions e f =
       shared = record { counts = λ s. omega arith; head_is = tt; contents = tt };
       sound = sound_blank [] refl;
     }))
+
+-- ---- any run of calls
+
+pub pages_were_in_use : (calls : List Call) (o : Paged) → AreCalls calls o → o.page_places ≤ most_pages calls
+pages_were_in_use [] o made = let none = made.0 in omega arith
+pages_were_in_use (call ∷ earlier) o made =
+    let before = pages_were_in_use earlier call.before made.1 in
+    let step = made.0 in
+    let places = step.page_places in
+    omega arith
+
+pub sheaves_were_in_use : (calls : List Call) (o : Paged) → AreCalls calls o → o.sheaf_places ≤ most_sheaves calls
+sheaves_were_in_use [] o made = let none = made.1 in omega arith
+sheaves_were_in_use (call ∷ earlier) o made =
+    let before = sheaves_were_in_use earlier call.before made.1 in
+    let step = made.0 in
+    let places = step.sheaf_places in
+    omega arith

@@ -1,11 +1,12 @@
--- What changes make of a head, and how many pages they may take.
+-- What changes make of a head, and how many pages and sheaves they may take.
 use Rattle.std.specs.Prelude.{◌≡◌, ℕ, ◌+◌, ◌≤◌, min, List, [], length, Option, Some, None, option_map, unwrap_or}
 use Rattle.rbd_parts.specs.Contents.{overwritten, zeroed}
 use Rattle.rbd_kinds.specs.Parts.{parts_len}
 use Rattle.rbd_parts.specs.Parts.{parts_written, parts_zeroed, AreWithin}
 use Rattle.rbd_pages.specs.Paging.{pages_for}
-use Rattle.rbd_pages.specs.Listed.{touched}
-use Rattle.rbd_object.specs.Shared.{written_touch, zeroed_touch}
+use Rattle.rbd_pages.specs.Listed.{sheaves_touched, touched}
+use Rattle.rbd_pages.specs.Sheaves.{sheaves_for}
+use Rattle.rbd_object.specs.Shared.{written_sheaves, written_touch, zeroed_sheaves, zeroed_touch}
 use Rattle.rbd_parts.specs.declared.parts.TheConstants.{LARGEST_OBJECT}
 use Rattle.rbd_object.specs.declared.change.ObjectChange.{ObjectChange}
 use Rattle.rbd_object.specs.declared.change.ObjectChange.TheVariants.{Write, WriteParts, WriteFull, Zero, ZeroParts, Empty, Remove}
@@ -29,6 +30,16 @@ pages_taken (Zero at count) len = touched at (at + count)
 pages_taken (ZeroParts parts) len = zeroed_touch parts.now
 pages_taken Empty len = 0
 pages_taken Remove len = 0
+
+-- how many sheaves it may take
+abbrev pub sheaves_taken : ObjectChange → (len : ℕ) → ℕ
+sheaves_taken (Write at bytes) len = sheaves_touched (min len at) (at + length bytes.now)
+sheaves_taken (WriteParts parts bytes) len = written_sheaves len parts.now
+sheaves_taken (WriteFull bytes) len = sheaves_for (pages_for (length bytes.now))
+sheaves_taken (Zero at count) len = sheaves_touched at (at + count)
+sheaves_taken (ZeroParts parts) len = zeroed_sheaves parts.now
+sheaves_taken Empty len = 0
+sheaves_taken Remove len = 0
 
 -- what is written lies within the largest object
 abbrev pub FitsObject : ObjectChange → Type 0

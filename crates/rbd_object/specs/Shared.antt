@@ -6,7 +6,7 @@ use Rattle.rbd_pages.specs.Paging.{occurs}
 use Rattle.rbd_pages.specs.Sheaves.{Exchanged, Stock}
 use Rattle.rbd_kinds.specs.declared.layout.Part.{Part}
 use Rattle.rbd_object.specs.Kept.{Kept, is_listed}
-use Rattle.rbd_pages.specs.Listed.{Listed, listed_bytes, IsContent, touched}
+use Rattle.rbd_pages.specs.Listed.{Listed, listed_bytes, IsContent, sheaves_touched, touched}
 
 -- a version: a content, and the snapshots that it is kept for
 pub record Stored : Type 0 where
@@ -91,6 +91,18 @@ written_touch len (p ∷ parts) = touched (min len p.offset) (p.offset + p.len) 
 abbrev pub zeroed_touch : List Part → ℕ
 zeroed_touch [] = 0
 zeroed_touch (p ∷ parts) = touched p.offset (p.offset + p.len) + zeroed_touch parts
+
+-- how many sheaves the parts of a write touch, each from the end of a head so far where that is
+-- before it
+abbrev pub written_sheaves : (len : ℕ) → List Part → ℕ
+written_sheaves len [] = 0
+written_sheaves len (p ∷ parts) =
+    sheaves_touched (min len p.offset) (p.offset + p.len) + written_sheaves (max len (p.offset + p.len)) parts
+
+-- how many sheaves parts touch
+abbrev pub zeroed_sheaves : List Part → ℕ
+zeroed_sheaves [] = 0
+zeroed_sheaves (p ∷ parts) = sheaves_touched p.offset (p.offset + p.len) + zeroed_sheaves parts
 
 -- the content of the head (None) or of a snapshot
 abbrev pub view_in : (head : Option Listed) → (seq : ℕ) → List Stored → Option ℕ → Option Listed

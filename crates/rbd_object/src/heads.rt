@@ -1,13 +1,14 @@
 //! Changes of a head, which is kept beforehand where snapshots want it.
 ghost use Rattle.std.specs.Prelude.{◌≡◌, ℕ, ◌+◌, ◌<◌, ◌≤◌, if◌then◌else◌, [], ◌++◌, length, min, unwrap_or, option_map, Some, None, false, IfOk, OnOk, OnErr};
-ghost use Rattle.rbd_object.specs.Changes.{FitsObject, after, pages_taken};
+ghost use Rattle.rbd_object.specs.Changes.{FitsObject, after, pages_taken, sheaves_taken};
 ghost use Rattle.rbd_parts.specs.Contents.{overwritten, zeroed};
 ghost use Rattle.rbd_pages.specs.Paging.{AreCounted, pages_for};
-ghost use Rattle.rbd_pages.specs.Sheaves.{Exchanged, IsSame};
+ghost use Rattle.rbd_pages.specs.Sheaves.{Exchanged, IsSame, sheaves_for};
 ghost use Rattle.rbd_kinds.specs.Parts.{parts_len};
 ghost use Rattle.rbd_parts.specs.Parts.{parts_written, parts_zeroed, AreWithin};
-ghost use Rattle.rbd_pages.specs.Listed.{IsContent, listed_bytes, touched};
-ghost use Rattle.rbd_object.specs.Shared.{IsHead, KeepsHead, begun_head, bytes_of, len_of, sheaves_of, written_touch, zeroed_touch};
+ghost use Rattle.rbd_pages.specs.Listed.{IsContent, listed_bytes, sheaves_touched, touched};
+ghost use Rattle.rbd_object.specs.Shared.{IsHead, KeepsHead, begun_head, bytes_of, len_of, sheaves_of, written_sheaves, written_touch, zeroed_sheaves, zeroed_touch};
+ghost use Rattle.rbd_pages.specs.Places.{Grown, NoneTaken};
 ghost use Rattle.rbd_pages.specs.Sheets.{count_at, in_use};
 ghost use Rattle.rbd_parts.specs.declared.parts.TheConstants.{LARGEST_OBJECT};
 
@@ -33,6 +34,7 @@ pub fn change(
     ensures err { OnErr result (KeepsHead false sheaves.old head.old sheaves.new head.new None) }
     ensures same { OnErr result (bytes_of sheaves.new head.new ≡ bytes_of sheaves.old head.old) }
     ensures used { in_use sheaves.new.sheets ≤ in_use sheaves.old.sheets + pages_taken change.entry (len_of head.old) }
+    ensures grown { Grown (pages_taken change.entry (len_of head.old)) (sheaves_taken change.entry (len_of head.old)) sheaves.old sheaves.new }
 {
     match change {
         ObjectChange::Write(at, bytes) => write(alloc, sheaves, head, wanted, at, bytes),
@@ -61,6 +63,7 @@ fn put_in_place(
     ensures ok { KeepsHead wanted sheaves.old head.old sheaves.new next result }
     ensures head { head.new ≡ next }
     ensures used { in_use sheaves.new.sheets ≤ in_use sheaves.old.sheets }
+    ensures places { NoneTaken sheaves.old sheaves.new }
 {
     replace(sheaves, head, wanted, next)
 }
@@ -82,6 +85,8 @@ fn write(
     ensures err { OnErr result (KeepsHead false sheaves.old head.old sheaves.new head.new None) }
     ensures same { OnErr result (bytes_of sheaves.new head.new ≡ bytes_of sheaves.old head.old) }
     ensures used { in_use sheaves.new.sheets ≤ in_use sheaves.old.sheets + touched (min (len_of head.old) at) (at + length bytes.now) }
+    ensures grown { Grown (touched (min (len_of head.old) at) (at + length bytes.now))
+        (sheaves_touched (min (len_of head.old) at) (at + length bytes.now)) sheaves.old sheaves.new }
 {
     let kept = share(sheaves, head, wanted)?;
     match write_head(alloc, sheaves, head, at, bytes) {
@@ -108,6 +113,7 @@ fn zero(
     ensures err { OnErr result (KeepsHead false sheaves.old head.old sheaves.new head.new None) }
     ensures same { OnErr result (bytes_of sheaves.new head.new ≡ bytes_of sheaves.old head.old) }
     ensures used { in_use sheaves.new.sheets ≤ in_use sheaves.old.sheets + touched at (at + len) }
+    ensures grown { Grown (touched at (at + len)) (sheaves_touched at (at + len)) sheaves.old sheaves.new }
 {
     let kept = share(sheaves, head, wanted)?;
     match zero_head(sheaves, head, at, len) {
@@ -138,6 +144,7 @@ fn write_parts(
     ensures err { OnErr result (KeepsHead false sheaves.old head.old sheaves.new head.new None) }
     ensures same { OnErr result (bytes_of sheaves.new head.new ≡ bytes_of sheaves.old head.old) }
     ensures used { in_use sheaves.new.sheets ≤ in_use sheaves.old.sheets + written_touch (len_of head.old) parts.now }
+    ensures grown { Grown (written_touch (len_of head.old) parts.now) (written_sheaves (len_of head.old) parts.now) sheaves.old sheaves.new }
 {
     match parts {
         [part] => write(alloc, sheaves, head, wanted, part.offset, bytes),
@@ -163,6 +170,7 @@ fn write_several(
     ensures err { OnErr result (KeepsHead false sheaves.old head.old sheaves.new head.new None) }
     ensures same { OnErr result (bytes_of sheaves.new head.new ≡ bytes_of sheaves.old head.old) }
     ensures used { in_use sheaves.new.sheets ≤ in_use sheaves.old.sheets + written_touch (len_of head.old) parts.now }
+    ensures grown { Grown (written_touch (len_of head.old) parts.now) (written_sheaves (len_of head.old) parts.now) sheaves.old sheaves.new }
 {
     let before = share(sheaves, head, true)?;
     match write_each(alloc, sheaves, head, parts, bytes) {
@@ -189,6 +197,7 @@ fn zero_parts(
     ensures err { OnErr result (KeepsHead false sheaves.old head.old sheaves.new head.new None) }
     ensures same { OnErr result (bytes_of sheaves.new head.new ≡ bytes_of sheaves.old head.old) }
     ensures used { in_use sheaves.new.sheets ≤ in_use sheaves.old.sheets + zeroed_touch parts.now }
+    ensures grown { Grown (zeroed_touch parts.now) (zeroed_sheaves parts.now) sheaves.old sheaves.new }
 {
     match parts {
         [part] => zero(sheaves, head, wanted, part.offset, part.len),
@@ -210,6 +219,7 @@ fn zero_several(
     ensures err { OnErr result (KeepsHead false sheaves.old head.old sheaves.new head.new None) }
     ensures same { OnErr result (bytes_of sheaves.new head.new ≡ bytes_of sheaves.old head.old) }
     ensures used { in_use sheaves.new.sheets ≤ in_use sheaves.old.sheets + zeroed_touch parts.now }
+    ensures grown { Grown (zeroed_touch parts.now) (zeroed_sheaves parts.now) sheaves.old sheaves.new }
 {
     let before = share(sheaves, head, true)?;
     match zero_each(sheaves, head, parts) {
@@ -230,6 +240,7 @@ fn keep_if(sheaves: &mut Sheaves, wanted: bool, held: Option<Content>) -> Option
     ensures content { IsHead sheaves.new result }
     ensures bytes { bytes_of sheaves.new result ≡ (if wanted then bytes_of sheaves.old held else None) }
     ensures used { in_use sheaves.new.sheets ≤ in_use sheaves.old.sheets }
+    ensures places { NoneTaken sheaves.old sheaves.new }
 {
     if wanted {
         return held;
@@ -253,6 +264,7 @@ fn write_each(
     ensures content { IsHead sheaves.new head.new }
     ensures ok { OnOk result (bytes_of sheaves.new head.new ≡ Some (parts_written parts.now bytes.now (unwrap_or (bytes_of sheaves.old head.old) []))) }
     ensures used { in_use sheaves.new.sheets ≤ in_use sheaves.old.sheets + written_touch (len_of head.old) parts.now }
+    ensures grown { Grown (written_touch (len_of head.old) parts.now) (written_sheaves (len_of head.old) parts.now) sheaves.old sheaves.new }
 {
     begin(alloc, head);
     let mut rest = bytes;
@@ -284,6 +296,7 @@ fn zero_each(
     ensures content { IsHead sheaves.new head.new }
     ensures ok { OnOk result (bytes_of sheaves.new head.new ≡ option_map (parts_zeroed parts.now) (bytes_of sheaves.old head.old)) }
     ensures used { in_use sheaves.new.sheets ≤ in_use sheaves.old.sheets + zeroed_touch parts.now }
+    ensures grown { Grown (zeroed_touch parts.now) (zeroed_sheaves parts.now) sheaves.old sheaves.new }
 {
     for part in parts {
         zero_head(sheaves, head, part.offset, part.len)?;
@@ -307,6 +320,7 @@ pub fn write_full(
     ensures err { OnErr result (KeepsHead false sheaves.old head.old sheaves.new head.new None) }
     ensures same { OnErr result (bytes_of sheaves.new head.new ≡ bytes_of sheaves.old head.old) }
     ensures used { in_use sheaves.new.sheets ≤ in_use sheaves.old.sheets + pages_for (length bytes.now) }
+    ensures grown { Grown (pages_for (length bytes.now)) (sheaves_for (pages_for (length bytes.now))) sheaves.old sheaves.new }
 {
     let content = filled(alloc, sheaves, bytes)?;
     Ok(replace(sheaves, head, wanted, Some(content)))
@@ -329,6 +343,7 @@ fn replace(
     ensures kept_is { IsHead sheaves.new result }
     ensures bytes { bytes_of sheaves.new result ≡ (if wanted then bytes_of sheaves.old head.old else None) }
     ensures used { in_use sheaves.new.sheets ≤ in_use sheaves.old.sheets }
+    ensures places { NoneTaken sheaves.old sheaves.new }
 {
     let old = mem::replace(head, next);
     if wanted {
@@ -351,6 +366,7 @@ pub fn fill(
     ensures bytes { OnOk result (bytes_of sheaves.new head.new ≡ Some bytes.now) }
     ensures err { OnErr result (head.new ≡ None) }
     ensures used { in_use sheaves.new.sheets ≤ in_use sheaves.old.sheets + pages_for (length bytes.now) }
+    ensures grown { Grown (pages_for (length bytes.now)) (sheaves_for (pages_for (length bytes.now))) sheaves.old sheaves.new }
 {
     *head = Some(filled(alloc, sheaves, bytes)?);
     Ok(())
@@ -364,6 +380,7 @@ fn filled(alloc: Global, sheaves: &mut Sheaves, bytes: &[u8]) -> Result<Content,
     ensures bytes { IfOk result (λ content. listed_bytes sheaves.new content ≡ bytes.now) }
     ensures err { OnErr result (Exchanged sheaves.old [] sheaves.new []) }
     ensures used { in_use sheaves.new.sheets ≤ in_use sheaves.old.sheets + pages_for (length bytes.now) }
+    ensures grown { Grown (pages_for (length bytes.now)) (sheaves_for (pages_for (length bytes.now))) sheaves.old sheaves.new }
 {
     let mut content = Content::new(alloc);
     content.write(sheaves, 0, bytes)?;
@@ -381,6 +398,7 @@ fn share(
     ensures same { IfOk result (λ kept. kept ≡ (if wanted then head.now else None)) }
     ensures err { OnErr result (Exchanged sheaves.old [] sheaves.new []) }
     ensures used { in_use sheaves.new.sheets ≤ in_use sheaves.old.sheets }
+    ensures places { NoneTaken sheaves.old sheaves.new }
 {
     match head {
         Some(content) if wanted => Ok(Some(content.share(sheaves)?)),
@@ -393,6 +411,7 @@ fn let_go(sheaves: &mut Sheaves, content: &Option<Content>)
     ensures exchanged { Exchanged sheaves.old (sheaves_of content.now) sheaves.new [] }
     ensures kept { (s : ℕ) → 0 < count_at sheaves.new.sheaves s → IsSame sheaves.old sheaves.new s }
     ensures used { in_use sheaves.new.sheets ≤ in_use sheaves.old.sheets }
+    ensures places { NoneTaken sheaves.old sheaves.new }
 {
     if let Some(content) = content {
         content.let_go(sheaves);
@@ -414,6 +433,8 @@ fn write_head(
     ensures ok { OnOk result (bytes_of sheaves.new head.new ≡ Some (overwritten (unwrap_or (bytes_of sheaves.old head.old) []) at bytes.now)) }
     ensures err { OnErr result (bytes_of sheaves.new head.new ≡ bytes_of sheaves.old head.old) }
     ensures used { in_use sheaves.new.sheets ≤ in_use sheaves.old.sheets + touched (min (len_of head.old) at) (at + length bytes.now) }
+    ensures grown { Grown (touched (min (len_of head.old) at) (at + length bytes.now))
+        (sheaves_touched (min (len_of head.old) at) (at + length bytes.now)) sheaves.old sheaves.new }
 {
     match head {
         Some(content) => content.write(sheaves, at, bytes),
@@ -439,6 +460,7 @@ fn zero_head(
     ensures ok { OnOk result (bytes_of sheaves.new head.new ≡ option_map (λ held. zeroed held at len) (bytes_of sheaves.old head.old)) }
     ensures err { OnErr result (bytes_of sheaves.new head.new ≡ bytes_of sheaves.old head.old) }
     ensures used { in_use sheaves.new.sheets ≤ in_use sheaves.old.sheets + touched at (at + len) }
+    ensures grown { Grown (touched at (at + len)) (sheaves_touched at (at + len)) sheaves.old sheaves.new }
 {
     match head {
         Some(content) => content.zero(sheaves, at, len),

@@ -6,6 +6,7 @@ ghost use Rattle.rbd_kinds.specs.declared.header.SnapContext.{SnapContext};
 ghost use Rattle.rbd_parts.specs.Contents.{is_within, window, overwritten, zeroed};
 ghost use Rattle.rbd_object.specs.Kept.{is_listed};
 ghost use Rattle.rbd_object.specs.Versioned.{Versioned, IsTidy, Step, Change, blank_object, view, change, copy_up, trim, after_steps, spares};
+ghost use Rattle.rbd_object.specs.Paged.{AreCalls, Call, Paged, most_pages, most_sheaves};
 ghost use Rattle.rbd_object.specs.Mapped.{Mapped, versioned, mapped_blank, mapped_change, mapped_copy_up, mapped_trim};
 
 /// The view of a snapshot whose number is at most the object's never changes, and from a change on
@@ -120,4 +121,15 @@ pub fn values_stand_for_objects()
     ensures copy_up { (bytes : List ℕ) (o : Mapped) → versioned (mapped_copy_up bytes o) ≡ copy_up bytes (versioned o) }
 
     ensures trim { (live : List ℕ) (o : Mapped) → versioned (mapped_trim live o) ≡ trim live (versioned o) }
+{}
+
+/// Whatever was called on an object, it never has more places for pages than one of the calls may
+/// have had pages in use at one time: those before it, and those that it may take. So it is of
+/// sheaves.
+pub fn places_were_in_use()
+    ensures pages { (calls : List Call) (object : Paged)
+        → AreCalls calls object → object.page_places ≤ most_pages calls }
+
+    ensures sheaves { (calls : List Call) (object : Paged)
+        → AreCalls calls object → object.sheaf_places ≤ most_sheaves calls }
 {}

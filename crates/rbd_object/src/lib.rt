@@ -49,8 +49,8 @@
 //! call may add to it stands in the contracts of [`PagedObject`], which has the same calls and
 //! whose contracts see that number beside the object's value. [`Object`] is its front: its
 //! contracts know no pages. [`PagedObject::page_places`] and [`PagedObject::sheaf_places`] tell how
-//! many places there are for pages and sheaves. Free ones are taken again before there are more:
-//! tests show it, and no contract says so.
+//! many places there are for pages and sheaves. Free ones are taken again before there are more, so
+//! there are never more than a call may have had in use at one time ([`laws::places_were_in_use`]).
 //!
 //! # How it works
 //!

@@ -1,15 +1,17 @@
 //! The object on its pages: what it shows, and how many pages that takes.
 ghost use Rattle.std.specs.Prelude.{◌≡◌, ℕ, ◌+◌, ◌<◌, ◌≤◌, ◌↔◌, [], List, length, max, min, Some, None, unwrap_or, option_map, option_copied, IsTrue, OnOk, OnErr, IfOk, IfSome, IsSome, IsNone, Option, Ok, false};
-ghost use Rattle.rbd_object.specs.Changes.{FitsObject, after, pages_taken};
+ghost use Rattle.rbd_object.specs.Changes.{FitsObject, after, pages_taken, sheaves_taken};
 ghost use Rattle.rbd_parts.specs.Contents.{window, overwritten, zeroed};
 ghost use Rattle.rbd_object.specs.Versioned.{view, IsTidy};
 ghost use Rattle.rbd_object.specs.Mapped.{versioned, mapped_blank, mapped_change, mapped_copy_up, mapped_trim, due_snaps};
 ghost use Rattle.rbd_object.specs.Kept.{new_version};
+ghost use Rattle.rbd_object.specs.Paged.{KeepsPlaces};
 ghost use Rattle.rbd_pages.specs.Paging.{pages_for};
+ghost use Rattle.rbd_pages.specs.Sheaves.{sheaves_for};
 ghost use Rattle.rbd_kinds.specs.Parts.{parts_len};
 ghost use Rattle.rbd_parts.specs.Parts.{parts_of, parts_written, parts_zeroed, AreWithin};
-ghost use Rattle.rbd_pages.specs.Listed.{touched};
-ghost use Rattle.rbd_object.specs.Shared.{written_touch, zeroed_touch, view_in};
+ghost use Rattle.rbd_pages.specs.Listed.{sheaves_touched, touched};
+ghost use Rattle.rbd_object.specs.Shared.{written_sheaves, written_touch, zeroed_sheaves, zeroed_touch, view_in};
 
 use crate::change::ObjectChange;
 use crate::version::Version;
@@ -22,7 +24,8 @@ use std::collections::VecDeque;
 use std::marker::Model;
 
 /// An object as [`crate::Object`] is one, whose contracts see its pages too: `shown` is the
-/// object's value, and `pages` how many pages have a count above 0.
+/// object's value, `pages` and `sheaves` how many of them have a count above 0, and `page_places`
+/// and `sheaf_places` how many places there are for them.
 #[derive(Drop)]
 pub struct PagedObject {
     sheaves: Sheaves,
@@ -49,6 +52,8 @@ impl PagedObject {
     pub fn new(alloc: Global) -> Self
         ensures shown { result.shown ≡ mapped_blank }
         ensures pages { result.pages ≡ 0 }
+        ensures page_places { result.page_places ≡ 0 }
+        ensures sheaf_places { result.sheaf_places ≡ 0 }
     {
         PagedObject {
             sheaves: Sheaves::new(alloc),
@@ -69,10 +74,11 @@ impl PagedObject {
     }
 
     /// How many places for pages there are, free ones among them. These are taken again before
-    /// there are more, so that it is no more than were in use at a time: that is tested, and not
-    /// proved. It takes no memory.
+    /// there are more: each call says so of itself, and [`crate::laws::places_were_in_use`] of any
+    /// run of calls. It takes no memory.
     pub fn page_places(&self) -> u64
-        ensures { self.now.pages ≤ result }
+        ensures places { result ≡ self.now.page_places }
+        ensures used { self.now.pages ≤ result }
     {
         self.sheaves.page_places() as u64
     }
@@ -80,7 +86,9 @@ impl PagedObject {
     /// How many places for sheaves of pages there are, free ones among them, as `page_places` tells
     /// it of pages.
     pub fn sheaf_places(&self) -> u64
-        ensures { 0 < self.now.pages → 0 < result }
+        ensures places { result ≡ self.now.sheaf_places }
+        ensures used { self.now.sheaves ≤ result }
+        ensures some { 0 < self.now.pages → 0 < result }
     {
         self.sheaves.places() as u64
     }
@@ -136,6 +144,8 @@ impl PagedObject {
             OnOk result (self.new.shown ≡ mapped_change context.now (Some head) self.old.shown) }
         ensures err { OnErr result (self.new.shown ≡ self.old.shown) }
         ensures pages { self.new.pages ≤ self.old.pages + touched (min (length (unwrap_or self.old.shown.head [])) at) (at + length bytes.now) }
+        ensures places { let len = length (unwrap_or self.old.shown.head []) in
+            KeepsPlaces (touched (min len at) (at + length bytes.now)) (sheaves_touched (min len at) (at + length bytes.now)) self.old self.new }
     {
         self.change(context, ObjectChange::Write(at, bytes))
     }
@@ -153,6 +163,8 @@ impl PagedObject {
             OnOk result (self.new.shown ≡ mapped_change context.now (Some head) self.old.shown) }
         ensures err { OnErr result (self.new.shown ≡ self.old.shown) }
         ensures pages { self.new.pages ≤ self.old.pages + written_touch (length (unwrap_or self.old.shown.head [])) parts.now }
+        ensures places { let len = length (unwrap_or self.old.shown.head []) in
+            KeepsPlaces (written_touch len parts.now) (written_sheaves len parts.now) self.old self.new }
     {
         self.change(context, ObjectChange::WriteParts(parts, bytes))
     }
@@ -163,6 +175,7 @@ impl PagedObject {
         ensures ok { OnOk result (self.new.shown ≡ mapped_change context.now (Some bytes.now) self.old.shown) }
         ensures err { OnErr result (self.new.shown ≡ self.old.shown) }
         ensures pages { self.new.pages ≤ self.old.pages + pages_for (length bytes.now) }
+        ensures places { KeepsPlaces (pages_for (length bytes.now)) (sheaves_for (pages_for (length bytes.now))) self.old self.new }
     {
         self.change(context, ObjectChange::WriteFull(bytes))
     }
@@ -173,6 +186,7 @@ impl PagedObject {
             OnOk result (self.new.shown ≡ mapped_change context.now head self.old.shown) }
         ensures err { OnErr result (self.new.shown ≡ self.old.shown) }
         ensures pages { self.new.pages ≤ self.old.pages + touched at (at + len) }
+        ensures places { KeepsPlaces (touched at (at + len)) (sheaves_touched at (at + len)) self.old self.new }
     {
         self.change(context, ObjectChange::Zero(at, len))
     }
@@ -183,6 +197,7 @@ impl PagedObject {
             OnOk result (self.new.shown ≡ mapped_change context.now head self.old.shown) }
         ensures err { OnErr result (self.new.shown ≡ self.old.shown) }
         ensures pages { self.new.pages ≤ self.old.pages + zeroed_touch parts.now }
+        ensures places { KeepsPlaces (zeroed_touch parts.now) (zeroed_sheaves parts.now) self.old self.new }
     {
         self.change(context, ObjectChange::ZeroParts(parts))
     }
@@ -192,6 +207,7 @@ impl PagedObject {
         ensures ok { OnOk result (self.new.shown ≡ mapped_change context.now (Some []) self.old.shown) }
         ensures err { OnErr result (self.new.shown ≡ self.old.shown) }
         ensures pages { self.new.pages ≤ self.old.pages }
+        ensures places { KeepsPlaces 0 0 self.old self.new }
     {
         self.change(context, ObjectChange::Empty)
     }
@@ -201,6 +217,7 @@ impl PagedObject {
         ensures ok { OnOk result (self.new.shown ≡ mapped_change context.now None self.old.shown) }
         ensures err { OnErr result (self.new.shown ≡ self.old.shown) }
         ensures pages { self.new.pages ≤ self.old.pages }
+        ensures places { KeepsPlaces 0 0 self.old self.new }
     {
         self.change(context, ObjectChange::Remove)
     }
@@ -213,6 +230,7 @@ impl PagedObject {
         ensures ok { OnOk result (self.new.shown ≡ mapped_copy_up bytes.now self.old.shown) }
         ensures err { OnErr result (self.new.shown ≡ self.old.shown) }
         ensures pages { self.new.pages ≤ self.old.pages + pages_for (length bytes.now) }
+        ensures places { KeepsPlaces (pages_for (length bytes.now)) (sheaves_for (pages_for (length bytes.now))) self.old self.new }
     {
         if self.head.is_some() {
             return Ok(false);
@@ -229,6 +247,9 @@ impl PagedObject {
     pub fn trim(&mut self, live: &[SnapId])
         ensures shown { self.new.shown ≡ mapped_trim live.now self.old.shown }
         ensures pages { self.new.pages ≤ self.old.pages }
+        ensures page_places { self.new.page_places ≡ self.old.page_places }
+        ensures sheaf_places { self.new.sheaf_places ≡ self.old.sheaf_places }
+        ensures sheaves { self.new.sheaves ≤ self.old.sheaves }
     {
         versions::let_go(&self.versions, &mut self.sheaves, live);
         versions::keep_live(&mut self.versions, live);
@@ -241,6 +262,8 @@ impl PagedObject {
         ensures ok { OnOk result (self.new.shown ≡ mapped_change context.now (after change.entry self.old.shown.head) self.old.shown) }
         ensures err { OnErr result (self.new.shown ≡ self.old.shown) }
         ensures pages { self.new.pages ≤ self.old.pages + pages_taken change.entry (length (unwrap_or self.old.shown.head [])) }
+        ensures places { let len = length (unwrap_or self.old.shown.head []) in
+            KeepsPlaces (pages_taken change.entry len) (sheaves_taken change.entry len) self.old self.new }
     {
         let alloc = self.alloc();
         let snaps = self.snaps_to_keep(context)?;

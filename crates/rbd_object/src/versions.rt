@@ -5,6 +5,7 @@ ghost use Rattle.rbd_object.specs.Kept.{is_listed};
 ghost use Rattle.rbd_pages.specs.Paging.{AreCounted};
 ghost use Rattle.rbd_object.specs.Shared.{AreNamed, dead_named, dead_sheaves, live_versions};
 ghost use Rattle.rbd_pages.specs.Sheaves.{IsSame};
+ghost use Rattle.rbd_pages.specs.Places.{NoneTaken};
 ghost use Rattle.rbd_pages.specs.Sheets.{count_at, in_use};
 
 use crate::version::Version;
@@ -77,6 +78,7 @@ pub fn let_go(versions: &VecDeque<Version>, sheaves: &mut Sheaves, live: &[SnapI
     ensures counts { (s : ℕ) → count_at sheaves.new.sheaves s + dead_named live.now s versions.now.items ≡ count_at sheaves.old.sheaves s }
     ensures kept { (s : ℕ) → 0 < count_at sheaves.new.sheaves s → IsSame sheaves.old sheaves.new s }
     ensures used { in_use sheaves.new.sheets ≤ in_use sheaves.old.sheets }
+    ensures places { NoneTaken sheaves.old sheaves.new }
 {
     for i in 0..versions.len() {
         let_go_of(&versions[i], sheaves, live);
@@ -88,6 +90,7 @@ fn let_go_of(version: &Version, sheaves: &mut Sheaves, live: &[SnapId])
     ensures counts { (s : ℕ) → count_at sheaves.new.sheaves s + dead_sheaves live.now s version.now ≡ count_at sheaves.old.sheaves s }
     ensures kept { (s : ℕ) → 0 < count_at sheaves.new.sheaves s → IsSame sheaves.old sheaves.new s }
     ensures used { in_use sheaves.new.sheets ≤ in_use sheaves.old.sheets }
+    ensures places { NoneTaken sheaves.old sheaves.new }
 {
     if !version.is_live(live) {
         version.content().let_go(sheaves);

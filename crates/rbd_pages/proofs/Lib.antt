@@ -1,3 +1,4 @@
+pub mod GrownLemmas
 pub mod ListedLemmas
 pub mod ListsLemmas
 pub mod PagingLemmas

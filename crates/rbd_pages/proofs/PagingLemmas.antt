@@ -327,14 +327,15 @@ ready_kept a b pages p m byte change same stored ready = elim (cases_eq (get_or 
 
 pub in_place : (a b : List Sheet) (pages : List ℕ) (k byte : ℕ) → IsPageReady a pages k byte → Changed (get_or pages k 0) a b
     → count_at b (get_or pages k 0) ≡ count_at a (get_or pages k 0)
-    → (length (bytes_at a (get_or pages k 0)) ≡ 4096 → length (bytes_at b (get_or pages k 0)) ≡ 4096) → IsChanged pages a b
-in_place a b pages k byte ready change same stored = record {
+    → (length (bytes_at a (get_or pages k 0)) ≡ 4096 → length (bytes_at b (get_or pages k 0)) ≡ 4096) → length b ≡ length a → IsChanged pages a b
+in_place a b pages k byte ready change same stored long = record {
   counts = λ x. count_kept a b (get_or pages k 0) x change same;
   others = λ x held.
       let named = occurs-at pages k ready.there in
       let alone = ready.alone in
       ap (λ (s : Sheet). s.bytes) (change.others x (λ e. let more : occurs (get_or pages k 0) pages < count_at a (get_or pages k 0) = subst (λ y. occurs y pages < count_at a y) e held in omega arith));
   used = let used = change.used in omega arith;
+  places = long;
   ready = λ m byte was. ready_kept a b pages (get_or pages k 0) m byte change same stored was;
 }
 
@@ -348,13 +349,14 @@ pub counted_changed : (a b : List Sheet) (pages : List ℕ) → IsChanged pages 
 counted_changed a b pages changed counted = counted_moved a b pages pages (moved_changed a b pages changed) counted
 
 pub changed_refl : (a : List Sheet) (pages : List ℕ) → IsChanged pages a a
-changed_refl a pages = record { counts = λ x. refl; others = λ x held. refl; used = refl; ready = λ m byte was. was }
+changed_refl a pages = record { counts = λ x. refl; others = λ x held. refl; used = refl; places = refl; ready = λ m byte was. was }
 
 pub changed_trans : (a b c : List Sheet) (pages : List ℕ) → IsChanged pages a b → IsChanged pages b c → IsChanged pages a c
 changed_trans a b c pages first second = record {
   counts = λ x. second.counts x ∙ first.counts x;
   others = λ x held. second.others x (let same = first.counts x in omega arith) ∙ first.others x held;
   used = second.used ∙ first.used;
+  places = second.places ∙ first.places;
   ready = λ m byte was. second.ready m byte (first.ready m byte was);
 }
 

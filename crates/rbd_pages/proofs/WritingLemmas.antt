@@ -96,12 +96,12 @@ pub writing_more : (pages : List ℕ) (at : ℕ) (bytes : List ℕ) (old : List 
     → length (bytes_at b (get_or pages (next / 4096) 0)) ≡ length (bytes_at a (get_or pages (next / 4096) 0))
     → ((j : ℕ) → get_or (bytes_at b (get_or pages (next / 4096) 0)) j 0
     ≡ cond (is_within (next % 4096) (length front) j) (get_or front (j - next % 4096) 0) (get_or (bytes_at a (get_or pages (next / 4096) 0)) j 0))
-    → IsWriting pages at bytes old (next + count) back b
-writing_more pages at bytes old next rest a b count front back w counted some c f r change counts lengths is =
+    → length b ≡ length a → IsWriting pages at bytes old (next + count) back b
+writing_more pages at bytes old next rest a b count front back w counted some c f r change counts lengths is places =
     let first = begins pages a next (get_or rest 0 0) (w.ready 0 some) in
     let counted_a = counted_changed old a pages w.changed counted in
     let long : length front ≡ count = ap length f ∙ length-take count rest ∙ omega arith in
-    let step = in_place a b pages (next / 4096) (get_or rest 0 0) first change counts (λ full. lengths ∙ full) in
+    let step = in_place a b pages (next / 4096) (get_or rest 0 0) first change counts (λ full. lengths ∙ full) places in
     let left_long : length (drop count rest) ≡ length rest - count = length-drop count rest in
     record {
       changed = changed_trans old a b pages w.changed step;
@@ -133,12 +133,12 @@ pub writing_more_at : (pages : List ℕ) (at : ℕ) (bytes : List ℕ) (old : Li
     → Changed p a b → count_at b p ≡ count_at a p → length (bytes_at b p) ≡ length (bytes_at a p)
     → ((j : ℕ) → get_or (bytes_at b p) j 0
     ≡ cond (is_within (next % 4096) (length front) j) (get_or front (j - next % 4096) 0) (get_or (bytes_at a p) j 0))
-    → IsWriting pages at bytes old (next + count) back b
-writing_more_at pages at bytes old next rest a b count front back p e w counted some c f r change counts lengths is =
+    → length b ≡ length a → IsWriting pages at bytes old (next + count) back b
+writing_more_at pages at bytes old next rest a b count front back p e w counted some c f r change counts lengths is places =
     writing_more pages at bytes old next rest a b count front back w counted some c f r
     (subst (λ x. Changed x a b) e change) (subst (λ x. count_at b x ≡ count_at a x) e counts)
     (subst (λ x. length (bytes_at b x) ≡ length (bytes_at a x)) e lengths)
-    (λ j. subst (λ x. get_or (bytes_at b x) j 0 ≡ cond (is_within (next % 4096) (length front) j) (get_or front (j - next % 4096) 0) (get_or (bytes_at a x) j 0)) e (is j))
+    (λ j. subst (λ x. get_or (bytes_at b x) j 0 ≡ cond (is_within (next % 4096) (length front) j) (get_or front (j - next % 4096) 0) (get_or (bytes_at a x) j 0)) e (is j)) places
 
 -- a write that one page takes whole
 pub written_on_one : (pages : List ℕ) (at : ℕ) (bytes : List ℕ) (a b : List Sheet) (p : ℕ) → p ≡ get_or pages (at / 4096) 0
@@ -147,13 +147,13 @@ pub written_on_one : (pages : List ℕ) (at : ℕ) (bytes : List ℕ) (a b : Lis
     → Changed p a b → count_at b p ≡ count_at a p → length (bytes_at b p) ≡ length (bytes_at a p)
     → ((j : ℕ) → get_or (bytes_at b p) j 0
     ≡ cond (is_within (at % 4096) (length bytes) j) (get_or bytes (j - at % 4096) 0) (get_or (bytes_at a p) j 0))
-    → IsWritten pages at bytes a b
-written_on_one pages at bytes a b p e ready counted some fits within change counts lengths is =
+    → length b ≡ length a → IsWritten pages at bytes a b
+written_on_one pages at bytes a b p e ready counted some fits within change counts lengths is places =
     writing_done pages at bytes a (at + length bytes) (drop (length bytes) bytes) b
     (writing_more_at pages at bytes a at bytes a b (length bytes) bytes (drop (length bytes) bytes) p e
     (writing_begun pages at bytes a
     (λ j below. subst (λ k. IsPageReady a pages k (get_or bytes j 0)) (let same : at / 4096 ≡ (at + j) / 4096 = omega arith in same) (ready (get_or bytes j 0))) within)
-    counted some (omega arith) (sym (take_all (length bytes) bytes (omega arith))) refl change counts lengths is)
+    counted some (omega arith) (sym (take_all (length bytes) bytes (omega arith))) refl change counts lengths is places)
     (length-drop (length bytes) bytes ∙ omega arith)
 
 pub zeroing_begun : (pages : List ℕ) (at len : ℕ) (a : List Sheet)
@@ -182,11 +182,11 @@ pub zeroing_more : (pages : List ℕ) (at len : ℕ) (old : List Sheet) (next le
     → length (bytes_at b (get_or pages (next / 4096) 0)) ≡ length (bytes_at a (get_or pages (next / 4096) 0))
     → ((j : ℕ) → get_or (bytes_at b (get_or pages (next / 4096) 0)) j 0
     ≡ cond (is_within (next % 4096) count j) 0 (get_or (bytes_at a (get_or pages (next / 4096) 0)) j 0))
-    → IsZeroing pages at len old (next + count) (left - count) b
-zeroing_more pages at len old next left a b count z counted some c change counts lengths is =
+    → length b ≡ length a → IsZeroing pages at len old (next + count) (left - count) b
+zeroing_more pages at len old next left a b count z counted some c change counts lengths is places =
     let first = begins pages a next 0 (z.ready 0 some) in
     let counted_a = counted_changed old a pages z.changed counted in
-    let step = in_place a b pages (next / 4096) 0 first change counts (λ full. lengths ∙ full) in
+    let step = in_place a b pages (next / 4096) 0 first change counts (λ full. lengths ∙ full) places in
     record {
       changed = changed_trans old a b pages z.changed step;
       ready = λ j below.
@@ -207,9 +207,9 @@ pub zeroing_more_at : (pages : List ℕ) (at len : ℕ) (old : List Sheet) (next
     → IsZeroing pages at len old next left a → AreCounted old pages → 0 < left → count ≡ min left (4096 - next % 4096)
     → Changed p a b → count_at b p ≡ count_at a p → length (bytes_at b p) ≡ length (bytes_at a p)
     → ((j : ℕ) → get_or (bytes_at b p) j 0 ≡ cond (is_within (next % 4096) count j) 0 (get_or (bytes_at a p) j 0))
-    → IsZeroing pages at len old (next + count) (left - count) b
-zeroing_more_at pages at len old next left a b count p e z counted some c change counts lengths is =
+    → length b ≡ length a → IsZeroing pages at len old (next + count) (left - count) b
+zeroing_more_at pages at len old next left a b count p e z counted some c change counts lengths is places =
     zeroing_more pages at len old next left a b count z counted some c
     (subst (λ x. Changed x a b) e change) (subst (λ x. count_at b x ≡ count_at a x) e counts)
     (subst (λ x. length (bytes_at b x) ≡ length (bytes_at a x)) e lengths)
-    (λ j. subst (λ x. get_or (bytes_at b x) j 0 ≡ cond (is_within (next % 4096) count j) 0 (get_or (bytes_at a x) j 0)) e (is j))
+    (λ j. subst (λ x. get_or (bytes_at b x) j 0 ≡ cond (is_within (next % 4096) count j) 0 (get_or (bytes_at a x) j 0)) e (is j)) places

@@ -1,4 +1,5 @@
 pub mod Listed
+pub mod Most
 pub mod Paging
 pub mod Places
 pub mod Sheaves

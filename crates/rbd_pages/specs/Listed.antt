@@ -2,7 +2,7 @@
 use Rattle.std.specs.Prelude.{◌≡◌, ℕ, ◌-◌, ◌/◌, ◌≤◌, nat_lt, if◌then◌else◌, List, map, length}
 use Rattle.std.specs.List.{range_with_len}
 use Rattle.rbd_pages.specs.Paging.{byte_on_pages, pages_for, AreApart}
-use Rattle.rbd_pages.specs.Sheaves.{AreFull, Stock, pages_in, sheaves_for}
+use Rattle.rbd_pages.specs.Sheaves.{AreFull, Stock, pages_in, sheaves_between, sheaves_for}
 use Rattle.rbd_pages.specs.declared.page.TheConstants.{PAGE}
 use Rattle.rbd_parts.specs.declared.parts.TheConstants.{LARGEST_OBJECT}
 
@@ -32,3 +32,7 @@ pub record IsContent (stock : Stock) (c : Listed) : Type 0 where
 -- how many pages the bytes from `first` up to `end` touch
 abbrev pub touched : (first end : ℕ) → ℕ
 touched first end = if nat_lt first end then pages_for end - first / PAGE else 0
+
+-- how many sheaves they touch
+abbrev pub sheaves_touched : (first end : ℕ) → ℕ
+sheaves_touched first end = if nat_lt first end then sheaves_between (first / PAGE) (pages_for end) else 0

@@ -51,11 +51,12 @@ pub record Prepared (old : List Sheet) (pages : List ℕ) (new : List Sheet) (af
   pub longer : length pages ≤ length after
   pub ready : (k byte : ℕ) → IsPageReady old pages k byte → IsPageReady new after k byte
 
--- Bytes of a list's own pages were changed: no count, and no other page.
+-- Bytes of a list's own pages were changed: no count, no other page, and no number of places.
 pub record IsChanged (pages : List ℕ) (old new : List Sheet) : Type 0 where
   pub counts : (page : ℕ) → count_at new page ≡ count_at old page
   pub others : (page : ℕ) → occurs page pages < count_at old page → bytes_at new page ≡ bytes_at old page
   pub used : in_use new ≡ in_use old
+  pub places : length new ≡ length old
   pub ready : (k byte : ℕ) → IsPageReady old pages k byte → IsPageReady new pages k byte
 
 -- bytes were written from byte `at` on

@@ -1,5 +1,5 @@
 -- Sheaves of pages, as contracts see them.
-use Rattle.std.specs.Prelude.{◌≡◌, ℕ, ◌+◌, ◌-◌, ◌/◌, ◌%◌, ◌<◌, ◌≤◌, List, [], ◌∷◌, ◌++◌, length, slice_index}
+use Rattle.std.specs.Prelude.{◌≡◌, ℕ, ◌+◌, ◌-◌, ◌/◌, ◌%◌, ◌<◌, ◌≤◌, nat_lt, if◌then◌else◌, List, [], ◌∷◌, ◌++◌, length, slice_index}
 use Rattle.rbd_pages.specs.Sheets.{Sheet, count_at, bytes_at}
 use Rattle.rbd_pages.specs.Paging.{occurs, bytes_on, AreApart, IsPageReady}
 use Rattle.rbd_pages.specs.declared.page.TheConstants.{PAGE}
@@ -14,6 +14,10 @@ pub record Stock : Type 0 where
 -- how many sheaves it takes for so many pages
 abbrev pub sheaves_for : (pages : ℕ) → ℕ
 sheaves_for pages = (pages + (SHEAF - 1)) / SHEAF
+
+-- in how many sheaves the pages from place `first` up to `end` are
+abbrev pub sheaves_between : (first end : ℕ) → ℕ
+sheaves_between first end = if nat_lt first end then sheaves_for end - first / SHEAF else 0
 
 -- the pages of a list of sheaves, in order
 abbrev pub pages_in : List Sheet → (list : List ℕ) → List ℕ

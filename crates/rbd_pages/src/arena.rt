@@ -1,6 +1,6 @@
 //! The pages that the contents of an object share.
 ghost use Rattle.std.specs.Prelude.{◌≡◌, ◌≢◌, ℕ, ◌+◌, ◌-◌, ◌<◌, ◌≤◌, [], length, slice_index, if◌then◌else◌, IfOk, OnOk, OnErr, IsTrue};
-ghost use Rattle.rbd_pages.specs.Places.{TakesFreeFirst};
+ghost use Rattle.rbd_pages.specs.Places.{KeepsMost, TakesFreeFirst};
 ghost use Rattle.rbd_parts.specs.Contents.{is_within, window};
 ghost use Rattle.rbd_pages.specs.Sheets.{Changed, sheet_at, count_at, bytes_at, in_use, released};
 ghost use Rattle.rbd_pages.specs.declared.page.TheConstants.{PAGE};
@@ -90,6 +90,7 @@ impl Arena {
         ensures page { IfOk result (λ i. sheet_at self.new i ≡ record { count = 1; bytes = [] }) }
         ensures places { TakesFreeFirst self.old self.new }
         ensures err { OnErr result (self.new ≡ self.old) }
+        ensures most { KeepsMost self.old self.new }
     {
         let page = Page::new(*self.pages.allocator());
         self.insert(page)
@@ -103,6 +104,7 @@ impl Arena {
         ensures page { IfOk result (λ i. sheet_at self.new i ≡ record { count = 1; bytes = bytes_at self.old index }) }
         ensures places { TakesFreeFirst self.old self.new }
         ensures err { OnErr result (self.new ≡ self.old) }
+        ensures most { KeepsMost self.old self.new }
     {
         let page = self.pages[index as usize].copied()?;
         self.insert(page)
@@ -116,6 +118,7 @@ impl Arena {
         ensures page { IfOk result (λ i. sheet_at self.new i ≡ page) }
         ensures places { TakesFreeFirst self.old self.new }
         ensures err { OnErr result (self.new ≡ self.old) }
+        ensures most { KeepsMost self.old self.new }
     {
         let Some(index) = self.free.pop() else {
             return self.grow(page);
@@ -132,6 +135,7 @@ impl Arena {
         ensures changed { IfOk result (λ i. Changed i self.old self.new) }
         ensures page { IfOk result (λ i. sheet_at self.new i ≡ page) }
         ensures err { OnErr result (self.new ≡ self.old) }
+        ensures most { KeepsMost self.old self.new }
     {
         let index = self.pages.len();
         if index >= u32::MAX as usize {
@@ -150,6 +154,7 @@ impl Arena {
         ensures count { OnOk result (count_at self.new index ≡ count_at self.old index + 1) }
         ensures bytes { bytes_at self.new index ≡ bytes_at self.old index }
         ensures err { OnErr result (self.new ≡ self.old) }
+        ensures places { length self.new ≡ length self.old }
     {
         self.pages[index as usize].hold()
     }
@@ -159,6 +164,7 @@ impl Arena {
         requires { 0 < count_at self.old index }
         ensures changed { Changed index self.old self.new }
         ensures page { sheet_at self.new index ≡ released (sheet_at self.old index) }
+        ensures places { length self.new ≡ length self.old }
     {
         let page = &mut self.pages[index as usize];
         let count = page.count();
@@ -178,6 +184,7 @@ impl Arena {
         ensures bytes { (k : ℕ) → slice_index (bytes_at self.new index) k ≡ slice_index (bytes_at self.old index) k }
         ensures stored { OnOk result (length (bytes_at self.new index) ≡ PAGE) }
         ensures err { OnErr result (self.new ≡ self.old) }
+        ensures places { length self.new ≡ length self.old }
     {
         self.pages[index as usize].store()
     }
@@ -202,6 +209,7 @@ impl Arena {
         ensures len { length (bytes_at self.new index) ≡ length (bytes_at self.old index) }
         ensures bytes { (k : ℕ) → slice_index (bytes_at self.new index) k
             ≡ (if is_within at (length bytes.now) k then slice_index bytes.now (k - at) else slice_index (bytes_at self.old index) k) }
+        ensures places { length self.new ≡ length self.old }
     {
         self.pages[index as usize].put(at, bytes);
     }
@@ -215,6 +223,7 @@ impl Arena {
         ensures len { length (bytes_at self.new index) ≡ length (bytes_at self.old index) }
         ensures bytes { (k : ℕ) → slice_index (bytes_at self.new index) k
             ≡ (if is_within at len k then 0 else slice_index (bytes_at self.old index) k) }
+        ensures places { length self.new ≡ length self.old }
     {
         self.pages[index as usize].clear(at, len);
     }

@@ -1,10 +1,11 @@
 //! The bytes of a head or of a version.
-ghost use Rattle.std.specs.Prelude.{◌≡◌, ℕ, ◌+◌, ◌/◌, ◌≤◌, ◌<◌, [], ◌++◌, length, min, max, slice_index, IfOk, OnOk, OnErr, IsTrue, false};
+ghost use Rattle.std.specs.Prelude.{◌≡◌, ℕ, ◌+◌, ◌-◌, ◌/◌, ◌≤◌, ◌<◌, [], ◌++◌, length, min, max, slice_index, IfOk, OnOk, OnErr, IsTrue, false};
 ghost use Rattle.rbd_parts.specs.Contents.{window, overwritten, zeroed};
 ghost use Rattle.rbd_pages.specs.Paging.{AreCounted, pages_for};
 ghost use Rattle.rbd_parts.specs.Parts.{parts_of};
-ghost use Rattle.rbd_pages.specs.Listed.{IsContent, listed_bytes, pages_on, touched};
-ghost use Rattle.rbd_pages.specs.Sheaves.{Exchanged, IsOwnPage, ArePagesPrepared, IsSame, sheaves_for};
+ghost use Rattle.rbd_pages.specs.Listed.{IsContent, listed_bytes, pages_on, sheaves_touched, touched};
+ghost use Rattle.rbd_pages.specs.Sheaves.{Exchanged, IsOwnPage, ArePagesPrepared, IsSame, sheaves_between, sheaves_for};
+ghost use Rattle.rbd_pages.specs.Places.{Grown, NoneTaken};
 ghost use Rattle.rbd_pages.specs.Sheets.{count_at, in_use};
 ghost use Rattle.rbd_pages.specs.declared.page.TheConstants.{PAGE};
 ghost use Rattle.rbd_parts.specs.declared.parts.TheConstants.{LARGEST_OBJECT};
@@ -59,6 +60,7 @@ impl Content {
         ensures same { IfOk result (λ copy. copy ≡ self.now) }
         ensures err { OnErr result (Exchanged sheaves.old [] sheaves.new []) }
         ensures used { in_use sheaves.new.sheets ≤ in_use sheaves.old.sheets }
+        ensures places { NoneTaken sheaves.old sheaves.new }
     {
         Ok(Content {
             list: lists::share(*self.list.allocator(), self.list.as_slice(), sheaves)?,
@@ -73,6 +75,7 @@ impl Content {
         ensures exchanged { Exchanged sheaves.old self.now.sheaves sheaves.new [] }
         ensures kept { (s : ℕ) → 0 < count_at sheaves.new.sheaves s → IsSame sheaves.old sheaves.new s }
         ensures used { in_use sheaves.new.sheets ≤ in_use sheaves.old.sheets }
+        ensures places { NoneTaken sheaves.old sheaves.new }
     {
         lists::let_go(self.list.as_slice(), sheaves);
     }
@@ -134,6 +137,8 @@ impl Content {
         ensures ok { OnOk result (listed_bytes sheaves.new self.new ≡ overwritten (listed_bytes sheaves.old self.old) at bytes.now) }
         ensures err { OnErr result (listed_bytes sheaves.new self.new ≡ listed_bytes sheaves.old self.old) }
         ensures used { in_use sheaves.new.sheets ≤ in_use sheaves.old.sheets + touched (min self.old.len at) (at + length bytes.now) }
+        ensures grown { Grown (touched (min self.old.len at) (at + length bytes.now)) (sheaves_touched (min self.old.len at) (at + length bytes.now))
+            sheaves.old sheaves.new }
     {
         if self.write_in_place(sheaves, at, bytes) {
             return Ok(());
@@ -153,6 +158,7 @@ impl Content {
         ensures same { result ≡ false → self.new ≡ self.old }
         ensures sheaves { result ≡ false → sheaves.new ≡ sheaves.old }
         ensures used { in_use sheaves.new.sheets ≡ in_use sheaves.old.sheets }
+        ensures places { NoneTaken sheaves.old sheaves.new }
     {
         let end = at as usize + bytes.len();
         if !sheaves.put_in_place(self.list.as_slice(), at as usize, bytes) {
@@ -179,6 +185,8 @@ impl Content {
         ensures ok { OnOk result (listed_bytes sheaves.new self.new ≡ overwritten (listed_bytes sheaves.old self.old) at bytes.now) }
         ensures err { OnErr result (listed_bytes sheaves.new self.new ≡ listed_bytes sheaves.old self.old) }
         ensures used { in_use sheaves.new.sheets ≤ in_use sheaves.old.sheets + touched (min self.old.len at) (at + length bytes.now) }
+        ensures grown { Grown (touched (min self.old.len at) (at + length bytes.now)) (sheaves_touched (min self.old.len at) (at + length bytes.now))
+            sheaves.old sheaves.new }
     {
         let at = at as usize;
         if bytes.is_empty() && at <= self.len {
@@ -199,6 +207,7 @@ impl Content {
         ensures ok { OnOk result (listed_bytes sheaves.new self.new ≡ zeroed (listed_bytes sheaves.old self.old) at len) }
         ensures err { OnErr result (listed_bytes sheaves.new self.new ≡ listed_bytes sheaves.old self.old) }
         ensures used { in_use sheaves.new.sheets ≤ in_use sheaves.old.sheets + touched at (at + len) }
+        ensures grown { Grown (touched at (at + len)) (sheaves_touched at (at + len)) sheaves.old sheaves.new }
     {
         let from = (at as usize).min(self.len);
         let count = (len as usize).min(self.len - from);
@@ -233,6 +242,8 @@ impl Content {
         ensures err { OnErr result (listed_bytes sheaves.new self.new ≡ listed_bytes sheaves.old self.old) }
         ensures used { in_use sheaves.new.sheets + min (pages_for self.old.len) (at / PAGE)
             ≤ in_use sheaves.old.sheets + max (min (pages_for self.old.len) (at / PAGE)) (pages_for (at + len)) }
+        ensures grown { Grown (pages_for (at + len) - min (pages_for self.old.len) (at / PAGE))
+            (sheaves_between (min (pages_for self.old.len) (at / PAGE)) (pages_for (at + len))) sheaves.old sheaves.new }
     {
         let held = lists::pages_for(self.len);
         match lists::prepare(&mut self.list, sheaves, held, at, len, bytes) {

@@ -18,6 +18,11 @@
 //! bytes become, that each count follows the lists (`Exchanged`), and that what others name too has
 //! the same pages and bytes. A sum of all lists, as an object has them, is left to the caller.
 //!
+//! A page or a sheaf that is let go leaves its place free, and a free place is taken before there
+//! is one more. So there are never more places than were named at one time: `KeepsMost` says it of
+//! a step, and [`laws::places_are_the_most_named`] of any run of steps. `Grown` bounds the places
+//! of a change that takes several, and lets some of them go where it is refused.
+//!
 //! # Cost
 //!
 //! Contents lie on pages of 4,096 bytes, and their pages in *sheaves* of 128. A write costs the
@@ -49,6 +54,7 @@
 mod arena;
 mod bytes;
 mod content;
+pub mod laws;
 mod lists;
 mod page;
 mod pages;

@@ -1,8 +1,9 @@
 //! Lists of sheaves, each the pages of one content.
-ghost use Rattle.std.specs.Prelude.{◌≡◌, ◌≢◌, ℕ, ◌+◌, ◌*◌, ◌/◌, ◌<◌, ◌≤◌, [], length, take, min, max, slice_index, IfOk, OnOk, OnErr, IsTrue, nat_lt};
+ghost use Rattle.std.specs.Prelude.{◌≡◌, ◌≢◌, ℕ, ◌+◌, ◌-◌, ◌*◌, ◌/◌, ◌<◌, ◌≤◌, [], length, take, min, max, slice_index, IfOk, OnOk, OnErr, IsTrue, nat_lt};
 ghost use Rattle.std.specs.List.{list_any};
 ghost use Rattle.rbd_pages.specs.Paging.{AreApart, AreCounted, pages_for};
-ghost use Rattle.rbd_pages.specs.Sheaves.{AreFull, Exchanged, IsOwnPage, ArePagesPrepared, IsSame, pages_in, sheaves_for};
+ghost use Rattle.rbd_pages.specs.Sheaves.{AreFull, Exchanged, IsOwnPage, ArePagesPrepared, IsSame, pages_in, sheaves_between, sheaves_for};
+ghost use Rattle.rbd_pages.specs.Places.{Grown, NoneTaken, taken_at};
 ghost use Rattle.rbd_pages.specs.Sheets.{count_at, in_use};
 ghost use Rattle.rbd_pages.specs.declared.page.TheConstants.{PAGE};
 ghost use Rattle.rbd_pages.specs.declared.sheaf.TheConstants.{SHEAF};
@@ -36,6 +37,8 @@ pub fn prepare(
     ensures len { OnOk result (length list.new.items ≡ max (length list.old.items) (sheaves_for (pages_for (at + len)))) }
     ensures long { OnOk result (pages_for (at + len) ≤ length (pages_in sheaves.new.sheaves list.new.items)) }
     ensures ready { OnOk result ((j : ℕ) → j < len → IsOwnPage sheaves.new list.new.items ((at + j) / PAGE) (slice_index bytes.now j)) }
+    ensures grown { Grown (pages_for (at + len) - min held (at / PAGE)) (sheaves_between (min held (at / PAGE)) (pages_for (at + len)))
+        sheaves.old sheaves.new }
 {
     sheaves.reserve(pages_for(at + len).saturating_sub(held))?;
     prepare_each(list, sheaves, held, at, len, bytes)
@@ -61,6 +64,8 @@ fn prepare_each(
     ensures len { OnOk result (length list.new.items ≡ max (length list.old.items) (sheaves_for (pages_for (at + len)))) }
     ensures long { OnOk result (pages_for (at + len) ≤ length (pages_in sheaves.new.sheaves list.new.items)) }
     ensures ready { OnOk result ((j : ℕ) → j < len → IsOwnPage sheaves.new list.new.items ((at + j) / PAGE) (slice_index bytes.now j)) }
+    ensures grown { Grown (pages_for (at + len) - min held (at / PAGE)) (sheaves_between (min held (at / PAGE)) (pages_for (at + len)))
+        sheaves.old sheaves.new }
 {
     let first = held.min(at / PAGE);
     let end = pages_for(at + len);
@@ -124,6 +129,7 @@ fn prepare_page(
     ensures long { OnOk result (k + 1 ≤ length (pages_in sheaves.new.sheaves list.new.items)) }
     ensures ready { (byte : ℕ) → (byte ≢ 0 → IsTrue stored) → OnOk result (IsOwnPage sheaves.new list.new.items k byte) }
     ensures used { in_use sheaves.new.sheets ≤ in_use sheaves.old.sheets + 1 }
+    ensures grown { Grown 1 (taken_at sheaves.old.sheaves list.old.items (k / SHEAF)) sheaves.old sheaves.new }
 {
     have(list, sheaves, k, more)?;
     sheaves.prepare_page(list[k / SHEAF], k % SHEAF, stored)
@@ -141,6 +147,7 @@ fn have(list: &mut Vec<u32>, sheaves: &mut Sheaves, k: usize, more: usize) -> Re
     ensures len { OnOk result (length list.new.items ≡ max (length list.old.items) (k / SHEAF + 1)) }
     ensures alone { OnOk result (count_at sheaves.new.sheaves (slice_index list.new.items (k / SHEAF)) ≡ 1) }
     ensures used { in_use sheaves.new.sheets ≤ in_use sheaves.old.sheets }
+    ensures grown { Grown 0 (taken_at sheaves.old.sheaves list.old.items (k / SHEAF)) sheaves.old sheaves.new }
 {
     if k / SHEAF < list.len() {
         own(list, sheaves, k / SHEAF)
@@ -160,6 +167,7 @@ fn own(list: &mut Vec<u32>, sheaves: &mut Sheaves, m: usize) -> Result<(), NoMem
     ensures len { length list.new.items ≡ length list.old.items }
     ensures alone { OnOk result (count_at sheaves.new.sheaves (slice_index list.new.items m) ≡ 1) }
     ensures used { in_use sheaves.new.sheets ≤ in_use sheaves.old.sheets }
+    ensures grown { Grown 0 (taken_at sheaves.old.sheaves list.old.items m) sheaves.old sheaves.new }
 {
     let index = list[m];
     if sheaves.count(index) > 1 {
@@ -181,6 +189,7 @@ fn extend(list: &mut Vec<u32>, sheaves: &mut Sheaves, room: usize) -> Result<(),
     ensures len { OnOk result (length list.new.items ≡ length list.old.items + 1) }
     ensures alone { OnOk result (count_at sheaves.new.sheaves (slice_index list.new.items (length list.old.items)) ≡ 1) }
     ensures used { in_use sheaves.new.sheets ≤ in_use sheaves.old.sheets }
+    ensures grown { Grown 0 1 sheaves.old sheaves.new }
 {
     list.reserve(1)?;
     let sheaf = sheaves.add(room)?;
@@ -195,6 +204,7 @@ pub fn cut(list: &mut Vec<u32>, sheaves: &mut Sheaves, len: usize)
     ensures exchanged { Exchanged sheaves.old list.old.items sheaves.new list.new.items }
     ensures kept { (s : ℕ) → 0 < count_at sheaves.new.sheaves s → IsSame sheaves.old sheaves.new s }
     ensures used { in_use sheaves.new.sheets ≤ in_use sheaves.old.sheets }
+    ensures places { NoneTaken sheaves.old sheaves.new }
 {
     while list.len() > len {
         let sheaf = list.pop().unwrap();
@@ -208,6 +218,7 @@ pub fn let_go(list: &[u32], sheaves: &mut Sheaves)
     ensures exchanged { Exchanged sheaves.old list.now sheaves.new [] }
     ensures kept { (s : ℕ) → 0 < count_at sheaves.new.sheaves s → IsSame sheaves.old sheaves.new s }
     ensures used { in_use sheaves.new.sheets ≤ in_use sheaves.old.sheets }
+    ensures places { NoneTaken sheaves.old sheaves.new }
 {
     for sheaf in list {
         sheaves.release(*sheaf);
@@ -221,6 +232,7 @@ pub fn share(alloc: Global, list: &[u32], sheaves: &mut Sheaves) -> Result<Vec<u
     ensures same { IfOk result (λ copy. copy.items ≡ list.now) }
     ensures err { OnErr result (Exchanged sheaves.old [] sheaves.new []) }
     ensures used { in_use sheaves.new.sheets ≤ in_use sheaves.old.sheets }
+    ensures places { NoneTaken sheaves.old sheaves.new }
 {
     let copy = Vec::from_slice(alloc, list)?;
     hold(list, sheaves)?;
@@ -233,6 +245,7 @@ fn hold(list: &[u32], sheaves: &mut Sheaves) -> Result<(), NoMemory>
     ensures exchanged { OnOk result (Exchanged sheaves.old [] sheaves.new list.now) }
     ensures err { OnErr result (Exchanged sheaves.old [] sheaves.new []) }
     ensures used { in_use sheaves.new.sheets ≤ in_use sheaves.old.sheets }
+    ensures places { NoneTaken sheaves.old sheaves.new }
 {
     for k in 0..list.len() {
         match sheaves.hold(list[k]) {

@@ -1,5 +1,6 @@
 //! Lists of pages, each those of one sheaf.
 ghost use Rattle.std.specs.Prelude.{◌≡◌, ◌≢◌, ℕ, ◌+◌, ◌<◌, ◌≤◌, [], length, take, max, IfOk, OnOk, OnErr, IsTrue};
+ghost use Rattle.rbd_pages.specs.Places.{KeepsMost};
 ghost use Rattle.rbd_pages.specs.Sheets.{bytes_at, count_at, in_use};
 ghost use Rattle.rbd_pages.specs.Paging.{AreCounted, IsPageReady, Moved, Prepared};
 
@@ -21,6 +22,7 @@ pub fn prepare_page(
     ensures most { length pages.new.items ≤ max (length pages.old.items) (k + 1) }
     ensures ready { (byte : ℕ) → (byte ≢ 0 → IsTrue stored) → OnOk result (IsPageReady arena.new pages.new.items k byte) }
     ensures used { in_use arena.new ≤ in_use arena.old + 1 }
+    ensures places { KeepsMost arena.old arena.new }
 {
     have(pages, arena, k)?;
     store(pages.as_slice(), arena, k, stored)
@@ -35,6 +37,7 @@ fn have(pages: &mut Vec<u32>, arena: &mut Arena, k: usize) -> Result<(), NoMemor
     ensures most { length pages.new.items ≤ max (length pages.old.items) (k + 1) }
     ensures ready { OnOk result (IsPageReady arena.new pages.new.items k 0) }
     ensures used { in_use arena.new ≤ in_use arena.old + 1 }
+    ensures places { KeepsMost arena.old arena.new }
 {
     if k < pages.len() {
         own(pages, arena, k)
@@ -51,6 +54,7 @@ fn own(pages: &mut Vec<u32>, arena: &mut Arena, k: usize) -> Result<(), NoMemory
     ensures len { length pages.new.items ≡ length pages.old.items }
     ensures ready { OnOk result (IsPageReady arena.new pages.new.items k 0) }
     ensures used { in_use arena.new ≤ in_use arena.old + 1 }
+    ensures places { KeepsMost arena.old arena.new }
 {
     let index = pages[k];
     if arena.count(index) > 1 {
@@ -69,6 +73,7 @@ fn extend(pages: &mut Vec<u32>, arena: &mut Arena) -> Result<(), NoMemory>
     ensures most { length pages.new.items ≤ length pages.old.items + 1 }
     ensures ready { OnOk result (IsPageReady arena.new pages.new.items (length pages.old.items) 0) }
     ensures used { in_use arena.new ≤ in_use arena.old + 1 }
+    ensures places { KeepsMost arena.old arena.new }
 {
     pages.reserve(1)?;
     let page = arena.add()?;
@@ -83,6 +88,7 @@ fn store(pages: &[u32], arena: &mut Arena, k: usize, wanted: bool) -> Result<(),
     ensures prepared { Prepared arena.old pages.now arena.new pages.now }
     ensures ready { (byte : ℕ) → (byte ≢ 0 → IsTrue wanted) → OnOk result (IsPageReady arena.new pages.now k byte) }
     ensures used { in_use arena.new ≡ in_use arena.old }
+    ensures places { length arena.new ≡ length arena.old }
 {
     if wanted {
         arena.store(pages[k])?;
@@ -97,6 +103,7 @@ pub fn cut(pages: &mut Vec<u32>, arena: &mut Arena, len: usize)
     ensures moved { Moved arena.old pages.old.items arena.new pages.new.items }
     ensures kept { (page : ℕ) → 0 < count_at arena.new page → bytes_at arena.new page ≡ bytes_at arena.old page }
     ensures used { in_use arena.new ≤ in_use arena.old }
+    ensures places { length arena.new ≡ length arena.old }
 {
     while pages.len() > len {
         let page = pages.pop().unwrap();
@@ -110,6 +117,7 @@ pub fn let_go(pages: &[u32], arena: &mut Arena)
     ensures moved { Moved arena.old pages.now arena.new [] }
     ensures kept { (page : ℕ) → 0 < count_at arena.new page → bytes_at arena.new page ≡ bytes_at arena.old page }
     ensures used { in_use arena.new ≤ in_use arena.old }
+    ensures places { length arena.new ≡ length arena.old }
 {
     for page in pages {
         arena.release(*page);
@@ -123,6 +131,7 @@ pub fn share(alloc: Global, pages: &[u32], arena: &mut Arena) -> Result<Vec<u32>
     ensures same { IfOk result (λ copy. copy.items ≡ pages.now) }
     ensures err { OnErr result (Moved arena.old [] arena.new []) }
     ensures used { in_use arena.new ≤ in_use arena.old }
+    ensures places { length arena.new ≡ length arena.old }
 {
     let copy = Vec::from_slice(alloc, pages)?;
     hold(pages, arena)?;
@@ -135,6 +144,7 @@ fn hold(pages: &[u32], arena: &mut Arena) -> Result<(), NoMemory>
     ensures moved { OnOk result (Moved arena.old [] arena.new pages.now) }
     ensures err { OnErr result (Moved arena.old [] arena.new []) }
     ensures used { in_use arena.new ≤ in_use arena.old }
+    ensures places { length arena.new ≡ length arena.old }
 {
     for k in 0..pages.len() {
         match arena.hold(pages[k]) {

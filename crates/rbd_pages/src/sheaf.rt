@@ -1,6 +1,7 @@
 //! One sheaf of pages.
 ghost use Rattle.std.specs.Prelude.{◌≡◌, ◌≢◌, ℕ, ◌+◌, ◌<◌, ◌≤◌, [], length, max, slice_index, IfOk, OnOk, OnErr, IsErr, IsTrue};
 ghost use Rattle.rbd_pages.specs.Paging.{AreCounted, IsPageReady, Moved, Prepared};
+ghost use Rattle.rbd_pages.specs.Places.{KeepsMost};
 ghost use Rattle.rbd_pages.specs.Sheets.{Sheet, bytes_at, count_at, in_use};
 
 use crate::arena::Arena;
@@ -109,6 +110,7 @@ impl Sheaf {
         ensures moved { OnOk result (Moved arena.old [] arena.new self.now.bytes) }
         ensures err { OnErr result (Moved arena.old [] arena.new []) }
         ensures used { in_use arena.new ≤ in_use arena.old }
+        ensures places { length arena.new ≡ length arena.old }
     {
         Ok(Sheaf {
             count: 1,
@@ -131,6 +133,7 @@ impl Sheaf {
         ensures most { length self.new.bytes ≤ max (length self.old.bytes) (k + 1) }
         ensures ready { (byte : ℕ) → (byte ≢ 0 → IsTrue stored) → OnOk result (IsPageReady arena.new self.new.bytes k byte) }
         ensures used { in_use arena.new ≤ in_use arena.old + 1 }
+        ensures places { KeepsMost arena.old arena.new }
     {
         pages::prepare_page(&mut self.pages, arena, k, stored)
     }
@@ -142,6 +145,7 @@ impl Sheaf {
         ensures moved { Moved arena.old self.old.bytes arena.new [] }
         ensures kept { (page : ℕ) → 0 < count_at arena.new page → bytes_at arena.new page ≡ bytes_at arena.old page }
         ensures used { in_use arena.new ≤ in_use arena.old }
+        ensures places { length arena.new ≡ length arena.old }
     {
         pages::let_go(self.pages.as_slice(), arena);
         self.count = 0;

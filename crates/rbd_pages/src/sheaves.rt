@@ -1,6 +1,6 @@
 //! The sheaves that the contents of an object share, and their pages.
 ghost use Rattle.std.specs.Prelude.{◌≡◌, ◌≢◌, ℕ, ◌+◌, ◌/◌, ◌<◌, ◌≤◌, [], length, max, slice_index, IfOk, OnOk, OnErr, IsTrue, false};
-ghost use Rattle.rbd_pages.specs.Places.{KnowsFree, TakesFreeFirst};
+ghost use Rattle.rbd_pages.specs.Places.{KeepsMost, KnowsFree, NoneTaken, TakesFreeFirst};
 ghost use Rattle.rbd_pages.specs.Paging.{AreApart, AreCounted, IsPageReady, IsWritten, IsZeroed, Prepared, byte_on_pages, occurs};
 ghost use Rattle.rbd_pages.specs.Sheaves.{AreFull, AreStocked, IsOnOwn, IsSame, named_in, pages_in};
 ghost use Rattle.std.specs.Vec.{vec_len, vec_capacity};
@@ -98,6 +98,7 @@ impl Sheaves {
         ensures sheets { self.new.sheets ≡ self.old.sheets }
         ensures places { TakesFreeFirst self.old.sheaves self.new.sheaves }
         ensures err { OnErr result (self.new ≡ self.old) }
+        ensures most { KeepsMost self.old.sheaves self.new.sheaves }
     {
         let mut sheaf = Sheaf::new(*self.sheaves.allocator());
         sheaf.reserve(room)?;
@@ -118,6 +119,8 @@ impl Sheaves {
         ensures places { TakesFreeFirst self.old.sheaves self.new.sheaves }
         ensures err { OnErr result (self.new.sheaves ≡ self.old.sheaves) }
         ensures same { OnErr result ((page : ℕ) → count_at self.new.sheets page ≡ count_at self.old.sheets page) }
+        ensures most { KeepsMost self.old.sheaves self.new.sheaves }
+        ensures page_places { length self.new.sheets ≡ length self.old.sheets }
     {
         make_room(&mut self.sheaves, &mut self.free)?;
         let sheaf = self.sheaves[index as usize].copied(&mut self.arena)?;
@@ -132,6 +135,7 @@ impl Sheaves {
         ensures pages { bytes_at self.new.sheaves index ≡ bytes_at self.old.sheaves index }
         ensures sheets { self.new.sheets ≡ self.old.sheets }
         ensures err { OnErr result (self.new ≡ self.old) }
+        ensures places { NoneTaken self.old self.new }
     {
         self.sheaves[index as usize].hold()
     }
@@ -145,6 +149,7 @@ impl Sheaves {
         ensures shared { 1 < count_at self.old.sheaves index → self.new.sheets ≡ self.old.sheets }
         ensures kept { (s : ℕ) → 0 < count_at self.new.sheaves s → IsSame self.old self.new s }
         ensures used { in_use self.new.sheets ≤ in_use self.old.sheets }
+        ensures places { NoneTaken self.old self.new }
     {
         let sheaf = &mut self.sheaves[index as usize];
         let count = sheaf.count();
@@ -170,6 +175,8 @@ impl Sheaves {
         ensures others { (s : ℕ) → s ≢ index → IsSame self.old self.new s }
         ensures used { in_use self.new.sheets ≤ in_use self.old.sheets + 1 }
         ensures stocked { AreStocked self.old }
+        ensures page_places { KeepsMost self.old.sheets self.new.sheets }
+        ensures places { length self.new.sheaves ≡ length self.old.sheaves }
     {
         self.sheaves[index as usize].prepare_page(&mut self.arena, k, stored)
     }
@@ -266,6 +273,7 @@ fn put_in(sheaves: &mut Vec<Sheaf>, free: &mut Vec<u32>, sheaf: Sheaf) -> u32
         ≡ named_in page sheaves.old.items + occurs page sheaf.bytes }
     ensures places { TakesFreeFirst sheaves.old.items sheaves.new.items }
     ensures known { KnowsFree sheaves.new.items free.new.items (vec_capacity free.new) }
+    ensures most { KeepsMost sheaves.old.items sheaves.new.items }
 {
     match free.pop() {
         Some(index) => {

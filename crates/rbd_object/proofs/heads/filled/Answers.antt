@@ -1,5 +1,6 @@
-use Rattle.std.proofs.Common.{◌∙◌}
+use Rattle.std.proofs.Common.{◌∙◌, length}
 use Rattle.rbd_object.proofs.HeadLemmas.{filled_bytes, exchanged_refused}
+use Rattle.rbd_object.proofs.EachLemmas.{whole_grown}
 use Rattle.rbd_object.proofs.heads.filled.Goals as goal
 use Rattle.rbd_kinds.proofs.Results.{on_err_always}
 
@@ -10,3 +11,9 @@ returns-in_err-write-clause-err c =
 
 pub returns-clause-bytes : goal.returns-clause-bytes
 returns-clause-bytes c = c.in_ok-write.ensures.ok ∙ filled_bytes c.args.sheaves.now c.new-content.result c.args.bytes.now c.new-content.ensures
+
+pub returns-in_err-write-clause-grown : goal.returns-in_err-write-clause-grown
+returns-in_err-write-clause-grown c = whole_grown c.args.sheaves.now c.write.new.sheaves c.new-content.result.len (length c.args.bytes.now) c.write.ensures.grown
+
+pub returns-clause-grown : goal.returns-clause-grown
+returns-clause-grown c = whole_grown c.args.sheaves.now c.write.new.sheaves c.new-content.result.len (length c.args.bytes.now) c.write.ensures.grown

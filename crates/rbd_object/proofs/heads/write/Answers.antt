@@ -3,6 +3,7 @@ use Rattle.std.specs.Prelude.{unwrap_or}
 use Rattle.rbd_parts.specs.Contents.{overwritten}
 use Rattle.rbd_object.specs.Shared.{sheaves_of}
 use Rattle.rbd_object.proofs.HeadLemmas.{head_after, kept_change, undone, untouched}
+use Rattle.rbd_pages.proofs.GrownLemmas.{grown_then_none, none_grown, none_then_grown}
 use Rattle.rbd_object.proofs.heads.write.Goals as goal
 use Rattle.rbd_kinds.proofs.Results.{on_err_always}
 
@@ -36,3 +37,14 @@ returns-in-Err-clause-same c =
     (kept_change c.args.wanted c.args.sheaves.now c.share.new.sheaves c.write_head.new.sheaves c.args.head.now c.write_head.new.head c.in_ok-kept.kept c.requires.counted c.requires.content
     c.in_ok-kept.ensures.exchanged c.in_ok-kept.ensures.same c.write_head.ensures.exchanged c.write_head.ensures.content) c.let_go.ensures.exchanged).1
     ∙ c.in-Err.ensures.err ∙ (head_after c.args.sheaves.now c.share.new.sheaves c.args.head.now (sheaves_of c.in_ok-kept.kept) c.requires.counted c.requires.content c.in_ok-kept.ensures.exchanged).1
+
+pub returns-in_err-kept-clause-grown : goal.returns-in_err-kept-clause-grown
+returns-in_err-kept-clause-grown c = none_grown _ _ c.args.sheaves.now c.share.new.sheaves c.share.ensures.places
+
+pub returns-in-Ok-clause-grown : goal.returns-in-Ok-clause-grown
+returns-in-Ok-clause-grown c = none_then_grown _ _ c.args.sheaves.now c.share.new.sheaves c.write_head.new.sheaves c.share.ensures.places c.write_head.ensures.grown
+
+pub returns-in-Err-clause-grown : goal.returns-in-Err-clause-grown
+returns-in-Err-clause-grown c =
+    grown_then_none _ _ c.args.sheaves.now c.write_head.new.sheaves c.let_go.new.sheaves
+    (none_then_grown _ _ c.args.sheaves.now c.share.new.sheaves c.write_head.new.sheaves c.share.ensures.places c.write_head.ensures.grown) c.let_go.ensures.places

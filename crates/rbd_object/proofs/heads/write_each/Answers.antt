@@ -1,7 +1,7 @@
 use Rattle.std.proofs.lemmas.Option.{slice_get-get_or}
 use Rattle.std.proofs.Common.{get_or, arith}
 use Rattle.rbd_pages.proofs.ListsLemmas.{counted_exchanged, exchanged_trans}
-use Rattle.rbd_object.proofs.EachLemmas.{no_part, parts_begun, parts_done, parts_fit, parts_more, parts_refused, parts_used}
+use Rattle.rbd_object.proofs.EachLemmas.{no_part, parts_begun, parts_done, parts_fit, parts_grown, parts_grown_so, parts_more, parts_refused, parts_used}
 use Rattle.rbd_object.proofs.heads.write_each.Goals as goal
 
 pub loop-part-init : goal.loop-part-init
@@ -35,7 +35,7 @@ pub loop-part-preserved : goal.loop-part-preserved
 loop-part-preserved c =
     parts_more c.args.parts.now c.args.bytes.now c.args.sheaves.now c.args.head.now c.loop-part.part-index c.loop-part.rest.now c.loop-part.sheaves c.write_head.new.sheaves c.loop-part.head c.write_head.new.head c.split_at.result.0.now c.split_at.result.1.now
     c.loop-part.invariant c.loop-part-test.true c.split_at.ensures.front c.split_at.ensures.back c.in_ok-write_head.ensures.exchanged
-    c.in_ok-write_head.ensures.content c.in_ok-write_head.ensures.ok c.in_ok-write_head.ensures.used
+    c.in_ok-write_head.ensures.content c.in_ok-write_head.ensures.ok c.in_ok-write_head.ensures.used c.write_head.ensures.grown
 
 pub returns-clause-exchanged : goal.returns-clause-exchanged
 returns-clause-exchanged c = c.loop-part.invariant.exchanged
@@ -48,3 +48,11 @@ returns-clause-ok c = parts_done c.args.parts.now c.args.bytes.now c.args.sheave
 
 pub returns-clause-used : goal.returns-clause-used
 returns-clause-used c = parts_used c.args.parts.now c.args.bytes.now c.args.sheaves.now c.args.head.now c.loop-part.part-index c.loop-part.rest.now c.loop-part.sheaves c.loop-part.head c.loop-part.invariant
+
+pub returns-in_err-write_head-clause-grown : goal.returns-in_err-write_head-clause-grown
+returns-in_err-write_head-clause-grown c =
+    parts_grown c.args.parts.now c.args.bytes.now c.args.sheaves.now c.args.head.now c.loop-part.part-index c.loop-part.rest.now c.loop-part.sheaves c.write_head.new.sheaves c.loop-part.head c.split_at.result.0.now c.loop-part.invariant c.loop-part-test.true
+    c.split_at.ensures.front c.write_head.ensures.grown
+
+pub returns-clause-grown : goal.returns-clause-grown
+returns-clause-grown c = parts_grown_so c.args.parts.now c.args.bytes.now c.args.sheaves.now c.args.head.now c.loop-part.part-index c.loop-part.rest.now c.loop-part.sheaves c.loop-part.head c.loop-part.invariant

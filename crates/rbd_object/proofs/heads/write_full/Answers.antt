@@ -1,6 +1,7 @@
 use Rattle.std.proofs.Common.{Some, sym, subst}
 use Rattle.rbd_object.specs.Shared.{KeepsHead}
 use Rattle.rbd_object.proofs.HeadLemmas.{counted_both, head_after, replaced, untouched}
+use Rattle.rbd_pages.proofs.GrownLemmas.{grown_then_none}
 use Rattle.rbd_object.proofs.heads.write_full.Goals as goal
 use Rattle.rbd_kinds.proofs.Results.{on_err_always}
 
@@ -25,3 +26,6 @@ returns-clause-ok c =
     (replaced c.args.wanted c.args.sheaves.now c.filled.new.sheaves c.replace.new.sheaves c.args.head.now (Some c.in_ok-content.content) c.replace.result
     c.requires.counted c.requires.content c.in_ok-content.ensures.exchanged c.replace.ensures.exchanged c.replace.ensures.head_is
     c.replace.ensures.kept_is c.replace.ensures.bytes)
+
+pub returns-clause-grown : goal.returns-clause-grown
+returns-clause-grown c = grown_then_none _ _ c.args.sheaves.now c.filled.new.sheaves c.replace.new.sheaves c.filled.ensures.grown c.replace.ensures.places

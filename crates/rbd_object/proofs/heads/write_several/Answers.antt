@@ -3,6 +3,7 @@ use Rattle.std.specs.Prelude.{unwrap_or}
 use Rattle.rbd_parts.specs.Parts.{parts_written}
 use Rattle.rbd_object.specs.Shared.{sheaves_of}
 use Rattle.rbd_object.proofs.HeadLemmas.{head_after, kept_change, kept_if, restored, untouched}
+use Rattle.rbd_pages.proofs.GrownLemmas.{grown_then_none, none_grown, none_then_grown}
 use Rattle.rbd_object.proofs.heads.write_several.Goals as goal
 use Rattle.rbd_kinds.proofs.Results.{on_err_always}
 
@@ -44,3 +45,16 @@ pub returns-in-Err-clause-same : goal.returns-in-Err-clause-same
 returns-in-Err-clause-same c = (restored c.args.sheaves.now c.write_each.new.sheaves c.let_go.new.sheaves c.args.head.now c.write_each.new.head c.in_ok-before.before c.requires.counted
     (kept_change true c.args.sheaves.now c.share.new.sheaves c.write_each.new.sheaves c.args.head.now c.write_each.new.head c.in_ok-before.before c.requires.counted c.requires.content
     c.in_ok-before.ensures.exchanged c.in_ok-before.ensures.same c.write_each.ensures.exchanged c.write_each.ensures.content) c.let_go.ensures.exchanged).1
+
+pub returns-in_err-before-clause-grown : goal.returns-in_err-before-clause-grown
+returns-in_err-before-clause-grown c = none_grown _ _ c.args.sheaves.now c.share.new.sheaves c.share.ensures.places
+
+pub returns-in-Ok-clause-grown : goal.returns-in-Ok-clause-grown
+returns-in-Ok-clause-grown c =
+    grown_then_none _ _ c.args.sheaves.now c.write_each.new.sheaves c.keep_if.new.sheaves
+    (none_then_grown _ _ c.args.sheaves.now c.share.new.sheaves c.write_each.new.sheaves c.share.ensures.places c.write_each.ensures.grown) c.keep_if.ensures.places
+
+pub returns-in-Err-clause-grown : goal.returns-in-Err-clause-grown
+returns-in-Err-clause-grown c =
+    grown_then_none _ _ c.args.sheaves.now c.write_each.new.sheaves c.let_go.new.sheaves
+    (none_then_grown _ _ c.args.sheaves.now c.share.new.sheaves c.write_each.new.sheaves c.share.ensures.places c.write_each.ensures.grown) c.let_go.ensures.places

@@ -5,10 +5,11 @@ use Rattle.rbd_pages.specs.Sheets.{count_at}
 use Rattle.rbd_object.specs.Shared.{Stored, dead_named, dead_sheaves}
 use Rattle.rbd_pages.proofs.SheavesLemmas.{same_refl, same_trans}
 use Rattle.rbd_object.proofs.VersionLemmas.{counted_version, dead_next, named_more, no_version}
+use Rattle.rbd_pages.proofs.GrownLemmas.{none_refl, none_trans}
 use Rattle.rbd_object.proofs.versions.let_go.Goals as goal
 
 pub loop-i-init : goal.loop-i-init
-loop-i-init c = record { named = c.requires; counts = λ s. refl; kept = λ s some. same_refl c.args.sheaves.now s; used = omega arith }
+loop-i-init c = record { named = c.requires; counts = λ s. refl; kept = λ s some. same_refl c.args.sheaves.now s; used = omega arith; places = none_refl c.args.sheaves.now }
 
 pub let_go_of-requires : goal.let_go_of-requires
 let_go_of-requires c =
@@ -36,6 +37,7 @@ loop-i-preserved c =
           let now = counts s in
           same_trans c.args.sheaves.now c.loop-i.sheaves c.let_go_of.new.sheaves s (was.kept s (omega arith)) (c.let_go_of.ensures.kept s some);
       used = let now = c.let_go_of.ensures.used in let before = was.used in omega arith;
+      places = none_trans c.args.sheaves.now c.loop-i.sheaves c.let_go_of.new.sheaves was.places c.let_go_of.ensures.places;
     }
 
 pub returns-clause-counts : goal.returns-clause-counts
@@ -51,3 +53,6 @@ returns-clause-kept c = c.loop-i.invariant.kept
 
 pub returns-clause-used : goal.returns-clause-used
 returns-clause-used c = c.loop-i.invariant.used
+
+pub returns-clause-places : goal.returns-clause-places
+returns-clause-places c = c.loop-i.invariant.places

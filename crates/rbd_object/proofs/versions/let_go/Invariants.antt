@@ -1,4 +1,5 @@
 use Rattle.std.proofs.Common.{ℕ, ◌≡◌, ◌+◌, ◌<◌, ◌≤◌, drop}
+use Rattle.rbd_pages.specs.Places.{NoneTaken}
 use Rattle.rbd_pages.specs.Sheaves.{IsSame}
 use Rattle.rbd_pages.specs.Sheets.{count_at, in_use}
 use Rattle.rbd_object.specs.Shared.{AreNamed, dead_named}
@@ -12,4 +13,5 @@ invariant-loop-i l = record {
       ≡ count_at l.initial.sheaves.sheaves s + dead_named l.live s (drop l.i l.versions.items);
   kept : (s : ℕ) → 0 < count_at l.sheaves.sheaves s → IsSame l.initial.sheaves l.sheaves s;
   used : in_use l.sheaves.sheets ≤ in_use l.initial.sheaves.sheets;
+  places : NoneTaken l.initial.sheaves l.sheaves;
 }

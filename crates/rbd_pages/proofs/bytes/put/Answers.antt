@@ -22,7 +22,7 @@ loop-rest-preserved c =
     let some : 0 < length c.loop-rest.rest.now = search rules in
     writing_more_at (pages_in c.args.sheaves.now c.args.list.now) c.args.at c.args.bytes.now c.args.arena.now c.loop-rest.next c.loop-rest.rest.now c.loop-rest.arena c.put.new.self
     c.min-count.result c.split_at.result.0.now c.split_at.result.1.now _ c.page_at.ensures c.loop-rest.invariant c.requires.counted some c.min-count.ensures
-    c.split_at.ensures.front c.split_at.ensures.back c.put.ensures.changed c.put.ensures.count c.put.ensures.len c.put.ensures.bytes
+    c.split_at.ensures.front c.split_at.ensures.back c.put.ensures.changed c.put.ensures.count c.put.ensures.len c.put.ensures.bytes c.put.ensures.places
 
 pub returns : goal.returns
 returns c =

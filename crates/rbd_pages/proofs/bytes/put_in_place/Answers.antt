@@ -21,3 +21,4 @@ returns-in-Some-clause-written c = λ is.
     let some : 0 < length c.args.bytes.now = search rules in
     written_on_one (pages_in c.args.sheaves.now c.args.list.now) c.args.at c.args.bytes.now c.args.arena.now c.put.new.self c.in-Some.page told.page
     (λ byte. (told.own byte).page) c.requires.counted some c.if-bytes-at.false c.requires.within c.put.ensures.changed c.put.ensures.count c.put.ensures.len c.put.ensures.bytes
+    c.put.ensures.places

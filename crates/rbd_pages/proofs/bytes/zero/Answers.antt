@@ -15,7 +15,7 @@ pub loop-left-preserved : goal.loop-left-preserved
 loop-left-preserved c =
     zeroing_more_at (pages_in c.args.sheaves.now c.args.list.now) c.args.at c.args.len c.args.arena.now c.loop-left.next c.loop-left.left c.loop-left.arena c.clear.new.self
     c.min-count.result _ c.page_at.ensures c.loop-left.invariant c.requires.counted c.loop-left-test.true c.min-count.ensures
-    c.clear.ensures.changed c.clear.ensures.count c.clear.ensures.len c.clear.ensures.bytes
+    c.clear.ensures.changed c.clear.ensures.count c.clear.ensures.len c.clear.ensures.bytes c.clear.ensures.places
 
 pub returns : goal.returns
 returns c =

@@ -1,6 +1,7 @@
 use Rattle.std.proofs.Common.{◌≡◌, ◌++◌, ◌∷◌, [], ◌∙◌, ap, sym, refl, length, take, option_to_list, arith}
 use Rattle.std.proofs.lemmas.List.{take_all, take-append-le, length_push}
 use Rattle.rbd_pages.proofs.PagingLemmas.{moved_refl, moved_trans, moved_pop, kept_pop, counted_moved, counted_last}
+use Rattle.rbd_pages.proofs.GrownLemmas.{none_refl, none_trans}
 use Rattle.rbd_pages.proofs.SheavesLemmas.{same_refl, same_trans}
 use Rattle.rbd_pages.proofs.ListsLemmas.{exchanged_kept}
 use Rattle.rbd_pages.proofs.lists.cut.Goals as goal
@@ -11,6 +12,7 @@ loop-list-init c = record {
   front = refl;
   kept = λ s some. same_refl c.args.sheaves.now s;
   used = omega arith;
+  places = none_refl c.args.sheaves.now;
 }
 
 pub release-requires : goal.release-requires
@@ -40,6 +42,7 @@ loop-list-preserved c =
           kept_pop c.loop-list.sheaves.sheaves c.release.new.self.sheaves c.unwrap-sheaf.result s c.release.ensures.changed c.release.ensures.sheaf some in
           same_trans c.args.sheaves.now c.loop-list.sheaves c.release.new.self s (was.kept s step.1) (c.release.ensures.kept s some);
       used = let fewer = c.release.ensures.used in let before = was.used in omega arith;
+      places = none_trans c.args.sheaves.now c.loop-list.sheaves c.release.new.self was.places c.release.ensures.places;
     }
 
 pub returns-clause-list : goal.returns-clause-list
@@ -56,3 +59,6 @@ returns-clause-kept c = c.loop-list.invariant.kept
 
 pub returns-clause-used : goal.returns-clause-used
 returns-clause-used c = c.loop-list.invariant.used
+
+pub returns-clause-places : goal.returns-clause-places
+returns-clause-places c = c.loop-list.invariant.places

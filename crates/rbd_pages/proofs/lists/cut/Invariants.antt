@@ -1,5 +1,6 @@
 use Rattle.std.proofs.Common.{ℕ, ◌≡◌, ◌<◌, ◌≤◌, length, take}
 use Rattle.rbd_pages.specs.Paging.{Moved}
+use Rattle.rbd_pages.specs.Places.{NoneTaken}
 use Rattle.rbd_pages.specs.Sheaves.{IsSame}
 use Rattle.rbd_pages.specs.Sheets.{count_at, in_use}
 use Rattle.rbd_pages.proofs.lists.cut.Given as goal
@@ -11,6 +12,7 @@ invariant-loop-list l = record {
   front : take l.len l.list.items ≡ take l.len l.initial.list.items;
   kept : (s : ℕ) → 0 < count_at l.sheaves.sheaves s → IsSame l.initial.sheaves l.sheaves s;
   used : in_use l.sheaves.sheets ≤ in_use l.initial.sheaves.sheets;
+  places : NoneTaken l.initial.sheaves l.sheaves;
 }
 
 abbrev pub decreases-loop-list : goal.decreases-loop-list

@@ -3,6 +3,7 @@ use Rattle.std.proofs.lemmas.List.{take_more}
 use Rattle.rbd_pages.specs.Paging.{Moved}
 use Rattle.rbd_pages.specs.Sheets.{count_at, in_use}
 use Rattle.rbd_pages.proofs.PagingLemmas.{moved_trans, moved_hold, counted_shared}
+use Rattle.rbd_pages.proofs.GrownLemmas.{none_trans}
 use Rattle.rbd_pages.proofs.SheavesLemmas.{same_trans}
 use Rattle.rbd_pages.proofs.ListsLemmas.{held_same}
 use Rattle.rbd_pages.proofs.lists.hold.Goals as goal
@@ -27,4 +28,5 @@ loop-k-preserved c =
           same_trans c.args.sheaves.now c.loop-k.sheaves c.hold.new.self s (was.all s)
           (held_same c.loop-k.sheaves c.hold.new.self p s c.in-Ok.ensures.changed c.in-Ok.ensures.pages c.in-Ok.ensures.sheets);
       used = let before = was.used in let same = ap in_use c.in-Ok.ensures.sheets in omega arith;
+      places = none_trans c.args.sheaves.now c.loop-k.sheaves c.hold.new.self was.places c.in-Ok.ensures.places;
     }

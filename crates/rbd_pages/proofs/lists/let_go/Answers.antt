@@ -2,6 +2,7 @@ use Rattle.std.proofs.Common.{◌≤◌, ◌+◌, [], length, drop, subst, rules
 use Rattle.std.proofs.lemmas.List.{drop_all}
 use Rattle.rbd_pages.specs.Paging.{Moved}
 use Rattle.rbd_pages.proofs.PagingLemmas.{moved_refl, moved_trans, moved_first, kept_pop, counted_moved, counted_first}
+use Rattle.rbd_pages.proofs.GrownLemmas.{none_refl, none_trans}
 use Rattle.rbd_pages.proofs.SheavesLemmas.{same_refl, same_trans}
 use Rattle.rbd_pages.proofs.ListsLemmas.{exchanged_kept}
 use Rattle.rbd_pages.proofs.lists.let_go.Goals as goal
@@ -11,6 +12,7 @@ loop-sheaf-init c = record {
   moved = moved_refl c.args.sheaves.now.sheaves c.args.list.now;
   kept = λ s some. same_refl c.args.sheaves.now s;
   used = omega arith;
+  places = none_refl c.args.sheaves.now;
 }
 
 pub release-requires : goal.release-requires
@@ -33,6 +35,7 @@ loop-sheaf-preserved c =
           let step = kept_pop c.loop-sheaf.sheaves.sheaves c.release.new.self.sheaves _ s c.release.ensures.changed c.release.ensures.sheaf some in
           same_trans c.args.sheaves.now c.loop-sheaf.sheaves c.release.new.self s (was.kept s step.1) (c.release.ensures.kept s some);
       used = let fewer = c.release.ensures.used in let before = was.used in omega arith;
+      places = none_trans c.args.sheaves.now c.loop-sheaf.sheaves c.release.new.self was.places c.release.ensures.places;
     }
 
 pub returns-clause-exchanged : goal.returns-clause-exchanged
@@ -47,3 +50,6 @@ returns-clause-kept c = c.loop-sheaf.invariant.kept
 
 pub returns-clause-used : goal.returns-clause-used
 returns-clause-used c = c.loop-sheaf.invariant.used
+
+pub returns-clause-places : goal.returns-clause-places
+returns-clause-places c = c.loop-sheaf.invariant.places

@@ -1,7 +1,9 @@
-use Rattle.std.proofs.Common.{arith}
+use Rattle.std.proofs.Common.{ap, arith}
 use Rattle.std.proofs.lemmas.List.{get_or_read}
+use Rattle.rbd_pages.specs.Sheets.{Sheet}
 use Rattle.rbd_pages.proofs.PagingLemmas.{counted_read}
 use Rattle.rbd_pages.proofs.ListsLemmas.{copies_made, list_prepared_refl, own_alone, own_prepared, own_refused, sheaf_alone}
+use Rattle.rbd_pages.proofs.GrownLemmas.{copy_grown, grown_refl, none_grown, none_of}
 use Rattle.rbd_pages.proofs.lists.own.Goals as goal
 
 pub count-requires : goal.count-requires
@@ -48,3 +50,19 @@ pub returns-else-count-gt1-clause-alone : goal.returns-else-count-gt1-clause-alo
 returns-else-count-gt1-clause-alone c =
     sheaf_alone c.args.sheaves.now.sheaves c.args.list.now.items c.args.m _ c.index-index.ensures c.requires.counted c.requires.there
     (let count = c.count.ensures.count in let few = c.if-count-gt1.false in omega arith)
+
+pub returns-in_err-copy-clause-grown : goal.returns-in_err-copy-clause-grown
+returns-in_err-copy-clause-grown c =
+    none_grown _ _ c.args.sheaves.now c.copy.new.self
+    (none_of c.args.sheaves.now c.copy.new.self c.in_err-copy.ensures.err c.in_err-copy.ensures.page_places c.in_err-copy.ensures.used)
+
+pub returns-in_ok-copy-clause-grown : goal.returns-in_ok-copy-clause-grown
+returns-in_ok-copy-clause-grown c =
+    copy_grown c.args.sheaves.now c.copy.new.self c.release.new.self c.args.list.now.items c.args.m c.index-index.result.now c.in_ok-copy.copy
+    (get_or_read c.args.list.now.items c.args.m _ c.requires.there c.index-index.ensures 0) c.requires.there
+    (let count = c.count.ensures.count in let more = c.if-count-gt1.true in omega arith)
+    c.in_ok-copy.ensures.free (ap (λ (s : Sheet). s.count) c.in_ok-copy.ensures.sheaf) c.in_ok-copy.ensures.changed c.in_ok-copy.ensures.most
+    c.in_ok-copy.ensures.page_places c.in_ok-copy.ensures.used c.release.ensures.places
+
+pub returns-else-count-gt1-clause-grown : goal.returns-else-count-gt1-clause-grown
+returns-else-count-gt1-clause-grown c = grown_refl _ _ c.args.sheaves.now

@@ -1,5 +1,7 @@
-use Rattle.std.proofs.Common.{arith}
+use Rattle.std.proofs.Common.{◌≡◌, ◌+◌, ◌/◌, ap, get_or, refl, subst, arith}
 use Rattle.rbd_pages.proofs.PagingLemmas.{past_first}
+use Rattle.rbd_pages.specs.Sheets.{count_at}
+use Rattle.rbd_pages.proofs.GrownLemmas.{between_next, grown_refl, page_after, pages_grown, taken_again, taken_most}
 use Rattle.rbd_pages.proofs.SheavesLemmas.{flat_most}
 use Rattle.rbd_pages.proofs.ListsLemmas.{counted_exchanged, list_prepared_refl, list_prepared_trans, own_more}
 use Rattle.rbd_pages.proofs.lists.prepare_each.Goals as goal
@@ -14,6 +16,8 @@ loop-k-init c =
       many = omega arith;
       long = omega arith;
       used = omega arith;
+      grown = grown_refl _ _ c.args.sheaves.now;
+      last = λ j from next. absurd (let f : ⊥ = omega arith in f);
       ready = λ j below early. absurd (past_first c.args.at j c.min-first.result (omega arith) early);
       from = omega arith;
       up_to = omega arith;
@@ -62,6 +66,13 @@ loop-k-preserved c =
       many = omega arith;
       long = omega arith;
       used = omega arith;
+      grown = page_after c.min-first.result c.loop-k.k _ c.args.sheaves.now c.loop-k.sheaves c.prepare_page.new.sheaves was.grown done.grown from
+          (between_next c.min-first.result c.loop-k.k _ from (taken_most c.loop-k.sheaves.sheaves c.loop-k.list.items (c.loop-k.k / 128))
+          (λ some inner. taken_again c.loop-k.sheaves.sheaves c.loop-k.list.items c.min-first.result c.loop-k.k (omega arith) some inner was.last));
+      last = λ j below next.
+          let same : c.loop-k.k / 128 ≡ j / 128 = ap (λ n. n / 128) (let is : c.loop-k.k ≡ j = omega arith in is) in
+          subst (λ m. count_at c.prepare_page.new.sheaves.sheaves (get_or c.prepare_page.new.list.items m 0) ≡ 1) same
+          (done.ready 0 (λ some. absurd (some refl))).sheaf;
       ready = λ j below early.
           own_more c.args.at c.loop-k.k c.args.bytes.now j c.needs_store.result c.loop-k.sheaves c.prepare_page.new.sheaves c.loop-k.list.items
           c.prepare_page.new.list.items done.prepared done.ready (c.needs_store.ensures j) (was.ready j below) early;
@@ -101,3 +112,20 @@ returns-clause-ready c = λ j below.
     let end = c.pages_for-end.ensures in
     let first = c.min-first.ensures in
     c.loop-k.invariant.ready j below (omega arith)
+
+pub returns-in_err-prepare_page-clause-grown : goal.returns-in_err-prepare_page-clause-grown
+returns-in_err-prepare_page-clause-grown c =
+    let was = c.loop-k.invariant in
+    let many = was.many in
+    let long = was.long in
+    let from = was.from in
+    let end = c.pages_for-end.ensures in
+    pages_grown c.min-first.result c.pages_for-end.result (c.loop-k.k + 1) _ _ c.args.sheaves.now c.prepare_page.new.sheaves c.min-first.ensures end (omega arith) (omega arith)
+    (page_after c.min-first.result c.loop-k.k _ c.args.sheaves.now c.loop-k.sheaves c.prepare_page.new.sheaves was.grown c.in_err-prepare_page.ensures.grown from
+    (between_next c.min-first.result c.loop-k.k _ from (taken_most c.loop-k.sheaves.sheaves c.loop-k.list.items (c.loop-k.k / 128))
+    (λ some inner. taken_again c.loop-k.sheaves.sheaves c.loop-k.list.items c.min-first.result c.loop-k.k (omega arith) some inner was.last)))
+
+pub returns-clause-grown : goal.returns-clause-grown
+returns-clause-grown c =
+    pages_grown c.min-first.result c.pages_for-end.result c.loop-k.k _ _ c.args.sheaves.now c.loop-k.sheaves c.min-first.ensures c.pages_for-end.ensures
+    c.loop-k.invariant.from c.loop-k.invariant.up_to c.loop-k.invariant.grown

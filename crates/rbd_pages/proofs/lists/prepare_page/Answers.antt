@@ -3,6 +3,7 @@ use Rattle.std.proofs.lemmas.List.{get_or_read}
 use Rattle.rbd_pages.specs.Sheets.{bytes_at, count_at}
 use Rattle.rbd_pages.proofs.SheavesLemmas.{near_place}
 use Rattle.rbd_pages.proofs.ListsLemmas.{counted_exchanged, list_prepared_trans, on_ok, page_longer, step_full, step_prepared, steps_made, there_after, ready_own}
+use Rattle.rbd_pages.proofs.GrownLemmas.{grown_more, grown_trans, page_grown}
 use Rattle.rbd_pages.proofs.lists.prepare_page.Goals as goal
 
 pub prepare_page-requires-clause-alone : goal.prepare_page-requires-clause-alone
@@ -57,3 +58,17 @@ returns-clause-ready c = λ byte needs.
     c.prepare_page.ensures.changed c.prepare_page.ensures.count c.prepare_page.ensures.prepared c.prepare_page.ensures.most c.prepare_page.ensures.others)) there
     c.prepare_page.ensures.count ready)
     (c.prepare_page.ensures.ready byte needs)
+
+pub returns-in_err-have-clause-grown : goal.returns-in_err-have-clause-grown
+returns-in_err-have-clause-grown c = grown_more 0 _ 1 _ c.args.sheaves.now c.have.new.sheaves c.in_err-have.ensures.grown (omega arith) (omega arith)
+
+pub returns-clause-grown : goal.returns-clause-grown
+returns-clause-grown c =
+    let there = there_after c.args.list.now.items c.have.new.list.items c.args.k c.in_ok-have.ensures.len in
+    let read = get_or_read c.have.new.list.items _ _ there c.index.ensures 0 in
+    let alone = subst (λ s. count_at c.have.new.sheaves.sheaves s ≡ 1) (sym read) c.in_ok-have.ensures.alone in
+    grown_more (0 + 1) _ 1 _ c.args.sheaves.now c.prepare_page.new.self
+    (grown_trans 0 _ 1 0 c.args.sheaves.now c.have.new.sheaves c.prepare_page.new.self c.in_ok-have.ensures.grown
+    (page_grown c.have.new.sheaves c.prepare_page.new.self _ alone c.prepare_page.ensures.count c.prepare_page.ensures.changed c.prepare_page.ensures.places
+    c.prepare_page.ensures.page_places c.prepare_page.ensures.used))
+    (omega arith) (omega arith)

@@ -4,7 +4,7 @@ use Rattle.rbd_pages.proofs.PagingLemmas.{moved_refl, moved_trans, moved_pop, us
 use Rattle.rbd_pages.proofs.pages.cut.Goals as goal
 
 pub loop-pages-init : goal.loop-pages-init
-loop-pages-init c = record { moved = moved_refl c.args.arena.now c.args.pages.now.items; front = refl; kept = λ page some. refl; used = omega arith }
+loop-pages-init c = record { moved = moved_refl c.args.arena.now c.args.pages.now.items; front = refl; kept = λ page some. refl; used = omega arith; places = refl }
 
 pub release-requires : goal.release-requires
 release-requires c =
@@ -33,6 +33,7 @@ loop-pages-preserved c =
       used =
           let fewer = used_pop c.loop-pages.arena c.release.new.self c.unwrap-page.result c.release.ensures.changed c.release.ensures.page in
           let before = was.used in omega arith;
+      places = c.release.ensures.places ∙ was.places;
     }
 
 pub returns-clause-pages : goal.returns-clause-pages
@@ -48,3 +49,6 @@ returns-clause-kept c = c.loop-pages.invariant.kept
 
 pub returns-clause-used : goal.returns-clause-used
 returns-clause-used c = c.loop-pages.invariant.used
+
+pub returns-clause-places : goal.returns-clause-places
+returns-clause-places c = c.loop-pages.invariant.places

@@ -10,6 +10,7 @@ invariant-loop-pages l = record {
   front : take l.len l.pages.items ≡ take l.len l.initial.pages.items;
   kept : (page : ℕ) → 0 < count_at l.arena page → bytes_at l.arena page ≡ bytes_at l.initial.arena page;
   used : in_use l.arena ≤ in_use l.initial.arena;
+  places : length l.arena ≡ length l.initial.arena;
 }
 
 abbrev pub decreases-loop-pages : goal.decreases-loop-pages

@@ -1,4 +1,4 @@
-use Rattle.std.proofs.Common.{◌≡◌, ◌+◌, ◌++◌, ◌∷◌, [], take, sym, subst, get_or, rules, arith}
+use Rattle.std.proofs.Common.{◌≡◌, ◌+◌, ◌++◌, ◌∷◌, ◌∙◌, [], take, sym, subst, get_or, rules, arith}
 use Rattle.std.proofs.lemmas.List.{take_more}
 use Rattle.rbd_pages.specs.Sheets.{count_at}
 use Rattle.rbd_pages.specs.Paging.{Moved}
@@ -26,4 +26,5 @@ loop-k-preserved c =
           (moved_trans c.args.arena.now c.loop-k.arena c.hold.new.self [] held (held ++ p ∷ []) was.moved
           (moved_hold c.loop-k.arena c.hold.new.self held p c.in-Ok.ensures.changed more c.in-Ok.ensures.bytes));
       used = omega arith;
+      places = c.in-Ok.ensures.places ∙ was.places;
     }

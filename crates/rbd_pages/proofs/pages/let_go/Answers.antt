@@ -3,7 +3,7 @@ use Rattle.rbd_pages.proofs.PagingLemmas.{moved_refl, moved_trans, moved_first, 
 use Rattle.rbd_pages.proofs.pages.let_go.Goals as goal
 
 pub loop-page-init : goal.loop-page-init
-loop-page-init c = record { moved = moved_refl c.args.arena.now c.args.pages.now; kept = λ page some. refl; used = omega arith }
+loop-page-init c = record { moved = moved_refl c.args.arena.now c.args.pages.now; kept = λ page some. refl; used = omega arith; places = refl }
 
 pub release-requires : goal.release-requires
 release-requires c =
@@ -25,4 +25,5 @@ loop-page-preserved c =
       used =
           let fewer = used_pop c.loop-page.arena c.release.new.self _ c.release.ensures.changed c.release.ensures.page in
           let before = was.used in omega arith;
+      places = c.release.ensures.places ∙ was.places;
     }

@@ -1,6 +1,7 @@
 use Rattle.std.proofs.lemmas.List.{get_or_read}
 use Rattle.std.proofs.Common.{arith}
 use Rattle.rbd_pages.proofs.PagingLemmas.{prepared_copy_at, counted_read, ready_alone}
+use Rattle.rbd_pages.proofs.GrownLemmas.{most_same}
 use Rattle.rbd_pages.proofs.pages.own.Goals as goal
 
 pub count-requires : goal.count-requires
@@ -15,3 +16,6 @@ returns-in_ok-copy-clause-prepared c =
 pub returns-else-count-gt1-clause-ready : goal.returns-else-count-gt1-clause-ready
 returns-else-count-gt1-clause-ready c =
     ready_alone c.args.arena.now c.args.pages.now.items c.args.k _ c.index-index.ensures c.requires.counted c.requires.there (omega arith)
+
+pub returns-else-count-gt1-clause-places : goal.returns-else-count-gt1-clause-places
+returns-else-count-gt1-clause-places c = most_same c.args.arena.now

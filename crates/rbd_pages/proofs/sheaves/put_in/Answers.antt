@@ -3,9 +3,10 @@ use Rattle.std.proofs.lemmas.List.{append-nil, get_or-set_same}
 use Rattle.std.specs.Vec.{vec_capacity}
 use Rattle.rbd_pages.specs.Places.{KnowsFree}
 use Rattle.rbd_pages.specs.Sheets.{free_sheet}
-use Rattle.rbd_pages.proofs.PlacesLemmas.{knows_more, knows_room, knows_taken, place_taken}
+use Rattle.rbd_pages.proofs.PlacesLemmas.{all_named, knows_more, knows_room, knows_taken, place_taken}
 use Rattle.rbd_pages.proofs.SheetLemmas.{changed_set, changed_push}
 use Rattle.rbd_pages.proofs.SheavesLemmas.{named_in-set, named_pushed}
+use Rattle.rbd_pages.proofs.GrownLemmas.{most_push, most_set}
 use Rattle.rbd_pages.proofs.sheaves.put_in.Goals as goal
 
 pub index_mut-requires : goal.index_mut-requires
@@ -58,3 +59,13 @@ returns-in-None-clause-known c =
     knows_more c.args.sheaves.now.items c.push_reserved.new.self.items c.pop.new.self.items _ _ c.args.sheaf
     (subst (λ free. KnowsFree c.args.sheaves.now.items free (vec_capacity c.args.free.now)) none c.requires.known)
     c.push_reserved.ensures.items c.requires.sheaf (omega arith) (omega arith)
+
+pub returns-in-Some-clause-most : goal.returns-in-Some-clause-most
+returns-in-Some-clause-most c = most_set c.args.sheaves.now.items c.in-Some.index c.args.sheaf
+
+pub returns-in-None-clause-most : goal.returns-in-None-clause-most
+returns-in-None-clause-most c =
+    let long = c.args.free.now.ok.0 in
+    let gone = c.in-None.ensures.cases.0 in
+    most_push c.args.sheaves.now.items c.push_reserved.new.self.items c.args.sheaf c.push_reserved.ensures.items c.requires.sheaf
+    (all_named c.args.sheaves.now.items c.args.free.now.items _ c.requires.known (omega arith))

@@ -2,7 +2,7 @@ use Rattle.std.proofs.Common.{◌∙◌, ap}
 use Rattle.rbd_object.specs.Changes.{after}
 use Rattle.rbd_object.specs.Mapped.{mapped_change}
 use Rattle.rbd_object.specs.Paged.{Paged}
-use Rattle.rbd_object.proofs.PagedLemmas.{pages_step, refused_paged, step_paged, wanted_is}
+use Rattle.rbd_object.proofs.PagedLemmas.{pages_step, places_step, refused_paged, step_paged, wanted_is}
 use Rattle.rbd_object.proofs.paged.PagedObject.change.Goals as goal
 use Rattle.rbd_kinds.proofs.Results.{on_err_always}
 
@@ -40,3 +40,13 @@ pub returns-clause-pages : goal.returns-clause-pages
 returns-clause-pages c =
     pages_step c.self.inside.sheaves c.change.new.sheaves c.self.inside.head c.self.inside.seq c.self.inside.versions.items c.args.self.now c.args.change
     c.self.view_is c.change.ensures.used
+
+pub returns-in_err-kept-clause-places : goal.returns-in_err-kept-clause-places
+returns-in_err-kept-clause-places c =
+    places_step c.self.inside.sheaves c.change.new.sheaves c.self.inside.head _ c.self.inside.seq _ c.self.inside.versions.items c.make_room.new.versions.items c.args.self.now c.args.change
+    c.self.view_is c.change.ensures.grown
+
+pub returns-clause-places : goal.returns-clause-places
+returns-clause-places c =
+    places_step c.self.inside.sheaves c.change.new.sheaves c.self.inside.head _ c.self.inside.seq _ c.self.inside.versions.items c.add.new.versions.items c.args.self.now c.args.change
+    c.self.view_is c.change.ensures.grown

@@ -1,7 +1,7 @@
 use Rattle.std.proofs.Common.{◌≡◌, false, None, ◌∙◌, ap, sym, subst, rules}
 use Rattle.rbd_object.specs.Paged.{Paged}
 use Rattle.rbd_object.specs.Shared.{KeepsHead, bytes_of}
-use Rattle.rbd_object.proofs.PagedLemmas.{filled_paged, refused_paged}
+use Rattle.rbd_object.proofs.PagedLemmas.{filled_paged, places_filled, refused_paged}
 use Rattle.std.proofs.Common.{refl}
 use Rattle.rbd_object.proofs.paged.PagedObject.copy_up.Goals as goal
 use Rattle.rbd_kinds.proofs.Results.{on_err_always}
@@ -33,3 +33,13 @@ returns-clause-ok c =
     let none : c.self.inside.head ≡ None = search rules in
     (filled_paged c.self.inside.sheaves c.fill.new.sheaves c.self.inside.head c.fill.new.head c.self.inside.seq c.self.inside.versions.items c.args.bytes.now c.args.self.now.shown c.in_ok-fill.ensures.ok none c.in_ok-fill.ensures.bytes
     (ap (λ (x : Paged). x.shown) c.self.view_is) c.self.invariant).1
+
+pub returns-in_err-fill-clause-places : goal.returns-in_err-fill-clause-places
+returns-in_err-fill-clause-places c =
+    places_filled _ _ c.self.inside.sheaves c.fill.new.sheaves c.self.inside.head _ c.self.inside.seq c.self.inside.versions.items c.args.self.now
+    c.self.view_is c.fill.ensures.grown
+
+pub returns-clause-places : goal.returns-clause-places
+returns-clause-places c =
+    places_filled _ _ c.self.inside.sheaves c.fill.new.sheaves c.self.inside.head _ c.self.inside.seq c.self.inside.versions.items c.args.self.now
+    c.self.view_is c.fill.ensures.grown

@@ -1,8 +1,10 @@
-use Rattle.std.proofs.Common.{refl, sym, subst, arith}
+use Rattle.std.proofs.Common.{◌≡◌, length, refl, sym, subst, arith}
 use Rattle.std.specs.Vec.{vec_capacity}
-use Rattle.rbd_pages.specs.Places.{KnowsFree}
+use Rattle.rbd_pages.specs.Places.{KeepsMost, KnowsFree}
+use Rattle.rbd_pages.specs.Sheets.{in_use}
 use Rattle.rbd_pages.proofs.PlacesLemmas.{knows_more}
 use Rattle.rbd_pages.proofs.SheetLemmas.{changed_grown, none_past, sheet_grown}
+use Rattle.rbd_pages.proofs.GrownLemmas.{most_push, most_same}
 use Rattle.rbd_pages.proofs.arena.Arena.grow.Goals as goal
 
 pub invariant_of-self-2 : goal.invariant_of-self-2
@@ -29,4 +31,11 @@ returns-clause-changed c =
     (rw (c.push_reserved.ensures.items, c.reserve-2.ensures.items) refl)
 
 pub returns-then-index : goal.returns-then-index
-returns-then-index c = record { free = tt; changed = tt; page = tt; err = refl }
+returns-then-index c = record { free = tt; changed = tt; page = tt; err = refl; most = most_same c.args.self.now }
+
+pub returns-clause-most : goal.returns-clause-most
+returns-clause-most c =
+    subst (λ sheets. KeepsMost sheets c.push_reserved.new.self.items) c.self.view_is
+    (most_push c.self.inside.pages.items c.push_reserved.new.self.items c.args.page
+    (rw (c.push_reserved.ensures.items, c.reserve-2.ensures.items) refl) c.requires.page
+    (subst (λ sheets. in_use sheets ≡ length sheets) (sym c.self.view_is) c.requires.full))

@@ -1,8 +1,10 @@
-use Rattle.std.proofs.Common.{ap, ◌∙◌, sym, arith}
+use Rattle.std.proofs.Common.{ap, ◌∙◌, set, sym, subst, arith}
 use Rattle.std.proofs.lemmas.List.{get_or-set_same}
+use Rattle.rbd_pages.specs.Places.{KeepsMost}
 use Rattle.rbd_pages.specs.Sheets.{count_at, free_sheet}
 use Rattle.rbd_pages.proofs.PlacesLemmas.{knows_room, knows_taken, place_taken}
 use Rattle.rbd_pages.proofs.SheetLemmas.{changed_at}
+use Rattle.rbd_pages.proofs.GrownLemmas.{most_set}
 use Rattle.rbd_pages.proofs.arena.Arena.insert.Goals as goal
 
 pub index_mut-requires : goal.index_mut-requires
@@ -31,3 +33,8 @@ pub returns-clause-page : goal.returns-clause-page
 returns-clause-page c =
     get_or-set_same c.self.inside.pages.items c.in-Some.index c.args.page free_sheet
     (place_taken c.self.inside.pages.items c.self.inside.free.items c.pop.new.self.items _ c.in-Some.index c.self.invariant c.in-Some.ensures.items).0
+
+pub returns-clause-most : goal.returns-clause-most
+returns-clause-most c =
+    subst (λ sheets. KeepsMost sheets (set c.self.inside.pages.items c.in-Some.index c.args.page)) c.self.view_is
+    (most_set c.self.inside.pages.items c.in-Some.index c.args.page)

@@ -5,6 +5,7 @@ use Rattle.rbd_pages.specs.Sheaves.{IsOwnPage, ArePagesPrepared, pages_in}
 use Rattle.rbd_pages.specs.Sheets.{in_use}
 use Rattle.rbd_pages.proofs.ListedLemmas.{overwritten_none, length-bytes_in, written_at, written_used}
 use Rattle.rbd_pages.proofs.content.Content.write_prepared.Goals.{else-is_empty-via-then-is_empty+else-at-self, else-is_empty-via-else-is_empty}
+use Rattle.rbd_pages.proofs.GrownLemmas.{grown_refl, grown_then_changed, written_grown}
 use Rattle.rbd_pages.proofs.content.Content.write_prepared.Goals as goal
 
 pub returns-then-at-self-clause-ok : goal.returns-then-at-self-clause-ok
@@ -67,3 +68,29 @@ returns-clause-used c =
       | else-is_empty-via-else-is_empty w ↦ inl (let some : 0 < length c.args.bytes.now = search rules in some)
     ])
     (omega arith)
+
+pub returns-then-at-self-clause-grown : goal.returns-then-at-self-clause-grown
+returns-then-at-self-clause-grown c = grown_refl _ _ c.args.sheaves.now
+
+pub returns-in_err-prepare-clause-grown : goal.returns-in_err-prepare-clause-grown
+returns-in_err-prepare-clause-grown c =
+    let len : c.self.inside.len ≡ c.args.self.now.len = ap (λ (x : Listed). x.len) c.self.view_is in
+    written_grown c.args.sheaves.now c.prepare.new.sheaves c.args.self.now.len c.args.at (length c.args.bytes.now)
+    (elim c.else-is_empty.branch [
+      | else-is_empty-via-then-is_empty+else-at-self w ↦ inr (let past = w.if-at-self.false in omega arith)
+      | else-is_empty-via-else-is_empty w ↦ inl (let some : 0 < length c.args.bytes.now = search rules in some)
+    ])
+    c.in_err-prepare.ensures.grown
+
+pub returns-clause-grown : goal.returns-clause-grown
+returns-clause-grown c =
+    let len : c.self.inside.len ≡ c.args.self.now.len = ap (λ (x : Listed). x.len) c.self.view_is in
+    let changed = c.put.ensures.written.changed in
+    grown_then_changed _ _ c.args.sheaves.now c.prepare.new.sheaves c.put.new.self
+    (written_grown c.args.sheaves.now c.prepare.new.sheaves c.args.self.now.len c.args.at (length c.args.bytes.now)
+    (elim c.else-is_empty.branch [
+      | else-is_empty-via-then-is_empty+else-at-self w ↦ inr (let past = w.if-at-self.false in omega arith)
+      | else-is_empty-via-else-is_empty w ↦ inl (let some : 0 < length c.args.bytes.now = search rules in some)
+    ])
+    c.in_ok-prepare.ensures.grown)
+    c.put.ensures.sheaves changed.places changed.used

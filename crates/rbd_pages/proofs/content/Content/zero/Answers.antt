@@ -4,6 +4,7 @@ use Rattle.rbd_pages.specs.Listed.{Listed}
 use Rattle.rbd_pages.specs.Sheaves.{pages_in}
 use Rattle.rbd_pages.specs.Sheets.{in_use}
 use Rattle.rbd_pages.proofs.ListedLemmas.{zeroed_none, zeroed_at, zeroed_used}
+use Rattle.rbd_pages.proofs.GrownLemmas.{grown_refl, grown_then_changed, zeroed_grown}
 use Rattle.rbd_pages.proofs.content.Content.zero.Goals as goal
 
 pub returns-then-count-eq0-clause-ok : goal.returns-then-count-eq0-clause-ok
@@ -53,3 +54,25 @@ returns-clause-used c =
     let some : 0 < c.min-count.result = grind (arith, c.if-count-eq0.false) in
     zeroed_used (in_use c.args.sheaves.now.sheets) (in_use c.zero.new.self.sheets) c.args.self.now.len c.args.at c.args.len c.min-from.result
     c.min-count.result (c.min-from.ensures ∙ ap (min c.args.at) len) (c.min-count.ensures ∙ ap (λ n. min c.args.len (n - c.min-from.result)) len) some (omega arith)
+
+pub returns-then-count-eq0-clause-grown : goal.returns-then-count-eq0-clause-grown
+returns-then-count-eq0-clause-grown c = grown_refl _ _ c.args.sheaves.now
+
+pub returns-in_err-prepare-clause-grown : goal.returns-in_err-prepare-clause-grown
+returns-in_err-prepare-clause-grown c =
+    let len : c.self.inside.len ≡ c.args.self.now.len = ap (λ (x : Listed). x.len) c.self.view_is in
+    let some : 0 < c.min-count.result = grind (arith, c.if-count-eq0.false) in
+    zeroed_grown c.args.sheaves.now c.prepare.new.sheaves c.args.self.now.len c.args.at c.args.len c.min-from.result
+    c.min-count.result (c.min-from.ensures ∙ ap (min c.args.at) len) (c.min-count.ensures ∙ ap (λ n. min c.args.len (n - c.min-from.result)) len) some
+    c.in_err-prepare.ensures.grown
+
+pub returns-clause-grown : goal.returns-clause-grown
+returns-clause-grown c =
+    let len : c.self.inside.len ≡ c.args.self.now.len = ap (λ (x : Listed). x.len) c.self.view_is in
+    let some : 0 < c.min-count.result = grind (arith, c.if-count-eq0.false) in
+    let changed = c.zero.ensures.zeroed.changed in
+    grown_then_changed _ _ c.args.sheaves.now c.prepare.new.sheaves c.zero.new.self
+    (zeroed_grown c.args.sheaves.now c.prepare.new.sheaves c.args.self.now.len c.args.at c.args.len c.min-from.result
+    c.min-count.result (c.min-from.ensures ∙ ap (min c.args.at) len) (c.min-count.ensures ∙ ap (λ n. min c.args.len (n - c.min-from.result)) len) some
+    c.in_ok-prepare.ensures.grown)
+    c.zero.ensures.sheaves changed.places changed.used

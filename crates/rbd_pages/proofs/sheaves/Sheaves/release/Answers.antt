@@ -1,10 +1,12 @@
-use Rattle.std.proofs.Common.{◌<◌, ap, set, sym, subst, arith}
+use Rattle.std.proofs.Common.{◌<◌, ap, refl, set, sym, subst, arith}
 use Rattle.rbd_pages.specs.Paging.{Moved}
+use Rattle.rbd_pages.specs.Places.{NoneTaken}
 use Rattle.rbd_pages.specs.Sheaves.{IsSame, Stock}
 use Rattle.rbd_pages.specs.Sheets.{Sheet, count_at}
 use Rattle.rbd_pages.proofs.PlacesLemmas.{knows_changed, knows_left, knows_room, room_for_one}
 use Rattle.rbd_pages.proofs.SheetLemmas.{changed_at, within_items}
 use Rattle.rbd_pages.proofs.SheavesLemmas.{counted_read, kept_freed, moved_read, pages_read, stocked_count, stocked_set}
+use Rattle.rbd_pages.proofs.GrownLemmas.{none_set}
 use Rattle.rbd_pages.proofs.sheaves.Sheaves.release.Goals as goal
 
 pub invariant_of-self : goal.invariant_of-self
@@ -72,3 +74,20 @@ returns-clause-kept c = λ s some.
     (moved_read c.self.inside.sheaves.items c.self.inside.arena c.free.new.arena c.args.index _ c.free.new.self below c.index_mut-sheaf.ensures.value
     (subst (Moved c.self.inside.arena _ c.free.new.arena) (sym bytes) c.free.ensures.moved)) (λ none. bytes)) below
     (ap (λ (t : Sheet). t.count) c.free.ensures.sheaf) c.free.ensures.kept s some)
+
+pub returns-then-count-gt1-clause-places : goal.returns-then-count-gt1-clause-places
+returns-then-count-gt1-clause-places c =
+    let is = ap (λ (x : Stock). x.sheaves) c.self.view_is in
+    let below = within_items c.self.inside.sheaves.items c.args.self.now.sheaves c.args.index is c.requires in
+    let named : 0 < count_at c.self.inside.sheaves.items c.args.index = rw is c.requires in
+    subst (λ (x : Stock). NoneTaken x (record { sheaves = set c.self.inside.sheaves.items c.args.index c.set_count.new.self; sheets = c.self.inside.arena })) c.self.view_is
+    (none_set c.self.inside.sheaves.items c.self.inside.arena c.self.inside.arena c.args.index c.set_count.new.self below (omega arith) refl (omega arith))
+
+pub returns-clause-places : goal.returns-clause-places
+returns-clause-places c =
+    let is = ap (λ (x : Stock). x.sheaves) c.self.view_is in
+    let below = within_items c.self.inside.sheaves.items c.args.self.now.sheaves c.args.index is c.requires in
+    let none = ap (λ (s : Sheet). s.count) c.free.ensures.sheaf in
+    subst (λ (x : Stock). NoneTaken x (record { sheaves = set c.self.inside.sheaves.items c.args.index c.free.new.self; sheets = c.free.new.arena })) c.self.view_is
+    (none_set c.self.inside.sheaves.items c.self.inside.arena c.free.new.arena c.args.index c.free.new.self below (omega arith)
+    c.free.ensures.places c.free.ensures.used)
