@@ -15,9 +15,9 @@ use Rattle.rbd_machine.specs.Standalone.{TellAllStandalone}
 use Rattle.rbd_slots.specs.declared.running.Occupant.{Occupant}
 use Rattle.rbd_slots.specs.declared.running.Occupant.TheVariants as occupant
 use Rattle.rbd_slots.specs.Session.{held_in, script_line}
-use Rattle.rbd_world.specs.Run.{Asked, Doer, Itself, OnWay, House, AfterStop, Happening, Nothing, Waited, Began, Did, Refused, Trimmed, Expired, Heard, Stopped, Restarted, asked_by, is_line_among, is_for, step_of, steps_in, steps_of}
+use Rattle.rbd_world.specs.Run.{Asked, Doer, Itself, OnWay, House, AfterStop, Happening, Nothing, Waited, Began, Did, Refused, Trimmed, Expired, Heard, Stopped, Restarted, Operation, asked_by, is_line_among, is_for, step_of, steps_in, steps_of}
 use Rattle.rbd_world.specs.Seats.{seat_at}
-use Rattle.rbd_world.specs.Sound.{LineGoesOn, IsHeldRightly, IsLedTo, IsOpen, IsReplyMeant, IsRight, IsSoundWorld, has_ended, held_of, line_at}
+use Rattle.rbd_world.specs.Sound.{EndsNoLine, IsHeldRightly, IsLedTo, IsOpen, IsReplyMeant, IsRight, IsSoundWorld, has_ended, held_of, line_at}
 use Rattle.rbd_world.specs.World.{WorldView, client_in, session_of_client}
 use Rattle.rbd_world.proofs.Quiet.{IsQuiet, quiet_began, quiet_did, quiet_expired, quiet_heard, quiet_nothing, quiet_refused, quiet_restarted, quiet_stopped, quiet_trimmed, quiet_waited}
 use Rattle.rbd_world.proofs.Runs.{unheard}
@@ -48,11 +48,11 @@ module _ (homes : ℕ → SiteId) (line : ℕ) where
   another : (other : ℕ) (run : List Happening) → has_ended line run ≡ true → IsOpen other run → (other == line) ≡ false
   another other run ended begun = ne_eqb other line (λ same. true≢false (sym ended ∙ sym (ap (λ l. has_ended l run) same) ∙ begun.unended))
 
-  for_another : (s : SiteId) (doer : Doer) (run : List Happening) → has_ended line run ≡ true → LineGoesOn homes s doer run → is_for line doer ≡ false
-  for_another s (Itself other) run ended begun = ap (λ b. b || false) (another other run ended begun)
-  for_another s (OnWay other) run ended goes = another other run ended goes.begun
-  for_another s House run ended goes = refl
-  for_another s (AfterStop slot) run ended goes = refl
+  for_another : (o : Operation) (doer : Doer) (run : List Happening) → has_ended line run ≡ true → EndsNoLine homes o doer run → is_for line doer ≡ false
+  for_another o (Itself other) run ended begun = ap (λ b. b || false) (another other run ended begun)
+  for_another o (OnWay other) run ended goes = another other run ended goes.begun
+  for_another o House run ended goes = refl
+  for_another o (AfterStop slot) run ended goes = refl
 
   abbrev LedIfEnded : List Happening → Asked → Type 0
   LedIfEnded run asked = has_ended line run ≡ true → asked_by line run ≡ Some asked → IsLed homes line run asked
@@ -79,7 +79,7 @@ module _ (homes : ℕ → SiteId) (line : ℕ) where
     where
       differ : has_ended line run ≡ true → (other.line == line) ≡ false
       differ ended = ne_eqb other.line line (λ same. true≢false (sym ended ∙ (unheard homes line run right.2 (ap (λ l. asked_by l run) (sym same) ∙ right.1.new)).unended))
-  ended_by (Did o None) run asked right rest = λ ended asks. more (Did o None) run asked (quiet_did line o None (for_another o.site o.by run ended right.1.1)) rest ended asks
+  ended_by (Did o None) run asked right rest = λ ended asks. more (Did o None) run asked (quiet_did line o None (for_another o o.by run ended right.1.1)) rest ended asks
   ended_by (Did o (Some reply)) run asked right rest = by (is_for line o.by) refl
     where
       here : (IsReplyMeant homes line reply run (Did o (Some reply) ∷ run)) ⊎ (EndsOnWay homes line reply o run o.by) → asked_by line run ≡ Some asked → IsLed homes line (Did o (Some reply) ∷ run) asked

@@ -44,7 +44,6 @@ pub mod SentOnce
 pub mod Silent
 pub mod SilentKinds
 pub mod Taught
-pub mod TaughtHeader
 pub mod WatchesEnd
 pub mod Worlds
 pub mod WritePieces

@@ -30,10 +30,10 @@ use Rattle.rbd_world.specs.Run.{Doer, Itself, OnWay, House, AfterStop, Happening
 use Rattle.rbd_world.specs.Sound.{IsRightlyDone, IsRight, Recalls, RecallsBy}
 use Rattle.rbd_world.proofs.Runs.{done_of}
 use Rattle.rbd_world.proofs.WaysOfLines.{asked_on_way, lets_go}
-use Rattle.rbd_replies.specs.Fenced.{DidBefore, DidBeforeStop, DrewId, LetsItGo, OwnsOrNone, RemovedHeader, SomeStep, removes_part}
+use Rattle.rbd_replies.specs.Fenced.{DidBefore, DidBeforeStop, DrewId, OwnsOrNone, RemovedHeader, SomeStep, removes_part}
 use Rattle.rbd_replies.proofs.LateSteps.{drew_before_stop, let_go_before_stop}
 use Rattle.rbd_replies.proofs.OnWaysOnly.{release_leaves_images, way_leaves_images}
-use Rattle.rbd_replies.proofs.Taught.{drew_it, removed_it}
+use Rattle.rbd_replies.proofs.Taught.{drew_by, removed_by}
 
 -- ---- the header is there
 
@@ -147,50 +147,43 @@ module _ (homes : ℕ → SiteId) (run : List Happening) (o : Operation) (reply 
   there = records_after o.site run
 
   -- what it knows its command did, where it is a change; and what one did that was lost
-  module _ (changes : changes_image image o.op ≡ true) (P : Doer → Answered → Type 0)
-      (late : (slot : ℕ) → o.by ≡ AfterStop slot → DidBeforeStop homes (P (AfterStop slot)) o run) where
-    by_its_command : (doer : Doer) → o.by ≡ doer → RecallsBy doer o.site o.op it.knows run → ((line : ℕ) → Recalls line o.site o.op it.knows run → SomeStep (P (Itself line)) (steps_of line run))
-        → DidBefore homes (P doer) doer o run
+  module _ (changes : changes_image image o.op ≡ true) (P : Answered → Type 0) (late : (slot : ℕ) → o.by ≡ AfterStop slot → DidBeforeStop homes P o run) where
+    by_its_command : (doer : Doer) → o.by ≡ doer → RecallsBy doer o.site o.op it.knows run → ((line : ℕ) → Recalls line o.site o.op it.knows run → SomeStep P (steps_of line run))
+        → DidBefore homes P doer o run
     by_its_command (Itself line) is recalls taught = taught line recalls
     by_its_command (OnWay line) is recalls taught =
         absurd (true≢false (sym changes ∙ way_leaves_images o.site o.op (way_of line run) (asked_on_way homes line o reply run right is) image))
     by_its_command House is recalls taught = absurd (true≢false (sym changes ∙ release_leaves_images o.op (lets_go homes 0 o reply run right is) image))
     by_its_command (AfterStop slot) is recalls taught = late slot is
 
-  drew : (line : ℕ) → is_drawn it.knows.drawn o.site image ≡ true → Recalls line o.site o.op it.knows run → SomeStep (DrewId o.site image) (steps_of line run)
-  drew line drawn recalls =
-      drew_it recalls.start.labels recalls.feds recalls.start.plan _ (steps_of line run) o.site image recalls.walk
-      (sym (ap (λ (k : Knowledge). is_drawn k.drawn o.site image) recalls.known) ∙ drawn)
-
-  removed : (line : ℕ) → is_gone it.knows.gone o.site image ≡ true → Recalls line o.site o.op it.knows run → SomeStep (RemovedHeader o.site image) (steps_of line run)
-  removed line gone recalls =
-      removed_it recalls.start.labels recalls.feds recalls.start.plan _ (steps_of line run) o.site image recalls.walk
-      (sym (ap (λ (k : Knowledge). is_gone k.gone o.site image) recalls.known) ∙ gone)
-
   pub owner_changes : changes_image image o.op ≡ true → was_done o.answer ≡ true → OwnsOrNone homes image o run
   owner_changes changes was =
       let free = free_by_change there o.instance o.op (sym (ap was_done it.answer) ∙ was) in
-      by (image_here o.site there o.instance it.knows it.truth free image o.op it.permits changes)
+      by free (image_here o.site there o.instance it.knows it.truth free image o.op it.permits changes)
     where
-      by : IsHere (there.headers image) ⊎ (MakesIt it.knows o.site image o.op ⊎ ClearsIt it.knows o.site image o.op) → OwnsOrNone homes image o run
-      by (inl here) =
+      by : IsFalse (is_fenced there o.instance) → IsHere (there.headers image) ⊎ (MakesIt it.knows o.site image o.op ⊎ ClearsIt it.knows o.site image o.op) → OwnsOrNone homes image o run
+      by free (inl here) =
           inl (record { header = here.view; there = here.is; owner = subst (λ there. IsOwner there o.instance) here.is (it.owned.change image changes was) })
-      by (inr (inl makes)) = inr (inl (record {
-        count = makes.count;
-        is = makes.is;
-        headless = (it.truth.drawn image makes.drawn).header;
-        new = it.new image makes.drawn;
-        drew = by_its_command changes (λ doer. DrewId o.site image)
-            (λ slot late. drew_before_stop homes run o reply image slot right changes late makes.count makes.is (it.new image makes.drawn))
-            o.by refl it.recalls (λ line. drew line makes.drawn);
-      }))
-      by (inr (inr clears)) = inr (inr (record {
-        is = clears.is;
-        headless = (it.truth.gone image clears.gone).header;
-        removed = by_its_command changes (λ doer. LetsItGo doer o.op o.site image)
-            (λ slot late. let_go_before_stop homes run o reply image slot right changes late clears.is)
-            o.by refl it.recalls (λ line. removed line clears.gone);
-      }))
+      by free (inr (inl makes)) =
+          let headless = (it.truth.drawn image makes.drawn).header in
+          inr (inl (record {
+            count = makes.count;
+            is = makes.is;
+            headless = headless;
+            new = it.new image makes.drawn;
+            drew = by_its_command changes (DrewId o.site image)
+                (λ slot late. drew_before_stop homes run o reply image slot right changes late free headless makes.count makes.is)
+                o.by refl it.recalls (λ line recalls. drew_by line o.site o.op it.knows run recalls image makes.drawn);
+          }))
+      by free (inr (inr clears)) =
+          let headless = (it.truth.gone image clears.gone).header in
+          inr (inr (record {
+            is = clears.is;
+            headless = headless;
+            removed = by_its_command changes (RemovedHeader o.site image)
+                (λ slot late. let_go_before_stop homes run o reply image slot right changes late free headless clears.is)
+                o.by refl it.recalls (λ line recalls. removed_by line o.site o.op it.knows run recalls image clears.gone);
+          }))
 
   pub owner_was_fenced : (owner : Instance) → o.op ≡ op.Header image (header.LockBreak owner) → o.answer ≡ answer.Done → is_fenced (records_after o.site run) owner ≡ true
   owner_was_fenced owner breaks was = it.owned.broken image owner breaks was

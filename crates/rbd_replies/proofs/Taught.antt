@@ -1,6 +1,6 @@
 -- Who knows that an id is drawn drew it by a step of his own, and who knows that a header is gone
 -- removed it so.
-use Rattle.std.proofs.Common.{◌≡◌, ◌⊎◌, inl, inr, ℕ, cond, Bool, true, false, List, [], ◌∷◌, Option, Some, None, refl, sym, ap, subst}
+use Rattle.std.proofs.Common.{◌≡◌, ◌⊎◌, inl, inr, ℕ, cond, Bool, true, false, List, [], ◌∷◌, Option, Some, None, refl, sym, ap, ◌∙◌, subst}
 use Rattle.std.proofs.lemmas.Bool.{true≢false}
 use Rattle.rbd_kinds.specs.declared.answer.Answer.{Answer}
 use Rattle.rbd_kinds.specs.declared.answer.Answer.TheVariants as answer
@@ -27,6 +27,8 @@ use Rattle.rbd_machine.specs.Wait.{Wait}
 use Rattle.rbd_machine.specs.Wait as wait
 use Rattle.rbd_interference.proofs.Less.{place_of}
 use Rattle.rbd_world.specs.Past.{known_along}
+use Rattle.rbd_world.specs.Run.{Happening, steps_of}
+use Rattle.rbd_world.specs.Sound.{Recalls}
 use Rattle.rbd_world.proofs.Unborn.{learned_drawn}
 use Rattle.rbd_replies.specs.Fenced.{DrewId, RemovedHeader, SomeStep}
 
@@ -178,3 +180,16 @@ removed_it labels feds plan last steps t image walk gone =
       | inl none ↦ absurd (true≢false (sym none))
       | inr step ↦ step
     ]
+
+-- ---- by what a line's command learned
+
+module _ (line : ℕ) (s : SiteId) (o : Op) (k : Knowledge) (before : List Happening) (recalls : Recalls line s o k before) (image : ℕ) where
+  pub drew_by : is_drawn k.drawn s image ≡ true → SomeStep (DrewId s image) (steps_of line before)
+  drew_by drawn =
+      drew_it recalls.start.labels recalls.feds recalls.start.plan _ (steps_of line before) s image recalls.walk
+      (sym (ap (λ (j : Knowledge). is_drawn j.drawn s image) recalls.known) ∙ drawn)
+
+  pub removed_by : is_gone k.gone s image ≡ true → SomeStep (RemovedHeader s image) (steps_of line before)
+  removed_by gone =
+      removed_it recalls.start.labels recalls.feds recalls.start.plan _ (steps_of line before) s image recalls.walk
+      (sym (ap (λ (j : Knowledge). is_gone j.gone s image) recalls.known) ∙ gone)

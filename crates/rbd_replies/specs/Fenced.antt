@@ -1,9 +1,8 @@
 -- What an operation of a fenced client does, and a look, which is nothing; and whose changes are.
-use Rattle.std.specs.Prelude.{◌≡◌, ◌⊎◌, ℕ, ◌==◌, Bool, true, false, List, [], ◌∷◌, ◌++◌, Option, Some, None}
+use Rattle.std.specs.Prelude.{◌≡◌, ◌⊎◌, ℕ, ◌==◌, Bool, true, false, List, [], ◌∷◌, ◌++◌, Option, None}
 use Rattle.rbd_kinds.specs.declared.answer.Answer.TheVariants as answer
 use Rattle.rbd_kinds.specs.declared.data_op.DataOp.TheVariants as object
 use Rattle.rbd_kinds.specs.declared.directory_op.DirectoryOp.TheVariants as directory
-use Rattle.rbd_kinds.specs.declared.header.HeaderView.{HeaderView}
 use Rattle.rbd_kinds.specs.declared.header_op.HeaderOp.TheVariants as header
 use Rattle.rbd_kinds.specs.declared.id.Instance.{Instance}
 use Rattle.rbd_kinds.specs.declared.id.SiteId.{SiteId}
@@ -78,13 +77,6 @@ pub record RemovedHeader (s : SiteId) (image : ℕ) (step : Answered) : Type 0 w
   pub removes : step.op ≡ op.Header image header.Remove
   pub done : step.answer ≡ answer.Done
 
--- the header of an image was told
-pub record ToldHeader (s : SiteId) (image : ℕ) (step : Answered) : Type 0 where
-  pub site : step.site ≡ s
-  pub looks : step.op ≡ op.Header image header.Get
-  pub header : HeaderView
-  pub told : step.answer ≡ answer.Header header
-
 -- The operation makes a map of an image that has no header and never had one: so nobody can own the
 -- image. Its maker drew the image's id.
 pub record MakesMap (homes : ℕ → SiteId) (image : ℕ) (o : Operation) (before : List Happening) : Type 0 where
@@ -100,21 +92,12 @@ removes_part image (op.Data other number (object.Remove context)) = other == ima
 removes_part image (op.Map other (states.Remove view)) = other == image
 removes_part image _ = false
 
--- What a command had done that removes a part of an image without a header: it had removed the
--- header. The command of a lost line may have been told the header instead, which went since; but
--- not where it removes the head's map.
-abbrev pub LetsItGo : Doer → Op → SiteId → (image : ℕ) → Answered → Type 0
-LetsItGo (AfterStop slot) (op.Data other number o) s image step = RemovedHeader s image step ⊎ ToldHeader s image step
-LetsItGo (AfterStop slot) (op.Map other (states.Remove (Some snap))) s image step = RemovedHeader s image step ⊎ ToldHeader s image step
-LetsItGo by o s image step = RemovedHeader s image step
-
 -- The operation removes what is left of an image whose header is gone: so nobody owns the image any
--- more. The command had removed the header; or the operation came late, and its command knew the
--- image.
+-- more. Its command had removed the header.
 pub record RemovesRest (homes : ℕ → SiteId) (image : ℕ) (o : Operation) (before : List Happening) : Type 0 where
   pub is : removes_part image o.op ≡ true
   pub headless : (records_after o.site before).headers image ≡ None
-  pub removed : DidBefore homes (LetsItGo o.by o.op o.site image) o.by o before
+  pub removed : DidBefore homes (RemovedHeader o.site image) o.by o before
 
 -- Who changes an image has its lock, by its header; or makes the map of an image whose id it drew
 -- and that has no header yet; or removes what is left of one whose header it removed. Of an

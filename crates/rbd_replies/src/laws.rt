@@ -202,9 +202,8 @@ pub fn fences_are_told()
 /// What is left of an image whose header was removed, its objects and its maps, goes without a lock
 /// too, since there is none any more: by the command that removed the header. Of an operation that
 /// a stopped life had sent this is said of the command of a line that was lost by the life's stop,
-/// which stood there at just this operation; but such a command that removes an object or the map
-/// of a snapshot may have been told the header before, by a look, in the place of having removed
-/// it. What is done to a lock, to those that watch and to what they are told changes no image.
+/// which stood there at just this operation. What is done to a lock, to those that watch and to
+/// what they are told changes no image.
 pub fn changes_are_the_owners()
     ensures owned { (homes : ℕ → Site) (run : List Happening) (o : Operation) (reply : Option Reply) (image : ℕ)
         → IsRight homes (Did o reply ∷ run) → changes_image image o.op ≡ true → was_done o.answer ≡ true

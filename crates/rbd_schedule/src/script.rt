@@ -62,12 +62,11 @@ impl Runner {
         Ok(())
     }
 
-    /// That no world has had as many events: its calls lie in memory, more than 32 bytes each, and
-    /// no slice has 2^63 bytes.
+    /// That no world has had as many events: it takes no more.
     fn few_events(&self)
         ensures { length (seen self.now.world).calls < 2 ^ 59 }
     {
-        let _calls = self.world.calls();
+        let _events = self.world.events();
     }
 
     /// What a line does when it is reached.

@@ -8,7 +8,7 @@ use Rattle.rbd_kinds.specs.declared.reply.Reply.{Reply}
 use Rattle.rbd_slots.specs.Session.{held_in}
 use Rattle.rbd_world.specs.Late.{comes_among, comes_in, is_late, is_stopped_among, stops_in}
 use Rattle.rbd_world.specs.Run.{Asked, Doer, Itself, OnWay, House, AfterStop, Happening, Nothing, Waited, Began, Did, Refused, Trimmed, Expired, Heard, Stopped, Restarted, Life, Operation, Sent, asked_by, comes_of, ends, life_after, or_asked, sent_after, sent_behind, sent_of}
-use Rattle.rbd_world.specs.Sound.{EndsItsLine, LineGoesOn, IsDue, IsOf, IsOpen, IsRight, IsRunning, has_ended}
+use Rattle.rbd_world.specs.Sound.{EndsItsLine, EndsNoLine, IsDue, IsOf, IsOpen, IsRight, IsRunning, has_ended}
 
 -- ---- a line that is open is of a life that runs
 
@@ -73,7 +73,7 @@ module _ (homes : ℕ → SiteId) (line : ℕ) where
 
 -- its line goes on or ends, where it is for one
 data GoesOrEnds (homes : ℕ → SiteId) (o : Operation) (run : List Happening) (by : Doer) : Type 0 where
-  On : LineGoesOn homes o.site by run → GoesOrEnds homes o run by
+  On : EndsNoLine homes o by run → GoesOrEnds homes o run by
   To : (told : Reply) → EndsItsLine homes o told run by → GoesOrEnds homes o run by
 
 -- who has an operation done runs, unless it had sent it before it was stopped

@@ -154,6 +154,7 @@ module _ {R : Type 0} (stands : R → Standing) where
     owns = λ session c is s image. ap (λ (l : LockState). l.owned) ((has_first w new session c is).fresh.locks s image);
     late = none_late w new;
     sending = λ session slot x is. absurd (none-some x (sym (none_late w new session slot) ∙ is));
+    was_left = λ session slot x is. absurd (none-some x (sym (none_late w new session slot) ∙ is));
     unsent = λ session slot none. refl;
     drops = λ session slot there x differ is. absurd (none-some x (sym (none_late w new session slot) ∙ is));
     new = λ h s image drawn. tt;

@@ -37,7 +37,7 @@ use Rattle.rbd_world.specs.declared.sites.Sites.{Sites}
 use Rattle.rbd_world.specs.Order.{AreWritesInOrder, IsInTurn}
 use Rattle.rbd_world.specs.Past.{HadNoHeader}
 use Rattle.rbd_world.specs.Run.{Happening, Nothing, Waited, Began, Did, Refused, Trimmed, Expired, Heard, Stopped, Restarted, Sent, IsOfEvent, entries_of, flat_after, lines_at, log_of, mail_of, records_after, records_behind, sent_after}
-use Rattle.rbd_world.specs.Sound.{AreLinesApart, AreInSlots, AreLivesOf, AreStrangers, Holder, InSlot, Sending, IsDue, IsLiving, IsSoundWorld, IsStanding, MayStillCome, known_in}
+use Rattle.rbd_world.specs.Sound.{AreLinesApart, AreInSlots, AreLivesOf, AreStrangers, Holder, InSlot, Sending, IsDue, IsLiving, IsSoundWorld, IsStanding, MayStillCome, WasLeft, known_in}
 use Rattle.rbd_world.specs.Step.{Does, DoesAtSites, begins_of, call_of, come, delivered, done_by, ended_watch, goes_on_by, happening, heard_by, is_begun, mail_then, polled, polled_in, releases, restarted, restarted_of, stopped, submitted}
 use Rattle.rbd_world.specs.World.{LivesView, WorldView, client_in, late_at, lives_in, records_in, site_in}
 use Rattle.rbd_world.proofs.Exactly.{IsOwedFor, exact_then}
@@ -180,6 +180,8 @@ module _ {R : Type 0} (stands : R → Standing) where
     pub late : (session slot : ℕ) → late_at session slot new.lives ≡ sent_after session slot (h ∷ w.told.run)
     pub sending : (session slot : ℕ) (x : Sent) → late_at session slot new.lives ≡ Some x
         → (who (Sending session slot) ≡ x.instance) × MayStillCome session (λ s. records_in s new.sites) x (knows (Sending session slot))
+    pub was_left : (session slot : ℕ) (x : Sent) → late_at session slot new.lives ≡ Some x
+        → WasLeft w.told.homes slot x.instance x.site x.op (knows (Sending session slot)) (h ∷ w.told.run)
     pub unsent : (session slot : ℕ) → late_at session slot new.lives ≡ None → knows (Sending session slot) ≡ nothing_known
     pub drops : (session slot there : ℕ) (x : Sent) → slot ≢ there → late_at session slot new.lives ≡ Some x → (r : Records)
         → MayAct x.site r (who (Sending session slot)) (who (Sending session there)) (knows (Sending session slot)) (knows (Sending session there)) x.op
@@ -243,6 +245,7 @@ module _ {R : Type 0} (stands : R → Standing) where
         owns = λ m d is. owns_now stands old new w e h is_of by_client carries.due does m d is (carries.clients m d is).whose;
         late = carries.late;
         sending = carries.sending;
+        was_left = carries.was_left;
         unsent = carries.unsent;
         drops = carries.drops;
         new = λ g s image drawn. (none_now g s image drawn, carries.none_yet g s image drawn);

@@ -34,7 +34,7 @@ use Rattle.rbd_world.specs.declared.event.Event.{Event}
 use Rattle.rbd_world.specs.declared.event.Event.TheVariants as event
 use Rattle.rbd_world.specs.Run.{AfterStop, Happening, Sent, sent_after, sent_of}
 use Rattle.rbd_world.specs.Past.{HadNoHeader}
-use Rattle.rbd_world.specs.Sound.{AreLivesOf, AreStrangers, Holder, InSlot, Sending, IsRightlyDone, IsSoundWorld, MayStillCome, held_of, known_in, line_at}
+use Rattle.rbd_world.specs.Sound.{AreLivesOf, AreStrangers, Holder, InSlot, Sending, IsRightlyDone, IsSoundWorld, KnewTruly, MayStillCome, WasLeft, held_of, known_in, line_at}
 use Rattle.rbd_world.specs.Step.{BecomesOf, Does, DoesAtSites, LivesOnIf, come, operation_at, without_sent}
 use Rattle.rbd_world.specs.World.{LateView, LivesView, WorldView, client_in, late_at, late_of, lives_in, records_in, running_of, sent_in, session_of_client, site_in}
 use Rattle.rbd_world.proofs.AtSites.{beside_then, is_done, known_then, locks_then, others_true, sending_then, stands_then, whole_then}
@@ -42,6 +42,7 @@ use Rattle.rbd_world.proofs.Carried.{IsCarried}
 use Rattle.rbd_world.proofs.Changed.{IsElsewhere, here_or_elsewhere, lives_there, living_on, same_or_other}
 use Rattle.rbd_world.proofs.Debts.{none_sent}
 use Rattle.rbd_world.proofs.Elsewhere.{IsAs, Same, Silent, beside_still, unknown_looks, new_still}
+use Rattle.rbd_world.proofs.Left.{left_on}
 use Rattle.rbd_world.proofs.OrderedWorld.{no_turn, order_on}
 use Rattle.rbd_world.proofs.Quiet.{IsQuiet, quiet_did}
 use Rattle.rbd_world.proofs.Watching.{EndsNone, others_end_none}
@@ -217,6 +218,10 @@ module _ {R : Type 0} (stands : R → Standing) (old new : WorldView R) (w : IsS
       is_done stands old new w x.instance (AfterStop slot) x.site x.op None goes_by known permits locked at_sites
       (λ image drawn. w.new (Sending session slot) x.site image (less_drawn x.op k x.site image drawn)) tt
       (ap (λ i. sent_after i slot w.told.run) may.whose ∙ sym (w.late session slot) ∙ sent) tt
+
+  -- what its slot knew at the stop is true here
+  truly : KnewTruly w.told.homes slot (operation_at (site_in x.site old.sites) x.instance (AfterStop slot) x.site x.op) w.told.run
+  truly = record { knew = k; left = w.was_left session slot x sent; truth = subst (λ r. IsTrueAt x.site r x.instance k) (w.told.records x.site) (may.truth x.site) }
 
   -- ---- who is where
 
@@ -394,6 +399,12 @@ module _ {R : Type 0} (stands : R → Standing) (old new : WorldView R) (w : IsS
       let before = sym (late_elsewhere m y apart) ∙ is in
       ((w.sending m y z before).0, subst (MayStillCome m (λ s. records_in s new.sites) z) (sym (knows_there m y apart)) (sending_before m y z apart before))
 
+  left_now : (m y : ℕ) (z : Sent) → late_at m y new.lives ≡ Some z → WasLeft w.told.homes y z.instance z.site z.op (knows_then (Sending m y)) (h ∷ w.told.run)
+  left_now m y z is =
+      let apart = elsewhere m y z is in
+      subst (λ j. WasLeft w.told.homes y z.instance z.site z.op j (h ∷ w.told.run)) (sym (knows_there m y apart))
+      (left_on w.told.homes y z.instance z.site z.op (w.knows (Sending m y)) h w.told.run refl (w.was_left m y z (sym (late_elsewhere m y apart) ∙ is)))
+
   unsent_now : (m y : ℕ) → late_at m y new.lives ≡ None → knows_then (Sending m y) ≡ nothing_known
   unsent_now m y is = by (here_or_elsewhere session slot m y)
     where
@@ -441,7 +452,7 @@ module _ {R : Type 0} (stands : R → Standing) (old new : WorldView R) (w : IsS
     knows = knows_then;
     carries = record {
       standing = stands_then stands old new w x.instance (AfterStop slot) x.site x.op None goes_by known permits locked at_sites;
-      due = (due, tt);
+      due = (due, truly);
       whole = whole_then stands old new w x.instance (AfterStop slot) x.site x.op None goes_by known permits locked at_sites;
       lives = lives_now;
       clients = λ m q is. living_on stands (w.told.homes m) m h w.told.run (λ n life. refl) (known_in w.knows m) q (λ y line at. quiet line) (refl, ends_none m q (was m q is)) (w.clients m q (was m q is));
@@ -452,6 +463,7 @@ module _ {R : Type 0} (stands : R → Standing) (old new : WorldView R) (w : IsS
       truth = λ m q is s. truth_now m q (was m q is) s;
       late = late_now;
       sending = sending_now;
+      was_left = left_now;
       unsent = unsent_now;
       drops = drops_now;
       beside = beside_still w.who w.who w.knows knows_then (λ s. records_in s new.sites)
@@ -461,7 +473,7 @@ module _ {R : Type 0} (stands : R → Standing) (old new : WorldView R) (w : IsS
       none_yet = new_still w.who w.who w.knows knows_then (λ s image. HadNoHeader s image w.told.run) w.new each_is;
       owes = λ calm. absurd (none-some x (sym (none_sent session slot w.told.run calm.1) ∙ sym (w.late session slot) ∙ sent));
       turn = no_turn (operation_at (site_in x.site old.sites) x.instance (AfterStop slot) x.site x.op) None w.told.run (λ line. refl);
-      in_order = λ m q is. order_on stands old new w h (due, tt) m q (was m q is) (λ y line at. quiet line) (λ other writer. refl);
+      in_order = λ m q is. order_on stands old new w h (due, truly) m q (was m q is) (λ y line at. quiet line) (λ other writer. refl);
     };
   }
 

@@ -34,7 +34,7 @@ use Rattle.rbd_site.proofs.StepLemmas.{other_blocklist}
 use Rattle.rbd_world.specs.Owing.{HasNoHindrance, has_worked, is_hindrance, is_of, owed_in}
 use Rattle.rbd_world.specs.Run.{Doer, Itself, OnWay, House, AfterStop, Happening, Nothing, Waited, Began, Did, Refused, Trimmed, Expired, Heard, Stopped, Restarted, Asked, Operation, asked_by, comes_of, fence_of, is_for, is_own, records_after, sent_after, step_of, steps_in, steps_of}
 use Rattle.rbd_world.specs.Seats.{seat_at}
-use Rattle.rbd_world.specs.Sound.{EndsItsLine, LineGoesOn, IsRightlyDone, IsDue, IsLedTo, IsOpen, IsRight}
+use Rattle.rbd_world.specs.Sound.{EndsItsLine, EndsNoLine, IsRightlyDone, IsDue, IsLedTo, IsOpen, IsRight}
 use Rattle.rbd_world.proofs.Quiet.{IsQuiet, open_on, quiet_began, quiet_did, quiet_expired, quiet_heard, quiet_nothing, quiet_refused, quiet_restarted, quiet_trimmed, quiet_waited}
 use Rattle.rbd_world.proofs.Runs.{done_of}
 
@@ -104,7 +104,7 @@ module _ (homes : ℕ → SiteId) (line : ℕ) (p : Spot) (run : List Happening)
   abbrev goes_on : (o : Operation) → IsOpen line run → IsOpen line (Did o None ∷ run)
   goes_on o begun = record { asked = begun.asked; is = begun.is; unended = begun.unended }
 
-  open_did : (o : Operation) (by : Doer) → o.by ≡ by → LineGoesOn homes o.site by run → owed_in (Did o None ∷ run) line ≡ Some p → IsOpen line (Did o None ∷ run)
+  open_did : (o : Operation) (by : Doer) → o.by ≡ by → EndsNoLine homes o by run → owed_in (Did o None ∷ run) line ≡ Some p → IsOpen line (Did o None ∷ run)
   open_did o (Itself other) is begun owes = go (other == line) refl
     where
       go : (b : Bool) → (other == line) ≡ b → IsOpen line (Did o None ∷ run)

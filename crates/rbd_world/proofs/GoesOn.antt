@@ -19,6 +19,7 @@ use Rattle.rbd_world.specs.World.{WorldView, client_in, late_at, records_in}
 use Rattle.rbd_world.proofs.Carried.{HasWholeImages, IsCarried, StandFlat}
 use Rattle.rbd_world.proofs.Changed.{GoesOnAs, IsLifeless, SendsNothing, client_is, clients_stay, late_stays, lives_go_on, living_on, same_or_other}
 use Rattle.rbd_world.proofs.Exactly.{IsOwedFor}
+use Rattle.rbd_world.proofs.Left.{left_on, stops_none}
 use Rattle.rbd_world.proofs.OrderedWorld.{orders_of}
 use Rattle.rbd_world.proofs.Quiet.{IsQuiet}
 use Rattle.rbd_world.proofs.Watching.{EndsNone}
@@ -111,6 +112,8 @@ module _ {R : Type 0} (stands : R → Standing) (old new : WorldView R) (w : IsS
         truth = λ m q is s. truth_by m q is s (same_or_other m session);
         late = λ m x. late_same m x ∙ w.late m x ∙ sym (sends m x (sent_after m x w.told.run));
         sending = λ m x y is. let before = sym (late_same m x) ∙ is in ((w.sending m x y before).0, sending m x y before);
+        was_left = λ m x y is.
+            left_on w.told.homes x y.instance y.site y.op (w.knows (Sending m x)) h w.told.run (stops_none h sends y.instance.session) (w.was_left m x y (sym (late_same m x) ∙ is));
         unsent = λ m x none. w.unsent m x (sym (late_same m x) ∙ none);
         drops = λ m x z y differ is. w.drops m x z y differ (sym (late_same m x) ∙ is);
         none_yet = λ g s image. new_by g s image (whose g);

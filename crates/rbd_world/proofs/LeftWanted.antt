@@ -1,4 +1,5 @@
--- Where an instance is stopped: for whom each of its slots wanted what it may still send.
+-- Where an instance is stopped: for whom each of its slots wanted what it may still send, and what
+-- that one knew.
 use Rattle.std.proofs.Common.{◌≡◌, ℕ, ◌==◌, cond, Bool, true, false, List, Option, Some, None, refl, sym, ap, ◌∙◌, subst}
 use Rattle.std.proofs.lemmas.Bool.{eqb-true, true≢false}
 use Rattle.std.proofs.lemmas.Option.{none-some, same_Some}
@@ -12,8 +13,10 @@ use Rattle.rbd_client.proofs.OnWay.{is_release, on_way_no_release, way_waits}
 use Rattle.rbd_kinds.specs.declared.id.Instance.{Instance}
 use Rattle.rbd_kinds.specs.declared.id.SiteId.{SiteId}
 use Rattle.rbd_kinds.specs.declared.operation.Op.{Op}
+use Rattle.rbd_knowledge.specs.ClientsKnowing.{known_on_way, known_to, known_to_release}
 use Rattle.rbd_knowledge.proofs.Wanting.{Wants, wants}
 use Rattle.rbd_machine.specs.Knowledge.{Knowledge}
+use Rattle.rbd_machine.specs.Path.{IsWalk}
 use Rattle.rbd_machine.specs.Plan.{Standing}
 use Rattle.rbd_lock.specs.Acquire.{op_of}
 use Rattle.rbd_lock.specs.Release.{release_op}
@@ -26,7 +29,7 @@ use Rattle.rbd_slots.specs.Session.{held_in, is_look_at, kind_asked, look_under_
 use Rattle.rbd_world.specs.Run.{Asked, Doer, Itself, OnWay, House, Happening, asked_by, is_line_among, is_for, steps_of, way_of}
 use Rattle.rbd_world.specs.Seats.{seat_at}
 use Rattle.rbd_world.specs.Sending.{doer_at}
-use Rattle.rbd_world.specs.Sound.{IsHeldRightly, IsLedTo, IsStillSent, IsLiving, IsUnderWay, KeepsToItsWay, TakesAlone}
+use Rattle.rbd_world.specs.Sound.{HasLearned, HasLearnedIf, IsHeldRightly, IsLedTo, IsStillSent, IsLiving, IsUnderWay, KeepsToItsWay, Recalls, RecallsBy, TakesAlone}
 use Rattle.rbd_world.specs.Ways.{AgreesWithWay, IsNextOfRelease}
 use Rattle.rbd_world.proofs.LetGo.{next_of_release}
 use Rattle.rbd_world.proofs.Watching.{takes_behind_watch, way_watched}
@@ -178,3 +181,40 @@ module _ {R : Type 0} (stands : R → Standing) (homes : ℕ → SiteId) (sessio
           (by_way x a acts (held_in x c.session.slots) refl waiting.request waiting.runs)
       by (actor.Release z) acts is =
           subst (λ w. Left x w (doer_in (held_in x c.session.slots) (actor.Release z))) (same_Some (z.site, release_op z) p is) (by_house x z acts)
+
+  -- ---- what it goes by
+
+  -- a request goes by what a walk of its command taught
+  by_what_it_learned : (x : ℕ) (p : SiteId × Op) → Wants stands x c.session.lines p.0 p.1 (held_in x c.session.slots) → RecallsBy (doer_in (held_in x c.session.slots) actor.Request) p.0 p.1 (knows x) run
+  by_what_it_learned x p w = subst (λ h. RecallsBy (doer_in h actor.Request) p.0 p.1 (knows x) run) (sym w.is) recalls
+    where
+      has : HasLearned stands run w.request (knows x)
+      has = subst (λ r. HasLearnedIf stands run r (knows x)) (ap running_in w.is) (living.learned x)
+
+      recalls : Recalls w.request.line p.0 p.1 (knows x) run
+      recalls = record {
+        begun = has.begun;
+        seat = has.seat;
+        start = has.start;
+        plan = has.plan;
+        feds = has.feds;
+        why = w.why;
+        next = w.next;
+        walk = subst (IsWalk has.start.labels has.start.plan has.feds (steps_of w.request.line run)) w.plan has.walk;
+        known = has.known;
+      }
+
+  -- and a way by nothing that its request learned
+  by_its_way : (a : Acquire) (s : SiteId) (o : Op) (k : Knowledge) (h : Option (Occupant R)) → RecallsBy (doer_in h (actor.Way a)) s o k run
+  by_its_way a s o k None = tt
+  by_its_way a s o k (Some (occupant.Refused line refusal)) = tt
+  by_its_way a s o k (Some (occupant.Running r)) = tt
+
+  pub recalls_of : (x : ℕ) (p : SiteId × Op) → op_wanted stands x c ≡ Some p → RecallsBy (for_whom x) p.0 p.1 (known_to (knows x) (actor_at stands x c)) run
+  recalls_of x p is = by (actor_at stands x c) refl is
+    where
+      by : (m : Actor) → actor_at stands x c ≡ m → op_by stands x c.session m ≡ Some p → RecallsBy (doer_in (held_in x c.session.slots) m) p.0 p.1 (known_to (knows x) m) run
+      by actor.Nobody acts is = absurd (none-some p is)
+      by actor.Request acts is = by_what_it_learned x p (wants stands x c.session.lines p.0 p.1 (held_in x c.session.slots) is)
+      by (actor.Way a) acts is = by_its_way a p.0 p.1 (known_on_way a) (held_in x c.session.slots)
+      by (actor.Release z) acts is = subst (λ h. RecallsBy (doer_in h (actor.Release z)) p.0 p.1 (known_to_release z) run) (sym (is_free x z acts)) tt

@@ -22,6 +22,7 @@ pub mod InLine
 pub mod InOrder
 pub mod KeptAhead
 pub mod Latest
+pub mod Left
 pub mod LeftWanted
 pub mod LetGo
 pub mod LetsGoFirst

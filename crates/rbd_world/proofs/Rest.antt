@@ -23,12 +23,13 @@ use Rattle.rbd_world.specs.declared.event.Event.{Event}
 use Rattle.rbd_world.specs.LetGo.{moves_house}
 use Rattle.rbd_world.specs.Order.{IsInTurn}
 use Rattle.rbd_world.specs.Run.{Happening, Nothing, Waited, Trimmed, Expired, Sent, life_after, records_after, flat_after, sent_after}
-use Rattle.rbd_world.specs.Sound.{AreLivesOf, IsDue, IsExpired, IsRight, IsSoundWorld, IsTrimmed, MayStillCome, held_of, known_in, line_at}
+use Rattle.rbd_world.specs.Sound.{AreLivesOf, IsDue, IsExpired, IsRight, IsSoundWorld, IsTrimmed, MayStillCome, Sending, held_of, known_in, line_at}
 use Rattle.rbd_world.specs.Step.{Does, DoesAtSites, LivesOn, LivesOnIf, names_session, next_number}
 use Rattle.rbd_world.specs.World.{LivesView, WorldView, client_in, late_at, late_of, lives_in, records_in, running_of, sent_in, session_of_client, site_in}
 use Rattle.rbd_world.proofs.Carried.{HasWholeImages, IsCarried, StandFlat, whole_in}
 use Rattle.rbd_world.proofs.Changed.{IsLifeless, SendsNothing, living_on}
 use Rattle.rbd_world.proofs.Exactly.{IsOwedFor}
+use Rattle.rbd_world.proofs.Left.{left_on, stops_none}
 use Rattle.rbd_world.proofs.OrderedWorld.{order_on}
 use Rattle.rbd_world.proofs.Quiet.{IsQuiet, quiet_expired, quiet_nothing, quiet_trimmed, quiet_waited}
 use Rattle.rbd_world.proofs.Slots.{open_back, same_slots}
@@ -123,6 +124,9 @@ module _ {R : Type 0} (stands : R → Standing) (old new : WorldView R) (w : IsS
       sending = λ session slot x is.
           let was = w.sending session slot x (sym (late_same session slot) ∙ is) in
           (was.0, still_may_come (λ s. records_in s new.sites) stays session x _ was.1);
+      was_left = λ session slot x is.
+          left_on w.told.homes slot x.instance x.site x.op (w.knows (Sending session slot)) h w.told.run (stops_none h sends x.instance.session)
+          (w.was_left session slot x (sym (late_same session slot) ∙ is));
       unsent = λ session slot none. w.unsent session slot (sym (late_same session slot) ∙ none);
       drops = λ session slot there x differ is. w.drops session slot there x differ (sym (late_same session slot) ∙ is);
       none_yet = w.new;

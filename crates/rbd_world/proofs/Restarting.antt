@@ -22,6 +22,7 @@ use Rattle.rbd_world.proofs.Beginning.{fresh_living, fresh_runs_none, fresh_true
 use Rattle.rbd_world.proofs.Carried.{IsCarried, whole_in}
 use Rattle.rbd_world.proofs.Changed.{same_or_other}
 use Rattle.rbd_world.proofs.Elsewhere.{IsAs, Same, Silent, beside_still, known_but, known_there, lives_still, living_still, nothing_here, new_still}
+use Rattle.rbd_world.proofs.Left.{left_on}
 use Rattle.rbd_world.proofs.LetGo.{moved_releases, other_instance}
 use Rattle.rbd_world.proofs.OrderedWorld.{none_in_order, order_on}
 use Rattle.rbd_world.proofs.Quiet.{quiet_restarted}
@@ -207,6 +208,7 @@ module _ {R : Type 0} (stands : R → Standing) (old new : WorldView R) (w : IsS
       sending = λ m x y is.
           let before = w.sending m x y (sym (late_same m x) ∙ is) in
           (before.0, still_may_come stands old new w (λ s. records_in s new.sites) stays m y _ before.1);
+      was_left = λ m x y is. left_on w.told.homes x y.instance y.site y.op (w.knows (Sending m x)) h w.told.run refl (w.was_left m x y (sym (late_same m x) ∙ is));
       unsent = λ m x is. w.unsent m x (sym (late_same m x) ∙ is);
       drops = λ m x z y differ is. w.drops m x z y differ (sym (late_same m x) ∙ is);
       beside = beside_still w.who who_then w.knows knows_then (λ s. records_in s new.sites)

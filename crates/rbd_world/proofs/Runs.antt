@@ -11,7 +11,7 @@ use Rattle.rbd_flat.specs.declared.entry.Cause.{Cause}
 use Rattle.rbd_flat.specs.declared.entry.Entry.TheVariants as entry
 use Rattle.rbd_kinds.specs.declared.id.Instance.{Instance}
 use Rattle.rbd_world.specs.Run.{Asked, Doer, Itself, OnWay, House, AfterStop, Happening, Nothing, Waited, Began, Did, Refused, Trimmed, Expired, Heard, Stopped, Restarted, Operation, asked_by, ending_entries, ends, entries_of, entry_by, entry_unfenced, history_of, is_line_among, is_for, or_asked, reply_entries, steps_in, steps_of, way_in, way_of}
-use Rattle.rbd_world.specs.Sound.{EndsItsLine, LineGoesOn, IsDue, IsOpen, IsRight, has_ended, AreStanding, IsRightlyDone}
+use Rattle.rbd_world.specs.Sound.{EndsItsLine, EndsNoLine, IsDue, IsOpen, IsRight, has_ended, AreStanding, IsRightlyDone}
 use Rattle.rbd_world.specs.Step.{is_begun, is_start_of}
 use Rattle.rbd_world.proofs.Quiet.{IsQuiet, quiet_began, quiet_did, quiet_expired, quiet_heard, quiet_nothing, quiet_refused, quiet_restarted, quiet_stopped, quiet_trimmed, quiet_waited}
 
@@ -118,11 +118,11 @@ unheard_more line h run u quiet = record {
 }
 
 -- an operation whose line goes on is for no line that nobody began
-goes_for_another : (homes : ℕ → SiteId) (s : SiteId) (line : ℕ) (run : List Happening) (by : Doer) → asked_by line run ≡ None → LineGoesOn homes s by run → is_for line by ≡ false
-goes_for_another homes s line run (Itself other) none begun = ap (λ b. b || false) (other_line line other run none begun)
-goes_for_another homes s line run (OnWay other) none goes = other_line line other run none goes.begun
-goes_for_another homes s line run House none begun = refl
-goes_for_another homes s line run (AfterStop slot) none begun = refl
+goes_for_another : (homes : ℕ → SiteId) (o : Operation) (line : ℕ) (run : List Happening) (by : Doer) → asked_by line run ≡ None → EndsNoLine homes o by run → is_for line by ≡ false
+goes_for_another homes o line run (Itself other) none begun = ap (λ b. b || false) (other_line line other run none begun)
+goes_for_another homes o line run (OnWay other) none goes = other_line line other run none goes.begun
+goes_for_another homes o line run House none goes = refl
+goes_for_another homes o line run (AfterStop slot) none goes = refl
 
 ends_another : (homes : ℕ → SiteId) (line : ℕ) (run : List Happening) (o : Operation) (reply : Reply) (by : Doer) → asked_by line run ≡ None → EndsItsLine homes o reply run by → is_for line by ≡ false
 ends_another homes line run o reply (Itself other) none ends = ap (λ b. b || false) (other_line line other run none ends.begun)
@@ -152,7 +152,7 @@ unheard homes line (h ∷ run) (standing, due, right) none = unheard_more line h
         go : (b : Bool) → (asked.line == line) ≡ b → cond b (Some asked) (asked_by line run) ≡ None → (asked.line == line) ≡ false
         go true is none = absurd (none-some asked (sym none))
         go false is none = is
-    by (Did o None) due none = quiet_did line o None (goes_for_another homes o.site line run o.by before due.1)
+    by (Did o None) due none = quiet_did line o None (goes_for_another homes o line run o.by before due.1)
     by (Did o (Some reply)) due none = quiet_did line o (Some reply) (ends_another homes line run o reply o.by before due.1)
     by (Refused s other reply) due none = quiet_refused line s other reply (other_line line other run before due.begun)
     by (Trimmed s number image object) due none = quiet_trimmed line s number image object

@@ -38,7 +38,7 @@ use Rattle.rbd_machine.specs.Standalone.{TellAllStandalone}
 use Rattle.rbd_machine.specs.declared.seat.Seat.{Seat}
 use Rattle.rbd_world.specs.Seats.{seat_at}
 use Rattle.rbd_world.specs.Past.{HadNoHeader}
-use Rattle.rbd_world.specs.Sound.{AreLivesOf, AreStrangers, Holder, InSlot, Sending, IsHeldRightly, IsInSlot, IsLedTo, IsLiving, IsLostOf, IsOpen, IsSoundWorld, IsStop, MayStillCome, held_of, known_in, line_at, SendsRightly, TakesAlone}
+use Rattle.rbd_world.specs.Sound.{AreLivesOf, AreStrangers, Holder, InSlot, Sending, IsHeldRightly, IsInSlot, IsLedTo, IsLiving, IsLostOf, IsOpen, IsSoundWorld, IsStop, MayStillCome, held_of, known_in, line_at, SendsRightly, TakesAlone, WasLeft}
 use Rattle.rbd_world.specs.Step.{Does, DoesAtSites, LivesOnIf, lost_by, stopped, wanted_in_slots}
 use Rattle.rbd_world.specs.World.{LateView, LivesView, WorldView, client_in, late_at, late_of, lives_in, records_in, running_of, sent_in, session_of_client}
 use Rattle.rbd_world.proofs.Unborn.{acted_drawn}
@@ -51,7 +51,8 @@ use Rattle.rbd_lock.specs.Acquire.{op_of}
 use Rattle.rbd_lock.specs.declared.acquire.Acquire.{Acquire}
 use Rattle.rbd_slots.specs.declared.running.Running.{Running}
 use Rattle.rbd_world.proofs.OnWay.{takes_alone}
-use Rattle.rbd_world.proofs.LeftWanted.{for_whom, left_of, whose_slot}
+use Rattle.rbd_world.proofs.Left.{left_on}
+use Rattle.rbd_world.proofs.LeftWanted.{for_whom, left_of, recalls_of, whose_slot}
 use Rattle.rbd_world.proofs.Lost.{among_ascending, are_distinct, ascending_increases, found_from, is_found, lines_in}
 use Rattle.rbd_world.proofs.OrderedWorld.{order_on}
 use Rattle.rbd_world.proofs.Quiet.{IsQuiet, quiet_stopped}
@@ -401,6 +402,33 @@ module _ {R : Type 0} (stands : R → Standing) (old new : WorldView R) (w : IsS
         subst (MayStillCome m (λ s. records_in s new.sites) y) (sym (knows_elsewhere m x differ)) (still_may_come stands old new w (λ s. records_in s new.sites) stays m y _ before.1),
       )
 
+  left_by : (x : ℕ) (y : Sent) (o : Option (SiteId × Op)) → wanted x ≡ o → sent_of who o ≡ Some y
+      → WasLeft w.told.homes x y.instance y.site y.op (sends_by o (knew_at x)) (h ∷ w.told.run)
+  left_by x y None is sent = absurd (none-some y sent)
+  left_by x y (Some p) is sent =
+      subst (λ (z : Sent). WasLeft w.told.homes x z.instance z.site z.op (knew_at x) (h ∷ w.told.run)) (same_Some _ y sent)
+      (record {
+        wanted = wanted_in_slots stands c;
+        lost = lost;
+        until = w.told.run;
+        since = [];
+        are = refl;
+        last = refl;
+        by = for_whom stands w.told.homes session w.told.run knew c living lost is_lost alone x;
+        left = left_of stands w.told.homes session w.told.run knew c living lost is_lost alone x p (wanted_at (λ slot. op_wanted stands slot c) 65 x p is);
+        recalls = recalls_of stands w.told.homes session w.told.run knew c living lost is_lost alone x p (wanted_at (λ slot. op_wanted stands slot c) 65 x p is);
+      })
+
+  left_now : (m x : ℕ) (y : Sent) → late_at m x new.lives ≡ Some y → (m ≡ session) ⊎ (m ≢ session)
+      → WasLeft w.told.homes x y.instance y.site y.op (knows_then (Sending m x)) (h ∷ w.told.run)
+  left_now m x y is (inl same) =
+      subst (λ k. WasLeft w.told.homes x y.instance y.site y.op k (h ∷ w.told.run)) (sym (knows_here m x same)) (left_by x y (wanted x) refl (sym (late_at_it m x same) ∙ is))
+  left_now m x y is (inr differ) =
+      let before = sym (late_elsewhere m x differ) ∙ is in
+      subst (λ k. WasLeft w.told.homes x y.instance y.site y.op k (h ∷ w.told.run)) (sym (knows_elsewhere m x differ))
+      (left_on w.told.homes x y.instance y.site y.op (w.knows (Sending m x)) h w.told.run
+      (ne_eqb who.session y.instance.session (λ same. differ (sym (w.sending m x y before).1.whose ∙ sym same ∙ living.whose))) (w.was_left m x y before))
+
   none_sent : (o : Option (SiteId × Op)) (k : Knowledge) → sent_of who o ≡ None → sends_by o k ≡ nothing_known
   none_sent None k is = refl
   none_sent (Some p) k is = absurd (none-some _ (sym is))
@@ -584,6 +612,7 @@ module _ {R : Type 0} (stands : R → Standing) (old new : WorldView R) (w : IsS
       truth = truth_now;
       late = late_now;
       sending = λ m x y is. sending_now m x y is (same_or_other m session);
+      was_left = λ m x y is. left_now m x y is (same_or_other m session);
       unsent = λ m x is. unsent_now m x is (same_or_other m session);
       drops = λ m x y z differ is r. drops_now m x y z differ is r (same_or_other m session);
       beside = beside_now;

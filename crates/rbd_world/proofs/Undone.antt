@@ -260,6 +260,7 @@ module _ {R : Type 0} (stands : R → Standing) where
     sending = λ session slot x is.
         subst (λ (sites : Sites). (w.who (Sending session slot) ≡ x.instance) × MayStillCome session (λ s. records_in s sites) x (w.knows (Sending session slot))) (sym undone.sites)
         (w.sending session slot x (sym (late_was session slot) ∙ is));
+    was_left = λ session slot x is. w.was_left session slot x (sym (late_was session slot) ∙ is);
     unsent = λ session slot none. w.unsent session slot (sym (late_was session slot) ∙ none);
     drops = λ session slot there x differ is. w.drops session slot there x differ (sym (late_was session slot) ∙ is);
     beside =

@@ -21,7 +21,7 @@ use Rattle.rbd_lock.proofs.Bounded.{all_bounded, take_bounded}
 use Rattle.rbd_lock.proofs.Ordered.{ordered_acquire, ordered_walk}
 use Rattle.rbd_world.specs.LetGo.{release_of}
 use Rattle.rbd_world.specs.Run.{Doer, Itself, OnWay, House, AfterStop, Happening, Nothing, Waited, Began, Did, Refused, Trimmed, Expired, Heard, Stopped, Restarted, Operation, is_on_way, step_of, way_of}
-use Rattle.rbd_world.specs.Sound.{EndsItsLine as Ends, LineGoesOn, IsDue, IsNextOf, IsRight, StandsAtLook}
+use Rattle.rbd_world.specs.Sound.{EndsItsLine as Ends, EndsNoLine, IsDue, IsNextOf, IsRight, StandsAtLook}
 use Rattle.rbd_world.specs.Ways.{AreAWay, AsksNext, IsOfRelease, IsOver, WasRefused}
 use Rattle.rbd_world.proofs.LetGo.{of_next}
 use Rattle.rbd_world.proofs.Ways.{one_step_more}
@@ -46,7 +46,7 @@ module _ (homes : ℕ → SiteId) (line : ℕ) (o : Operation) (r : Option Reply
   at_look is = by r right.1
     where
       by : (x : Option Reply) → IsDue homes (Did o x) run → StandsAtLook homes line o.site run
-      by None due = subst (λ d. LineGoesOn homes o.site d run) is due.1
+      by None due = subst (λ d. EndsNoLine homes o d run) is due.1
       by (Some told) due =
           let refused = subst (Ends homes o told run) is due.1 in
           record { begun = refused.begun; plan = refused.plan; led = refused.led; wants = refused.wants }

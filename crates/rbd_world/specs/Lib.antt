@@ -1,4 +1,5 @@
 pub mod Begun
+pub mod Calls
 pub mod Closes
 pub mod Events
 pub mod InLine

@@ -53,6 +53,7 @@ use Rattle.rbd_watch.specs.Watching.{oldest_of}
 use Rattle.rbd_world.specs.Begun.{has_line}
 use Rattle.rbd_world.specs.Closes.{StandsFirstIf, has_let_go}
 use Rattle.rbd_world.specs.declared.begun.BegunLines.{BegunLines}
+use Rattle.rbd_world.specs.Late.{is_stopped_among}
 use Rattle.rbd_world.specs.LetGo.{release_of}
 use Rattle.rbd_world.specs.Order.{AreWritesInOrder, KeepsOrder}
 use Rattle.rbd_world.specs.Owing.{HasNoHindrance, owed_in}
@@ -185,12 +186,6 @@ pub record StandsAtLook (homes : ℕ → SiteId) (line : ℕ) (s : SiteId) (befo
   pub led : IsLedTo (seat_at homes begun.asked.who.session) begun.asked.command (steps_of line before) plan
   pub wants : is_look_at s (kind_asked plan) ≡ true
 
--- the line goes on after the operation
-abbrev pub LineGoesOn : (homes : ℕ → SiteId) → SiteId → Doer → (before : List Happening) → Type 0
-LineGoesOn homes s (Itself line) before = IsOpen line before
-LineGoesOn homes s (OnWay line) before = StandsAtLook homes line s before
-LineGoesOn homes s by before = Unit {0}
-
 -- the line ends with the operation
 abbrev pub EndsItsLine : (homes : ℕ → SiteId) → Operation → Reply → (before : List Happening) → Doer → Type 0
 EndsItsLine homes o reply before (Itself line) = IsReplyMeant homes line reply before (Did o (Some reply) ∷ before)
@@ -265,6 +260,26 @@ pub record IsStop (homes : ℕ → SiteId) (who : Instance) (wanted : List (Opti
   pub apart : (line slot there : ℕ) → is_for line (by slot) ≡ true → is_for line (by there) ≡ true → slot ≡ there
   pub sends : SendsRightly who wanted before
 
+-- What a slot of the instance wanted when the session was stopped last, and for whom; and where a
+-- lost line's command wanted it itself, this is what that command had learned by then.
+pub record WasLeft (homes : ℕ → SiteId) (slot : ℕ) (who : Instance) (s : SiteId) (o : Op) (k : Knowledge) (before : List Happening) : Type 0 where
+  -- what the slots wanted, which lines were lost, what was until the stop, and what came since
+  pub wanted : List (Option (SiteId × Op))
+  pub lost : List ℕ
+  pub until : List Happening
+  pub since : List Happening
+  pub are : before ≡ since ++ Stopped who wanted lost ∷ until
+  pub last : is_stopped_among who.session since ≡ false
+  pub by : Doer
+  pub left : IsStillSent homes who lost slot s o by until
+  pub recalls : RecallsBy by s o k until
+
+-- What was known where a slot wanted the operation is still true where the operation comes.
+pub record KnewTruly (homes : ℕ → SiteId) (slot : ℕ) (o : Operation) (before : List Happening) : Type 0 where
+  pub knew : Knowledge
+  pub left : WasLeft homes slot o.instance o.site o.op knew before
+  pub truth : IsTrueAt o.site (records_after o.site before) o.instance knew
+
 -- A session that doesn't run begins the life behind its latest.
 pub record IsRestart (who : Instance) (before : List Happening) : Type 0 where
   pub latest : ℕ
@@ -278,9 +293,17 @@ pub record IsBegin (asked : Asked) (before : List Happening) : Type 0 where
   pub new : asked_by asked.line before ≡ None
   pub runs : IsRunning asked.who before
 
+-- The operation ends no line: its own is open, and goes on. Where it comes late, what was known
+-- where its slot wanted it is still true.
+abbrev pub EndsNoLine : (homes : ℕ → SiteId) → Operation → Doer → (before : List Happening) → Type 0
+EndsNoLine homes o (Itself line) before = IsOpen line before
+EndsNoLine homes o (OnWay line) before = StandsAtLook homes line o.site before
+EndsNoLine homes o House before = Unit {0}
+EndsNoLine homes o (AfterStop slot) before = KnewTruly homes slot o before
+
 abbrev pub IsDue : (homes : ℕ → SiteId) → Happening → (before : List Happening) → Type 0
 IsDue homes (Began asked slot) before = IsBegin asked before
-IsDue homes (Did o None) before = IsRightlyDone o before × LineGoesOn homes o.site o.by before
+IsDue homes (Did o None) before = IsRightlyDone o before × EndsNoLine homes o o.by before
 IsDue homes (Did o (Some reply)) before = IsRightlyDone o before × EndsItsLine homes o reply before o.by
 IsDue homes (Refused s line reply) before = IsReplyMeant homes line reply before (Refused s line reply ∷ before)
 IsDue homes (Trimmed s number image object) before = IsTrimmed s number image object before
@@ -474,10 +497,12 @@ pub record IsSoundWorld {R : Type 0} (stands : R → Standing) (w : WorldView R)
       → IsTrueOf s (records_in s w.sites) c.session.instance (known_in knows session) c
   -- it counts its locks by its own operations
   pub owns : (session : ℕ) (c : ClientView R) → client_in session w.lives ≡ Some c → CountsItsLocks c.session.instance told.run c
-  -- what stopped lives may still send is what the run says, and may be done
+  -- what stopped lives may still send is what the run says, and may be done by what they knew
   pub late : (session slot : ℕ) → late_at session slot w.lives ≡ sent_after session slot told.run
   pub sending : (session slot : ℕ) (x : Sent) → late_at session slot w.lives ≡ Some x
       → (who (Sending session slot) ≡ x.instance) × MayStillCome session (λ s. records_in s w.sites) x (knows (Sending session slot))
+  pub was_left : (session slot : ℕ) (x : Sent) → late_at session slot w.lives ≡ Some x
+      → WasLeft told.homes slot x.instance x.site x.op (knows (Sending session slot)) told.run
   pub unsent : (session slot : ℕ) → late_at session slot w.lives ≡ None → knows (Sending session slot) ≡ nothing_known
   pub drops : (session slot there : ℕ) (x : Sent) → slot ≢ there → late_at session slot w.lives ≡ Some x → (r : Records)
       → MayAct x.site r (who (Sending session slot)) (who (Sending session there)) (knows (Sending session slot)) (knows (Sending session there)) x.op

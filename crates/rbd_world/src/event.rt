@@ -1,5 +1,5 @@
 //! What can happen to a world, and what came of it.
-use rbd_kinds::{Command, ImageId, NoMemory, SessionNo, Shared, SiteId, Slot, TryClone};
+use rbd_kinds::{Command, ImageId, SessionNo, Shared, SiteId, Slot};
 
 /// One event: at most one operation on one object of one site.
 #[derive(Drop)]
@@ -45,51 +45,6 @@ pub enum Event {
         image: ImageId,
         object: u64,
     },
-}
-
-impl TryClone for Event {
-    fn try_clone(&self) -> Result<Self, NoMemory> {
-        match self {
-            Event::Submit {
-                session,
-                line,
-                command,
-            } => Ok(Event::Submit {
-                session: *session,
-                line: *line,
-                command: command.try_clone()?,
-            }),
-            Event::Poll { session, slot } => Ok(Event::Poll {
-                session: *session,
-                slot: *slot,
-            }),
-            Event::Deliver { number } => Ok(Event::Deliver { number: *number }),
-            Event::Expire {
-                session,
-                site,
-                image,
-            } => Ok(Event::Expire {
-                session: *session,
-                site: *site,
-                image: *image,
-            }),
-            Event::Stop { session } => Ok(Event::Stop { session: *session }),
-            Event::Late { session, slot } => Ok(Event::Late {
-                session: *session,
-                slot: *slot,
-            }),
-            Event::Restart { session } => Ok(Event::Restart { session: *session }),
-            Event::Trim {
-                site,
-                image,
-                object,
-            } => Ok(Event::Trim {
-                site: *site,
-                image: *image,
-                object: *object,
-            }),
-        }
-    }
 }
 
 /// What came of an event.

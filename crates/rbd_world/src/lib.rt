@@ -33,8 +33,9 @@
 //! | trim | `Stored` | the store drops what an object keeps for snapshots that are gone |
 //! | any | `Nothing` | nothing: no such session, or none that runs; no free slot; a line that was begun before; an empty slot; no such notice, watch or object |
 //!
-//! - A step does at most one operation on one object of one site. Each call is kept, with what came
-//!   of it; and an operation has one entry of the history, with its number in its site's log.
+//! - A step does at most one operation on one object of one site, which has one entry of the
+//!   history, with its number in its site's log.
+//! - A world takes 2^59 - 1 events. What comes behind them is refused, as if there were no memory.
 //! - An instance that is fenced at a site changes nothing there, late operations included: they are
 //!   answered `fenced`.
 //! - A notice that is never delivered holds nobody up for ever: who wants a lock asks again.
@@ -42,14 +43,14 @@
 //! # Contracts
 //!
 //! Contracts see a world as its sites' logs and mail, its sessions with their lives, its history
-//! and its calls (`WorldView`). They speak of it as plans tell it (`seen`): each slot holds where
-//! its request stands, in place of the machine that does it, so nobody who reads them needs to know
-//! a machine. (The view itself holds the machines, since a plan has functions, and what a `Model`
-//! shows may have none.) What an event does is a function of the world (`happening`): so the
-//! outcome, what is added to the history, to a log, to the mail and to the calls are each an
-//! equation, and `Nothing` and `Waits` come exactly where they are to come. Only what becomes of
-//! the client of the session that the event names is said by the client's own clauses, since a
-//! client holds more than contracts see.
+//! and its calls, each an event with what came of it (`WorldView`). They speak of it as plans tell
+//! it (`seen`): each slot holds where its request stands, in place of the machine that does it, so
+//! nobody who reads them needs to know a machine. (The view itself holds the machines, since a plan
+//! has functions, and what a `Model` shows may have none.) What an event does is a function of the
+//! world (`happening`): so the outcome, what is added to the history, to a log, to the mail and to
+//! the calls are each an equation, and `Nothing` and `Waits` come exactly where they are to come.
+//! Only what becomes of the client of the session that the event names is said by the client's own
+//! clauses, since a client holds more than contracts see.
 //!
 //! | file | what it says |
 //! |---|---|
@@ -105,22 +106,25 @@
 //! # Cost
 //!
 //! A step costs its operation, and look-ups by number: of a session, of a slot, of a notice, and of
-//! a line on its page. History, calls, logs and mail grow at their end, and are never copied or
-//! read. A poll whose operation is done looks once more at the header of its image, whose list of
-//! snapshots is shared. A stop costs its session's 65 slots.
+//! a line on its page. History, logs and mail grow at their end, and are never copied or read. Of
+//! the calls only the number is kept: the list is for contracts alone, and takes no memory
+//! (`src/ghost_log.rt`). A poll whose operation is done looks once more at the header of its image,
+//! whose list of snapshots is shared. A stop costs its session's 65 slots.
 //!
 //! # How it works
 //!
-//! Room for the call and for two entries is taken first. A poll asks the client for its operation
+//! Room for two entries is taken first. A poll asks the client for its operation
 //! and the site for its answer, makes the client ready for it, does the operation, and feeds the
 //! client; only the last two change anything, and the last takes no memory. So a step that is
 //! refused memory has done nothing. A stop makes its lists, and their room, before the client goes.
 #![tactic(auto)]
 
 mod begun;
+mod calls;
 mod deliver;
 mod event;
 mod foresee;
+mod ghost_log;
 mod late;
 pub mod laws;
 mod lives;

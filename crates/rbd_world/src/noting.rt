@@ -1,43 +1,53 @@
 //! What is noted of an event, in the history and among the calls.
-ghost use Rattle.std.specs.Prelude.{◌≡◌, ◌+◌, ◌≤◌, ◌∷◌, ◌++◌, [], map, OnErr, OnOk};
+ghost use Rattle.std.specs.Prelude.{◌≡◌, ◌+◌, ◌^◌, ◌<◌, ◌≤◌, ◌∷◌, ◌++◌, [], length, map, OnErr, OnOk};
 ghost use Rattle.std.specs.Vec.{vec_len, vec_capacity};
 ghost use Rattle.rbd_flat.specs.declared.entry.Entry.TheVariants as of_entry;
 ghost use Rattle.rbd_world.specs.Run.{ending_entries, entry_by, entry_unfenced, reply_entries};
 ghost use Rattle.rbd_world.specs.Sending.{doer_of};
+ghost use Rattle.rbd_world.specs.declared.event.Event.TheVariants as of_event;
 
-use crate::event::{Call, Event, Outcome};
+use crate::calls::Calls;
+use crate::event::{Event, Outcome};
 use crate::sender::Sender;
 use rbd_flat::{Cause, Effect, Entry};
-use rbd_kinds::{Instance, NoMemory, Reply, Shared, SiteId};
+use rbd_kinds::{Instance, NoMemory, Reply, SessionNo, Shared, SiteId, Slot};
 
 /// What happened, and by which calls.
 #[derive(Drop)]
 pub struct Book {
     pub history: Vec<Entry>,
-    pub calls: Vec<Call>,
+    pub calls: Calls,
 }
 
 /// Makes room for all that one event adds, but for the lines that a stop loses.
 pub fn reserve(book: &mut Book) -> Result<(), NoMemory>
     ensures history { book.new.history.items ≡ book.old.history.items }
-    ensures calls { book.new.calls.items ≡ book.old.calls.items }
-    ensures ok { OnOk result ((vec_len book.new.history + 2 ≤ vec_capacity book.new.history) × (vec_len book.new.calls + 1 ≤ vec_capacity book.new.calls)) }
+    ensures calls { book.new.calls ≡ book.old.calls }
+    ensures ok { OnOk result ((vec_len book.new.history + 2 ≤ vec_capacity book.new.history) × (length book.new.calls + 1 < 2 ^ 59)) }
 {
     book.history.reserve(2)?;
-    book.calls.reserve(1)?;
+    book.calls.reserve()?;
     Ok(())
 }
 
 /// Keeps the call of an event, where there is room. It takes no memory.
-pub fn keep_call(book: &mut Book, event: Event, outcome: &Outcome)
-    requires { vec_len book.old.calls + 1 ≤ vec_capacity book.old.calls }
-    ensures calls { book.new.calls.items ≡ book.old.calls.items ++ record { event = event; outcome = outcome.now } ∷ [] }
+pub fn keep_call(book: &mut Book, event: &Event, outcome: &Outcome)
+    requires { length book.old.calls + 1 < 2 ^ 59 }
+    ensures calls { book.new.calls ≡ book.old.calls ++ record { event = event.now; outcome = outcome.now } ∷ [] }
     ensures history { book.new.history ≡ book.old.history }
 {
-    book.calls.push_reserved(Call {
-        event,
-        outcome: *outcome,
-    });
+    book.calls.keep(event, outcome);
+}
+
+/// The same of a poll, for who has no event at hand.
+pub fn keep_poll(book: &mut Book, session: SessionNo, slot: Slot, outcome: &Outcome)
+    requires { length book.old.calls + 1 < 2 ^ 59 }
+    ensures calls { book.new.calls ≡ book.old.calls ++ record { event = of_event.Poll session slot; outcome = outcome.now } ∷ [] }
+    ensures history { book.new.history ≡ book.old.history }
+{
+    let event = Event::Poll { session, slot };
+    keep_call(book, &event, outcome);
+    drop(event);
 }
 
 /// Notes an operation that was done, and the reply where its command has it. It takes no memory.

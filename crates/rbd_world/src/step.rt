@@ -21,7 +21,7 @@ use crate::stop::{restart, stop};
 use crate::submit::{SessionLine, submit};
 use crate::trim::{expire, trim};
 use rbd_catalog::SessionRequest;
-use rbd_kinds::{NoMemory, TryClone};
+use rbd_kinds::NoMemory;
 use rbd_machine::Machine;
 use std::alloc::Global;
 
@@ -40,23 +40,15 @@ pub fn step_parts(
     requires rest { (session slot : ℕ) (c : ClientView Of) → client_in session lives.old.items ≡ Some c → DropsWhatItMay stands_of slot c }
     requires late { (session slot : ℕ) → MayCome sites.old (late_at session slot lives.old.items) }
     ensures steps { let h = happens stands_of event.now (λ line. has_line line begun.old) sites.old lives.old.items in
-        IfOk result (StepsParts stands_of event.now h sites.old sites.new lives.old.items lives.new.items begun.old begun.new book.old.history.items book.new.history.items book.old.calls.items book.new.calls.items) }
+        IfOk result (StepsParts stands_of event.now h sites.old sites.new lives.old.items lives.new.items begun.old begun.new book.old.history.items book.new.history.items book.old.calls book.new.calls) }
     ensures err { OnErr result (LeavesParts stands_of sites.old sites.new lives.old.items lives.new.items begun.old begun.new) }
     ensures history { OnErr result (book.new.history.items ≡ book.old.history.items) }
-    ensures calls { OnErr result (book.new.calls.items ≡ book.old.calls.items) }
+    ensures calls { OnErr result (book.new.calls ≡ book.old.calls) }
 {
     reserve(book)?;
-    let kept = event.try_clone()?;
-    match happen(alloc, sites, lives, begun, book, event) {
-        Ok(outcome) => {
-            keep_call(book, kept, &outcome);
-            Ok(outcome)
-        }
-        Err(fault) => {
-            drop(kept);
-            Err(fault)
-        }
-    }
+    let outcome = happen(alloc, sites, lives, begun, book, event)?;
+    keep_call(book, event, &outcome);
+    Ok(outcome)
 }
 
 /// Does what an event does, and notes it, where there is room.

@@ -1,5 +1,5 @@
 //! The world, and its events.
-ghost use Rattle.std.specs.Prelude.{◌≡◌, ◌≤◌, length, option_copied, option_map, is_some, IfOk, OnErr};
+ghost use Rattle.std.specs.Prelude.{◌≡◌, ◌^◌, ◌<◌, ◌≤◌, length, option_copied, option_map, is_some, IfOk, OnErr};
 ghost use Rattle.rbd_client.specs.Client.{ClientView};
 ghost use Rattle.rbd_client.specs.Seen.{as_is};
 ghost use Rattle.rbd_machine.specs.Plan.{Standing};
@@ -11,9 +11,10 @@ ghost use Rattle.rbd_world.specs.World.{client_in, free_in, heard_in, kind_in, s
 ghost use Rattle.rbd_world.specs.declared.event.Event.TheVariants as of_event;
 
 use crate::begun::BegunLines;
-use crate::event::{Call, Event, Outcome};
+use crate::calls::Calls;
+use crate::event::{Event, Outcome};
 use crate::lives::Lives;
-use crate::noting::{Book, keep_call, reserve};
+use crate::noting::{Book, keep_poll, reserve};
 use crate::poll::poll;
 use crate::sites::Sites;
 use crate::step::step_parts;
@@ -63,9 +64,9 @@ impl Model for World {
     ghost use Rattle.rbd_world.specs.Seen.{seen_by};
     ghost use Rattle.rbd_world.specs.Sound.{IsKeptWorld};
 
-    ghost view = { λ w. record { sites = w.sites; lives = w.lives.items; history = w.book.history.items; calls = w.book.calls.items } };
+    ghost view = { λ w. record { sites = w.sites; lives = w.lives.items; history = w.book.history.items; calls = w.book.calls } };
 
-    ghost invariant = { λ w. IsKeptWorld as_is w.begun (seen_by stands_of (record { sites = w.sites; lives = w.lives.items; history = w.book.history.items; calls = w.book.calls.items })) };
+    ghost invariant = { λ w. IsKeptWorld as_is w.begun (seen_by stands_of (record { sites = w.sites; lives = w.lives.items; history = w.book.history.items; calls = w.book.calls })) };
 }
 
 impl World {
@@ -85,7 +86,7 @@ impl World {
                 begun: BegunLines::new(alloc),
                 book: Book {
                     history: Vec::new(alloc),
-                    calls: Vec::new(alloc),
+                    calls: Calls::new(),
                 },
             }),
             Err(fault) => {
@@ -111,7 +112,8 @@ impl World {
     }
 
     /// One event. What it does, and what comes of it, is a function of the world (`happening`).
-    /// Refused memory, nothing happened. A command that isn't built is ruled out.
+    /// Refused memory, nothing happened; and the event behind 2^59 - 1 others is refused so. A
+    /// command that isn't built is ruled out.
     pub fn step(&mut self, alloc: Global, event: &Event) -> Result<Outcome, NoMemory>
         requires built { IsBuiltEvent event.now }
         ensures step { IfOk result (λ outcome. IsWorldStep as_is event.now (seen self.old) outcome (seen self.new)) }
@@ -149,7 +151,7 @@ impl World {
             session,
             slot,
         )?;
-        keep_call(&mut self.book, Event::Poll { session, slot }, &outcome);
+        keep_poll(&mut self.book, session, slot, &outcome);
         Ok(outcome)
     }
 
@@ -161,12 +163,13 @@ impl World {
         self.book.history.as_slice()
     }
 
-    /// The events so far, each with what came of it, in order.
+    /// How many events came so far: a world takes fewer than 2^59. It takes no memory.
     #[tactic(auto, unfolding(crate::specs::Seen::seen))]
-    pub fn calls(&self) -> &[Call]
-        ensures { result.now ≡ (seen self.now).calls }
+    pub fn events(&self) -> u64
+        ensures count { result ≡ length (seen self.now).calls }
+        ensures few { length (seen self.now).calls < 2 ^ 59 }
     {
-        self.book.calls.as_slice()
+        self.book.calls.count()
     }
 
     /// The operations of a site, in order, numbered from 1.

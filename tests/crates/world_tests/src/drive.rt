@@ -4,14 +4,31 @@
 //! keep to that.
 use rbd_catalog::is_built;
 use rbd_kinds::{NoMemory, SessionNo, SiteId, Slot};
-use rbd_world::{Event, Outcome, World};
+use rbd_world::{Call, Event, Outcome, World};
 use std::alloc::Global;
 use std::process::Abort;
 
-/// A world of the clients c1, c2 and c4 at site A, and c3 at site B.
-pub fn new_world(rt: &impl Abort, alloc: Global) -> World {
+/// A world, and the events that came to it, each with what came of it.
+pub struct Driven {
+    pub world: World,
+    pub calls: Vec<Call>,
+}
+
+impl Driven {
+    pub fn close(self) {
+        let Driven { world, calls } = self;
+        world.close();
+        drop(calls);
+    }
+}
+
+/// A world of the clients c1, c2 and c4 at site A, and c3 at site B, to which nothing came yet.
+pub fn new_world(rt: &impl Abort, alloc: Global) -> Driven {
     match World::new(alloc, &[SiteId::A, SiteId::A, SiteId::B, SiteId::A]) {
-        Ok(world) => world,
+        Ok(world) => Driven {
+            world,
+            calls: Vec::new(alloc),
+        },
         Err(_) => panic!(rt; "there is no memory"),
     }
 }
@@ -44,16 +61,24 @@ fn step(
     world.step(alloc, event)
 }
 
-/// An event comes. It goes by value, so that no caller has to let it go.
+/// An event comes, and is kept with what came of it. Each event is counted.
 pub fn comes(
     rt: &impl Abort,
     alloc: Global,
-    world: &mut World,
+    driven: &mut Driven,
     event: Event,
 ) -> Result<Outcome, NoMemory> {
-    let outcome = step(rt, alloc, world, &event);
-    drop(event);
-    outcome
+    match step(rt, alloc, &mut driven.world, &event) {
+        Ok(outcome) => {
+            driven.calls.push(Call { event, outcome })?;
+            assert!(rt; driven.world.events() == driven.calls.len() as u64);
+            Ok(outcome)
+        }
+        Err(fault) => {
+            drop(event);
+            Err(fault)
+        }
+    }
 }
 
 /// The word of the kind of operation that is wanted at a slot, or `none`.

@@ -16,7 +16,7 @@
 //! | `entries:64` | nothing: the history has so many entries |
 //! | `filled:9.4.2` | nothing: the last reply has 9 bytes, of which two from 4 on are a fill's |
 use super::clients::is_client;
-use super::drive::comes;
+use super::drive::{Driven, comes};
 use super::fills::shows_fill;
 use super::schedule::{number, session_of, small_number};
 use rbd_kinds::{ImageId, NoMemory, Notice, NoticeKind, SessionNo, SiteId, Slot};
@@ -81,8 +81,11 @@ fn has_heard(
 }
 
 /// What site A answered last, where the last step was an operation.
-fn answered(world: &World) -> &'static str {
-    match (world.calls().last(), world.operations(SiteId::A).last()) {
+fn answered(driven: &Driven) -> &'static str {
+    match (
+        driven.calls.last(),
+        driven.world.operations(SiteId::A).last(),
+    ) {
         (Some(call), Some(done)) if matches!(&call.outcome, Outcome::Step { .. }) => {
             done.answer.word()
         }
@@ -91,12 +94,13 @@ fn answered(world: &World) -> &'static str {
 }
 
 /// Whether what a word says is so.
-fn holds_now(alloc: Global, world: &World, kind: &str, rest: &str) -> Result<bool, NoMemory> {
+fn holds_now(alloc: Global, driven: &Driven, kind: &str, rest: &str) -> Result<bool, NoMemory> {
+    let world = &driven.world;
     let (client, words) = rest.split_once('=').unwrap_or(("", rest));
     match kind {
         "heard" => has_heard(alloc, world, session_of(client), words),
         "client" => is_client(alloc, world, session_of(client), words),
-        "answer" => Ok(answered(world) == rest),
+        "answer" => Ok(answered(driven) == rest),
         "filled" => Ok(shows_fill(world.history(), rest)),
         "entries" => Ok(world.history().len() as u64 == u64::from(number(rest))),
         _ => Ok(false),
@@ -108,16 +112,16 @@ fn holds_now(alloc: Global, world: &World, kind: &str, rest: &str) -> Result<boo
 pub fn other_goes(
     rt: &impl Abort,
     alloc: Global,
-    world: &mut World,
+    driven: &mut Driven,
     kind: &str,
     rest: &str,
 ) -> Result<bool, NoMemory> {
     let (first, second) = rest.split_once('.').unwrap_or((rest, ""));
     match event_of(kind, first, second) {
         Some(event) => {
-            comes(rt, alloc, world, event)?;
+            comes(rt, alloc, driven, event)?;
             Ok(true)
         }
-        None => holds_now(alloc, world, kind, rest),
+        None => holds_now(alloc, driven, kind, rest),
     }
 }

@@ -27,14 +27,13 @@
 //! | `heard` | an instance heard a notice |
 //! | `stored` | the store did a step of its own |
 //! | `stopped`, `restarted` | the client was stopped, or began its next life |
-use super::drive::new_world;
+use super::drive::{Driven, new_world};
 use super::schedule::play;
 use super::script::{SCRIPT, script};
 use super::tables::table_holds;
 use super::told::is_told;
 use rbd_kinds::NoMemory;
 use rbd_script::Script;
-use rbd_world::World;
 use std::alloc::Global;
 use std::process::Abort;
 
@@ -46,7 +45,7 @@ pub fn is_so(rt: &impl Abort, row: &str, what: &str, found_out: Result<bool, NoM
 fn part_holds(
     rt: &impl Abort,
     alloc: Global,
-    world: &mut World,
+    driven: &mut Driven,
     script: &Script,
     row: &str,
     part: &str,
@@ -54,18 +53,18 @@ fn part_holds(
     let (kind, told) = part.split_once(' ').unwrap_or((part, ""));
     match kind {
         "goes" => {
-            play(rt, alloc, world, script.lines.as_slice(), row, told);
+            play(rt, alloc, driven, script.lines.as_slice(), row, told);
             Ok(true)
         }
-        "not" => Ok(!is_told(alloc, world, script.sessions.as_slice(), told)?),
-        _ => is_told(alloc, world, script.sessions.as_slice(), part),
+        "not" => Ok(!is_told(alloc, driven, script.sessions.as_slice(), told)?),
+        _ => is_told(alloc, driven, script.sessions.as_slice(), part),
     }
 }
 
 fn parts_hold(
     rt: &impl Abort,
     alloc: Global,
-    world: &mut World,
+    driven: &mut Driven,
     script: &Script,
     name: &str,
     row: &str,
@@ -75,7 +74,7 @@ fn parts_hold(
             rt,
             name,
             part,
-            part_holds(rt, alloc, world, script, name, part),
+            part_holds(rt, alloc, driven, script, name, part),
         );
     }
 }
@@ -83,9 +82,9 @@ fn parts_hold(
 /// A new world with the clients of a script goes by a row.
 pub fn named_row_holds(rt: &impl Abort, alloc: Global, text: &str, name: &str, row: &str) {
     let script = script(rt, alloc, text.as_bytes());
-    let mut world = new_world(rt, alloc);
-    parts_hold(rt, alloc, &mut world, &script, name, row);
-    world.close();
+    let mut driven = new_world(rt, alloc);
+    parts_hold(rt, alloc, &mut driven, &script, name, row);
+    driven.close();
     drop(script);
 }
 

@@ -10,12 +10,12 @@
 //! | `1.2=none` | nothing: this is what it wants |
 //! | `stop:1`, and others with a colon | see `others` |
 //! | `!1.2=none` | what the word behind the `!` says isn't so |
-use super::drive::{comes, wanted};
+use super::drive::{Driven, comes, wanted};
 use super::others::other_goes;
 use super::rows::is_so;
 use rbd_kinds::{NoMemory, SessionNo, Slot, TryClone};
 use rbd_script::{Line, Said};
-use rbd_world::{Event, Outcome, World};
+use rbd_world::{Event, Outcome};
 use std::alloc::Global;
 use std::process::Abort;
 
@@ -38,7 +38,12 @@ pub fn session_of(client: &str) -> SessionNo {
 }
 
 /// What the line says is begun, where it is a command.
-fn begin(rt: &impl Abort, alloc: Global, world: &mut World, line: &Line) -> Result<bool, NoMemory> {
+fn begin(
+    rt: &impl Abort,
+    alloc: Global,
+    driven: &mut Driven,
+    line: &Line,
+) -> Result<bool, NoMemory> {
     let Said::Command {
         session,
         beside: _,
@@ -52,7 +57,7 @@ fn begin(rt: &impl Abort, alloc: Global, world: &mut World, line: &Line) -> Resu
         line: line.number,
         command: command.try_clone()?,
     };
-    comes(rt, alloc, world, event)?;
+    comes(rt, alloc, driven, event)?;
     Ok(true)
 }
 
@@ -60,13 +65,13 @@ fn begin(rt: &impl Abort, alloc: Global, world: &mut World, line: &Line) -> Resu
 fn begin_line(
     rt: &impl Abort,
     alloc: Global,
-    world: &mut World,
+    driven: &mut Driven,
     lines: &[Line],
     wanted: u32,
 ) -> Result<bool, NoMemory> {
     for line in lines {
         if line.number == wanted {
-            return begin(rt, alloc, world, line);
+            return begin(rt, alloc, driven, line);
         }
     }
     Ok(false)
@@ -75,25 +80,25 @@ fn begin_line(
 fn poll(
     rt: &impl Abort,
     alloc: Global,
-    world: &mut World,
+    driven: &mut Driven,
     at: &(SessionNo, Slot),
 ) -> Result<Outcome, NoMemory> {
     let event = Event::Poll {
         session: at.0,
         slot: at.1,
     };
-    comes(rt, alloc, world, event)
+    comes(rt, alloc, driven, event)
 }
 
 fn poll_times(
     rt: &impl Abort,
     alloc: Global,
-    world: &mut World,
+    driven: &mut Driven,
     at: &(SessionNo, Slot),
     times: u32,
 ) -> Result<bool, NoMemory> {
     for _ in 0..times {
-        poll(rt, alloc, world, at)?;
+        poll(rt, alloc, driven, at)?;
     }
     Ok(true)
 }
@@ -115,15 +120,15 @@ fn has_replied(outcome: Outcome) -> bool {
 fn poll_to(
     rt: &impl Abort,
     alloc: Global,
-    world: &mut World,
+    driven: &mut Driven,
     at: &(SessionNo, Slot),
     kind: &str,
 ) -> Result<bool, NoMemory> {
     for _ in 0..ENOUGH {
-        if wanted(world, at.0, at.1) == kind {
+        if wanted(&driven.world, at.0, at.1) == kind {
             return Ok(true);
         }
-        if has_replied(poll(rt, alloc, world, at)?) {
+        if has_replied(poll(rt, alloc, driven, at)?) {
             return Ok(kind == "end");
         }
     }
@@ -134,22 +139,28 @@ fn poll_to(
 fn slot_goes(
     rt: &impl Abort,
     alloc: Global,
-    world: &mut World,
+    driven: &mut Driven,
     client: &str,
     rest: &str,
 ) -> Result<bool, NoMemory> {
     let session = session_of(client);
     if let Some((slot, kind)) = rest.split_once('=') {
-        return Ok(wanted(world, session, Slot(small_number(slot))) == kind);
+        return Ok(wanted(&driven.world, session, Slot(small_number(slot))) == kind);
     }
     if let Some((slot, kind)) = rest.split_once('>') {
-        return poll_to(rt, alloc, world, &(session, Slot(small_number(slot))), kind);
+        return poll_to(
+            rt,
+            alloc,
+            driven,
+            &(session, Slot(small_number(slot))),
+            kind,
+        );
     }
     let (slot, times) = rest.split_once('*').unwrap_or((rest, "1"));
     poll_times(
         rt,
         alloc,
-        world,
+        driven,
         &(session, Slot(small_number(slot))),
         number(times),
     )
@@ -159,30 +170,30 @@ fn slot_goes(
 fn goes(
     rt: &impl Abort,
     alloc: Global,
-    world: &mut World,
+    driven: &mut Driven,
     lines: &[Line],
     word: &str,
 ) -> Result<bool, NoMemory> {
     if let Some((kind, rest)) = word.split_once(':') {
-        return other_goes(rt, alloc, world, kind, rest);
+        return other_goes(rt, alloc, driven, kind, rest);
     }
     if let Some((client, rest)) = word.split_once('.') {
-        return slot_goes(rt, alloc, world, client, rest);
+        return slot_goes(rt, alloc, driven, client, rest);
     }
-    begin_line(rt, alloc, world, lines, number(word))
+    begin_line(rt, alloc, driven, lines, number(word))
 }
 
 /// The same, where a word with a `!` may stand too.
 fn goes_or_not(
     rt: &impl Abort,
     alloc: Global,
-    world: &mut World,
+    driven: &mut Driven,
     lines: &[Line],
     word: &str,
 ) -> Result<bool, NoMemory> {
     match word.split_once('!') {
-        Some((_, word)) => Ok(!goes(rt, alloc, world, lines, word)?),
-        None => goes(rt, alloc, world, lines, word),
+        Some((_, word)) => Ok(!goes(rt, alloc, driven, lines, word)?),
+        None => goes(rt, alloc, driven, lines, word),
     }
 }
 
@@ -190,12 +201,12 @@ fn goes_or_not(
 pub fn play(
     rt: &impl Abort,
     alloc: Global,
-    world: &mut World,
+    driven: &mut Driven,
     lines: &[Line],
     row: &str,
     schedule: &str,
 ) {
     for word in schedule.split_whitespace() {
-        is_so(rt, row, word, goes_or_not(rt, alloc, world, lines, word));
+        is_so(rt, row, word, goes_or_not(rt, alloc, driven, lines, word));
     }
 }

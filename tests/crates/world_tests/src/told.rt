@@ -1,5 +1,6 @@
 //! What is told of a world, as a text for each part of a row.
 use super::begins::begin_of;
+use super::drive::Driven;
 use super::mail::push_mail;
 use super::map_texts::{push_bits, push_maps};
 use super::numbers::numbers_are_of_logs;
@@ -84,13 +85,14 @@ fn push_replies(alloc: Global, text: &mut Vec<u8>, world: &World) -> Result<(), 
 fn push_told(
     alloc: Global,
     text: &mut Vec<u8>,
-    world: &World,
+    driven: &Driven,
     sessions: &[Declared],
     kind: &str,
 ) -> Result<(), NoMemory> {
+    let world = &driven.world;
     match kind {
-        "came" => push_calls(alloc, text, kind, world.calls()),
-        "events" => push_calls(alloc, text, kind, world.calls()),
+        "came" => push_calls(alloc, text, kind, driven.calls.as_slice()),
+        "events" => push_calls(alloc, text, kind, driven.calls.as_slice()),
         "replies" => push_replies(alloc, text, world),
         "lost" => push_entries(alloc, text, kind, world.history()),
         "fenced" => push_entries(alloc, text, kind, world.history()),
@@ -118,14 +120,14 @@ fn end(text: &mut Vec<u8>) -> Result<(), NoMemory> {
 /// Whether what a part says is told of a world.
 pub fn is_told(
     alloc: Global,
-    world: &World,
+    driven: &Driven,
     sessions: &[Declared],
     part: &str,
 ) -> Result<bool, NoMemory> {
     let (key, want) = part.split_once(' ').unwrap_or((part, ""));
     let (kind, _) = key.split_once('+').unwrap_or((key, ""));
     let mut text = Vec::new(alloc);
-    push_told(alloc, &mut text, world, sessions, kind)?;
+    push_told(alloc, &mut text, driven, sessions, kind)?;
     end(&mut text)?;
     match text.as_slice().strip_prefix(begin_of(key).as_bytes()) {
         Some(told) => Ok(told == want.as_bytes()),

@@ -15,7 +15,7 @@ returns-in-Ok-clause-new c = record {
   mail = c.in-Ok.ensures.mail;
   lives = are_first_seen stands_of c.in_ok-lives.lives.items c.in_ok-lives.ensures.first;
   history = c.new-in-Ok-2.ensures.items;
-  calls = c.new-in-Ok-3.ensures.items;
+  calls = c.new-in-Ok-3.ensures;
 }
 
 pub returns-in-Ok-clause-clients : goal.returns-in-Ok-clause-clients
@@ -25,7 +25,7 @@ returns-in-Ok-clause-clients c = at_home_seen stands_of c.args.homes.now c.in_ok
 pub invariant_of-result : goal.invariant_of-result
 unfolding seen
 invariant_of-result c = record {
-  sound = new_world_is_sound as_is (seen_by stands_of (record { sites = c.in-Ok.sites; lives = c.in_ok-lives.lives.items; history = c.new-in-Ok-2.result.items; calls = c.new-in-Ok-3.result.items })) (returns-in-Ok-clause-new c);
+  sound = new_world_is_sound as_is (seen_by stands_of (record { sites = c.in-Ok.sites; lives = c.in_ok-lives.lives.items; history = c.new-in-Ok-2.result.items; calls = c.new-in-Ok-3.result })) (returns-in-Ok-clause-new c);
   lines = λ line. c.new-in-Ok.ensures line ∙ sym (ap (is_begun line) c.new-in-Ok-2.ensures.items);
 }
 
