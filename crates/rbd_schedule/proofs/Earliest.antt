@@ -1,11 +1,11 @@
 -- The earliest command that may start, found from the two places of a queue.
-use Rattle.std.proofs.Common.{◌≡◌, ℕ, ◌&&◌, ◌||◌, not, cond, zero, suc, Bool, true, false, List, [], ◌∷◌, ◌++◌, All, length, take, drop, get_or, nat_lt, slice_get, Some, None, refl, sym, ap, ◌∙◌, subst}
-use Rattle.std.proofs.lemmas.Bool.{true≢false, false≢true, ltb-true}
+use Rattle.std.proofs.Common.{◌≡◌, ℕ, ◌&&◌, ◌||◌, not, cond, zero, suc, Bool, true, false, List, [], ◌∷◌, ◌++◌, All, length, take, drop, get_or, nat_lt, slice_get, Option, Some, None, refl, sym, ap, ◌∙◌, subst}
+use Rattle.std.proofs.lemmas.Bool.{and_right, true≢false, false≢true, ltb-true}
 use Rattle.std.proofs.lemmas.Option.{none-some, same_Some, slice_get-get_or}
 use Rattle.std.proofs.lemmas.List.Elements.{All-head, All-same, All-tail, All-weaker}
 use Rattle.std.proofs.lemmas.List.{append-nil}
 use Rattle.rbd_schedule.specs.declared.given.Given.{Given}
-use Rattle.rbd_schedule.specs.Playing.{may_start_beside, is_over}
+use Rattle.rbd_schedule.specs.Playing.{is_open, may_start_beside, is_over}
 use Rattle.rbd_schedule.specs.Starts.{earliest}
 
 module _ (b a : (line : ℕ) → Bool) where
@@ -127,3 +127,38 @@ module _ (b a : (line : ℕ) → Bool) where
 pub found_there : (ys xs : List Given) (n : ℕ) (x : Given) → ys ≡ xs → true ≡ nat_lt n (length ys) → x ≡ get_or ys n x → slice_get xs n ≡ Some x
 found_there ys xs n x same below is =
     subst (λ zs. slice_get zs n ≡ Some x) same (slice_get-get_or ys n x (ltb-true n (length ys) (sym below)) ∙ ap Some (sym is))
+
+-- ---- one more that waits for an open one
+
+module _ (b a : (line : ℕ) → Bool) where
+  last_shut : (c : Given) → c.beside ≡ false → earliest b a false (c ∷ []) ≡ None
+  last_shut c = by (b c.line) c.beside
+    where
+      by : (p q : Bool) → q ≡ false → ◌≡◌ {A = Option Given} (cond (not p && (q || false)) (Some c) None) None
+      by true q is = refl
+      by false true is = absurd (true≢false is)
+      by false false is = refl
+
+  -- what is none stays so where the rest does
+  still_none : (q : Bool) (x : Given) (o n : Option Given) → (o ≡ None → n ≡ None) → cond q (Some x) o ≡ None → cond q (Some x) n ≡ None
+  still_none true x o n goes is = absurd (none-some x (sym is))
+  still_none false x o n goes is = goes is
+
+  shut : (given : List Given) (c : Given) → c.beside ≡ false → earliest b a false given ≡ None → earliest b a false (given ++ c ∷ []) ≡ None
+  shut [] c alone none = last_shut c alone
+  shut (x ∷ given) c alone none =
+      still_none (not (b x.line) && (x.beside || false)) x (earliest b a false given) (earliest b a false (given ++ c ∷ [])) (shut given c alone) none
+
+  not_ended : (p : Bool) → not p ≡ true → p ≡ false
+  not_ended true is = absurd (false≢true is)
+  not_ended false is = refl
+
+  pub held_back : (before : Bool) (given : List Given) (c : Given) (place : ℕ) → c.beside ≡ false → is_open a (slice_get given place) ≡ true → earliest b a before given ≡ None
+      → earliest b a before (given ++ c ∷ []) ≡ None
+  held_back before [] c place alone lasts none = absurd (false≢true lasts)
+  held_back before (x ∷ given) c zero alone lasts none =
+      still_none (not (b x.line) && (x.beside || before)) x (earliest b a (before && a x.line) given) (earliest b a (before && a x.line) (given ++ c ∷ []))
+      (subst (λ q. earliest b a q given ≡ None → earliest b a q (given ++ c ∷ []) ≡ None) (sym (and_right before (a x.line) (not_ended (a x.line) lasts))) (shut given c alone)) none
+  held_back before (x ∷ given) c (suc place) alone lasts none =
+      still_none (not (b x.line) && (x.beside || before)) x (earliest b a (before && a x.line) given) (earliest b a (before && a x.line) (given ++ c ∷ []))
+      (held_back (before && a x.line) given c place alone lasts) none

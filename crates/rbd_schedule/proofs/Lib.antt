@@ -32,6 +32,7 @@ pub mod Queues
 pub mod Quiet
 pub mod Showing
 pub mod Slots
+pub mod Sorted
 pub mod Stuck
 pub mod Turns
 pub mod Unchanged

@@ -1,6 +1,6 @@
 -- The notices that a session is past, as the world goes on.
 use Rattle.std.proofs.Common.{◌≡◌, ℕ, ◌≤◌, ◌==◌, ◌&&◌, ◌||◌, ◌⊎◌, inl, inr, cond, nat_lt, not, Bool, true, false, List, [], ◌++◌, append-nil, Option, Some, None, refl, sym, ap, ◌∙◌, subst, arith}
-use Rattle.std.proofs.lemmas.Bool.{and_left, and_right, eq-eqb, eqb-true, false≢true, lt-ltb, ltb-true, or_cases, or_left, or_right}
+use Rattle.std.proofs.lemmas.Bool.{and_left, and_right, eq-eqb, eqb-true, false≢true, lt-ltb, ltb-true, ne_eqb, or_cases, or_left, or_right}
 use Rattle.std.proofs.lemmas.List.Folds.{find-append, list_any-append}
 use Rattle.std.proofs.lemmas.Option.{none-some, same_Some}
 use Rattle.std.specs.Option.{option_map, option_or}
@@ -267,3 +267,21 @@ module _ {R : Type 0} (stands : R → Standing) where
       by (Some c) at is =
           subst (λ i. is_dealt_with (λ n. was_heard n w.calls) lost i number (notice_numbered number w.sites.mail) ≡ true)
           (sym (same_Some c.session.instance who is) ∙ latest_runs w sound session c at l there) settled
+
+  -- a notice to another session
+  pub others_passed : (lost : (number : ℕ) → Bool) (w : WorldView R) → IsSoundWorld stands w → (session number : ℕ) (to : Instance) → option_map (λ (n : Notice). n.to) (notice_numbered number w.sites.mail) ≡ Some to
+      → (session ≡ to.session → ⊥) → IsPassed lost session number w
+  others_passed lost w sound session number to is other l there = by (notice_numbered number w.sites.mail) refl is
+    where
+      away : (n : Notice) → n.to ≡ to → (n.to.session == l.latest.session) ≡ false
+      away n same =
+          ne_eqb n.to.session l.latest.session
+          (λ at. other (sym ((sound.told.lives session l there).whose) ∙ sym at ∙ ap (λ (i : Instance). i.session) same))
+
+      by : (o : Option Notice) → notice_numbered number w.sites.mail ≡ o → option_map (λ (n : Notice). n.to) o ≡ Some to
+          → is_dealt_with (λ n. was_heard n w.calls) lost l.latest number (notice_numbered number w.sites.mail) ≡ true
+      by None at none = absurd (none-some to none)
+      by (Some n) at some =
+          ap (is_dealt_with (λ k. was_heard k w.calls) lost l.latest number) at
+          ∙ or_left (is_past_life n.to l.latest) (was_heard number w.calls || lost number)
+          (or_left (not (n.to.session == l.latest.session)) (nat_lt n.to.life l.latest.life) (ap not (away n (same_Some n.to to some))))

@@ -1,6 +1,7 @@
 -- What is played, and what a runner keeps beside the world.
-use Rattle.std.specs.Prelude.{◌≡◌, ℕ, ◌<◌, ◌≤◌, ◌==◌, ◌&&◌, ◌||◌, ◌+◌, nat_eq, nat_lt, cond, not, Bool, true, false, List, [], length, take, map, All, slice_get, Option, Some, None}
+use Rattle.std.specs.Prelude.{◌≡◌, ◌⊎◌, ℕ, ◌<◌, ◌≤◌, ◌==◌, ◌&&◌, ◌||◌, ◌+◌, ◌-◌, nat_eq, nat_lt, cond, not, Bool, true, false, List, [], ◌∷◌, length, take, map, All, slice_get, Option, Some, None}
 use Rattle.std.specs.HashSet.{HashSet, contains_by}
+use Rattle.std.specs.declared.collections.VecDeque.{VecDeque}
 use Rattle.rbd_line_table.specs.Known.{is_known}
 use Rattle.rbd_line_table.specs.declared.line_map.LineMap.{LineMap}
 use Rattle.rbd_commands.specs.declared.command.Command.{Command}
@@ -27,8 +28,10 @@ use Rattle.rbd_world.specs.Sound.{AreAtHome, HasRun, IsNewWorld, IsSoundWorld}
 use Rattle.rbd_world.specs.Step.{is_begun}
 use Rattle.rbd_world.specs.World.{LivesView, WorldView, lives_in}
 use Rattle.rbd_schedule.specs.declared.given.Given.{Given}
+use Rattle.rbd_schedule.specs.declared.heard.Heard.{Heard}
 use Rattle.rbd_schedule.specs.declared.queue.Queue.{Queue}
 use Rattle.rbd_schedule.specs.declared.runner.Runner.{Runner}
+use Rattle.rbd_schedule.specs.Deeds.{Deeds}
 use Rattle.rbd_schedule.specs.InOrder.{AreDeclared}
 use Rattle.rbd_schedule.specs.Notices.{was_heard}
 use Rattle.rbd_schedule.specs.Schedule.{PlaysScript, Starts, Submits, is_held}
@@ -72,6 +75,14 @@ has_line line lines = is_known lines line
 abbrev pub has_number : {S : Type 0} → (number : ℕ) → HashSet ℕ S → Bool
 has_number number numbers = contains_by (nat_eq number) numbers
 
+abbrev pub mark_of : Option Bool → Bool
+mark_of None = false
+mark_of (Some mark) = mark
+
+-- whether a notice has a mark: it was heard
+abbrev pub has_mark : (number : ℕ) → Heard → Bool
+has_mark number h = mark_of (slice_get h.marks.items number)
+
 -- what stands at a place, where there is one
 abbrev pub at_place : List Given → Option ℕ → Option Given
 at_place given None = None
@@ -84,6 +95,14 @@ is_over begun ended c = begun c.line && ended c.line
 -- whether a command goes beside the others and wasn't begun: so it may start
 abbrev pub may_start_beside : (begun : (line : ℕ) → Bool) → Given → Bool
 may_start_beside begun c = c.beside && not (begun c.line)
+
+abbrev pub is_open : (ended : (line : ℕ) → Bool) → Option Given → Bool
+is_open ended None = false
+is_open ended (Some c) = not (ended c.line)
+
+-- whether a command that comes behind these waits for the one at a place, which hasn't ended
+abbrev pub is_held_back : (ended : (line : ℕ) → Bool) → (place : ℕ) → List Given → Given → Bool
+is_held_back ended place given c = not c.beside && is_open ended (slice_get given place)
 
 -- All commands before `front` are over; and of those before `next` none that goes beside the others
 -- has still to begin.
@@ -141,17 +160,36 @@ abbrev pub IsPassed : {R : Type 0} → (lost : (number : ℕ) → Bool) → (ses
 IsPassed {R} lost session number w =
     (l : LivesView R) → lives_in session w.lives ≡ Some l → is_dealt_with (λ n. was_heard n w.calls) lost l.latest number (notice_numbered number w.sites.mail) ≡ true
 
-abbrev pub count_of : Option ℕ → ℕ
-count_of None = 0
-count_of (Some count) = count
+-- ---- inboxes
 
--- how many of the first notices the session is past
-abbrev pub notices_passed : Runner → (session : ℕ) → ℕ
-notices_passed r session = count_of (slice_get r.passed.items session)
+-- Of the numbers above `from`, and up to `to`, each has this property, but for those listed, which
+-- ascend.
+abbrev pub HoldsBut : (P : (number : ℕ) → Type 0) → (from : ℕ) → (listed : List ℕ) → (to : ℕ) → Type 0
+HoldsBut P from [] to = (from ≤ to) × ((k : ℕ) → from ≤ k → k < to → P (k + 1))
+HoldsBut P from (number ∷ listed) to = (from < number) × ((k : ℕ) → from ≤ k → k + 1 < number → P (k + 1)) × HoldsBut P number listed to
+
+-- a list without some first numbers, each of which has this property
+abbrev pub IsWithout : (P : (number : ℕ) → Type 0) → (old new : List ℕ) → Type 0
+IsWithout P [] new = new ≡ []
+IsWithout P (number ∷ old) new = (new ≡ number ∷ old) ⊎ (P number × IsWithout P old new)
+
+-- how many of the first notices a session is past, of those that are sorted, by its inbox
+abbrev pub passed_by : List ℕ → (sorted : ℕ) → ℕ
+passed_by [] sorted = sorted
+passed_by (number ∷ numbers) sorted = number - 1
+
+abbrev pub numbers_in : {Z : Type 0} → Option (VecDeque ℕ Z) → List ℕ
+numbers_in None = []
+numbers_in (Some inbox) = inbox.items
+
+-- the notices in the inbox of a session
+abbrev pub inbox_of : Runner → (session : ℕ) → List ℕ
+inbox_of r session = numbers_in (slice_get r.inboxes.items session)
 
 -- ---- all of it
 
--- The world is sound, and what the runner keeps beside it is true of the world.
+-- The world is sound, and what the runner keeps beside it is true of the world: of the notices that
+-- are sorted each session is past all that aren't in its inbox.
 pub record KeepsUp (r : Runner) : Type 0 where
   pub sound : IsSoundWorld as_is (seen r.world)
   pub quiet : r.is_due ≡ false → IsQuiet (given_to r) (seen r.world)
@@ -160,8 +198,8 @@ pub record KeepsUp (r : Runner) : Type 0 where
   pub few : length r.queues.items ≤ 32
   pub queues : (session : ℕ) (q : Queue) → slice_get r.queues.items session ≡ Some q → IsQueueIn (seen r.world).history session q
   pub over : (line : ℕ) → has_line line r.over ≡ is_ended line (seen r.world).history
-  pub heard : (number : ℕ) → has_number number r.heard ≡ was_heard number (seen r.world).calls
-  pub passed : (session k : ℕ) → k < notices_passed r session → IsPassed (lost_in r) session (k + 1) (seen r.world)
+  pub heard : (number : ℕ) → has_mark number r.heard ≡ was_heard number (seen r.world).calls
+  pub sorted : (session : ℕ) → session < length r.inboxes.items → HoldsBut (λ number. IsPassed (lost_in r) session number (seen r.world)) 0 (inbox_of r session) r.sorted
 
 -- How the runner goes on: it keeps up, its sessions were given no further command, and no further
 -- notice is lost.
@@ -176,10 +214,12 @@ abbrev pub StartsIf : {R : Type 0} → (stands : R → Standing) → (given : (s
 StartsIf stands given session true old new = Submits stands given session old new
 StartsIf stands given session false old new = (new ≡ old) × IsIdle given old session
 
--- the command that starts next was submitted, or no command may start
-abbrev pub StartsWhere : {R : Type 0} → (stands : R → Standing) → (given : (session : ℕ) → List Given) → (started : Bool) → (old new : WorldView R) → Type 0
-StartsWhere stands given true old new = Starts stands given old new
-StartsWhere stands given false old new = (new ≡ old) × IsQuiet given old
+-- Commands of a session were submitted, one after another, until neither it nor a session before it
+-- had one that may start.
+pub record StartsEach {R : Type 0} (stands : R → Standing) (given : (session : ℕ) → List Given) (session : ℕ) (old new : WorldView R) : Type 0 where
+  pub count : ℕ
+  pub starts : Deeds (λ k. Starts stands given) count old new
+  pub idle : (other : ℕ) → other ≤ session → IsIdle given new other
 
 -- ---- what an event comes to
 

@@ -3,7 +3,7 @@
 //! ```text
 //! let world: World = play(alloc, &script)?;   // a script that `rbd_script` read
 //! world.history()                                            // what happened, in order
-//! world.calls()                                              // the events, each with what came of it
+//! world.events()                                             // how many events came
 //! ```
 //!
 //! ```text
@@ -64,10 +64,10 @@
 //! # Cost
 //!
 //! An event costs its step in the world (`rbd_world`). Only behind a reply, and where a line gives
-//! a command, is each session's queue looked at for one that may start: two look-ups by number. A
-//! command is passed by in its queue once, so all looks together cost as much as there are
-//! commands. A turn looks at the slots of its session up to the highest that any session was given
-//! so far.
+//! a command that needn't wait for one before it, is each session's queue looked at for one that
+//! may start: two look-ups by number. A command is passed by in its queue once, so all looks
+//! together cost as much as there are commands. A turn looks at the slots of its session up to the
+//! highest that any session was given so far, and at the notices that are in its inbox.
 //!
 //! # How it works
 //!
@@ -78,13 +78,15 @@
 //! no session runs again lets none start (`proofs/Quiet.antt`). What ended is read from the entries
 //! that an event adds to the history.
 //!
-//! Of the notices it has those that were delivered and those that are lost, and for each session
-//! how many of the first it is past: these are to others or to earlier lives, or were delivered or
-//! lost, and never are due to it again (`proofs/Passing.antt`). So a turn looks at what is new to
-//! its session alone.
+//! Of the notices it has marks of those that were delivered, and those that are lost. Each notice
+//! comes once into the inbox of its session. Of the notices that were sorted so a session is past
+//! all that aren't in its inbox: these are to others or to earlier lives, or were delivered or lost,
+//! and never are due to it again (`proofs/Passing.antt`, `proofs/Sorted.antt`). So a turn looks at
+//! what its session was told alone.
 #![tactic(auto)]
 
 mod given;
+mod heard;
 pub mod laws;
 mod notices;
 mod queue;

@@ -13,7 +13,7 @@ ghost use Rattle.std.specs.Prelude.{◌≡◌, ◌<◌, ◌≤◌, ◌∷◌, �
 ghost use Rattle.rbd_world.specs.Seen.{seen};
 ghost use Rattle.rbd_schedule.specs.declared.given.Given.{Given as Commanded};
 ghost use Rattle.rbd_world.specs.Step.{is_begun};
-ghost use Rattle.rbd_schedule.specs.Playing.{IsQueue, at_place, may_start_beside, is_over as over, has_line};
+ghost use Rattle.rbd_schedule.specs.Playing.{IsQueue, at_place, is_held_back, may_start_beside, is_over as over, has_line};
 ghost use Rattle.rbd_schedule.specs.Starts.{earliest as earliest_of};
 
 use crate::given::Given;
@@ -55,6 +55,20 @@ impl Queue {
     {
         self.commands.push(given)?;
         Ok(())
+    }
+
+    /// Whether a command that comes behind the others waits for one of them, as far as is seen: it
+    /// doesn't stand beside them, and the first that isn't known to be over hasn't ended.
+    pub fn holds_back(&self, given: &Given, ended: &LineMap<()>) -> bool
+        ensures { result ≡ is_held_back (λ line. has_line line ended.now) self.now.front self.now.commands.items given.now }
+    {
+        if given.beside {
+            return false;
+        }
+        match self.commands.get(self.front) {
+            Some(first) => !ended.has(first.line),
+            None => false,
+        }
     }
 
     /// The place of the earliest command that may start, where the session has a free slot.

@@ -3,7 +3,7 @@
 //! ```text
 //! an event ── step ── is there a reply? ── start ── start ── .. ── nothing may start
 //! ```
-ghost use Rattle.std.specs.Prelude.{◌≡◌, ℕ, ◌<◌, ◌≤◌, ◌&&◌, ◌||◌, ◌++◌, [], true, false, drop, length, All, slice_get, IfOk, IfSome, OnOk};
+ghost use Rattle.std.specs.Prelude.{◌≡◌, ℕ, ◌<◌, ◌≤◌, ◌&&◌, ◌||◌, ◌++◌, [], true, false, drop, length, not, All, slice_get, IfOk, IfSome, OnOk};
 ghost use Rattle.rbd_client.specs.Seen.{as_is};
 ghost use Rattle.rbd_world.specs.Sound.{AreAtHome, IsNewWorld, IsSoundWorld};
 ghost use Rattle.rbd_world.specs.Step.{IsBuiltEvent, IsWorldStep};
@@ -11,11 +11,12 @@ ghost use Rattle.rbd_world.specs.declared.event.Event.TheVariants as of_event;
 ghost use Rattle.rbd_world.specs.Seen.{seen};
 ghost use Rattle.rbd_schedule.specs.Given.{given_by as told_by_line, loses_notice, of_session};
 ghost use Rattle.rbd_schedule.specs.Notices.{is_heard as heard_by};
-ghost use Rattle.rbd_schedule.specs.Starts.{is_ended, to_start};
-ghost use Rattle.rbd_schedule.specs.Playing.{at_place, count_of, RunnerGoesOn, IsEmptyQueue, IsNoStart, IsPlayedLine, KeepsUp, StartsIf, StartsWhere, line_ended_by as end_of, given_to, has_line, has_number, highest_after, homes_of, is_one_of, lets_start as may_start_by, lost_in, delivered_by};
+ghost use Rattle.rbd_schedule.specs.Starts.{IsIdle, is_ended, to_start};
+ghost use Rattle.rbd_schedule.specs.Playing.{at_place, RunnerGoesOn, IsEmptyQueue, IsNoStart, IsPlayedLine, KeepsUp, StartsEach, StartsIf, line_ended_by as end_of, given_to, has_line, has_mark, highest_after, homes_of, is_one_of, lets_start as may_start_by, lost_in, delivered_by, numbers_in};
 ghost use Rattle.rbd_schedule.specs.Schedule.{Comes, Happens, StartsAll};
 
 use crate::given::given_by;
+use crate::heard::Heard;
 use crate::queue::Queue;
 use rbd_flat::Entry;
 use rbd_kinds::{ImageId, NoMemory, Number, SessionNo, SiteId, Slot};
@@ -24,7 +25,7 @@ use rbd_machine::Machine;
 use rbd_script::{Declared, Line, Said};
 use rbd_world::{Event, Outcome, World};
 use std::alloc::Global;
-use std::collections::HashSet;
+use std::collections::{HashSet, VecDeque};
 
 /// A world, and the commands of the script for each of its sessions. As a world it isn't `Drop`.
 pub struct Runner {
@@ -38,11 +39,13 @@ pub struct Runner {
     /// No session holds a slot above it.
     highest: u8,
     /// The notices that were delivered.
-    pub heard: HashSet<u64>,
+    pub heard: Heard,
     /// The notices that no settle delivers.
     pub lost: HashSet<u64>,
-    /// How many of the first notices each session is past: no turn of it will deliver them.
-    pub passed: Vec<u64>,
+    /// How many of the first notices are sorted by their sessions.
+    pub sorted: u64,
+    /// Of those the ones that a turn of each session may still deliver, in ascending order.
+    pub inboxes: Vec<VecDeque<u64>>,
 }
 
 impl Runner {
@@ -58,7 +61,7 @@ impl Runner {
     {
         let homes = homes(alloc, sessions)?;
         let queues = no_commands(alloc, sessions.len())?;
-        let passed = no_numbers(alloc, sessions.len())?;
+        let inboxes = empty_inboxes(alloc, sessions.len())?;
         let world = World::new(alloc, homes.as_slice())?;
         Ok(Runner {
             world,
@@ -66,9 +69,10 @@ impl Runner {
             over: LineMap::new(alloc),
             is_due: false,
             highest: 0,
-            heard: HashSet::new(alloc),
+            heard: Heard::new(alloc),
             lost: HashSet::new(alloc),
-            passed,
+            sorted: 0,
+            inboxes,
         })
     }
 
@@ -91,7 +95,8 @@ impl Runner {
             highest: _,
             heard: _,
             lost: _,
-            passed: _,
+            sorted: _,
+            inboxes: _,
         } = self;
         world
     }
@@ -136,9 +141,12 @@ impl Runner {
         let Some(given) = given_by(line)? else {
             return Ok(());
         };
-        self.is_due = true;
         match self.queues.get_mut(given.session.0 as usize) {
-            Some(queue) => queue.push(given),
+            Some(queue) => {
+                let is_held = queue.holds_back(&given, &self.over);
+                self.is_due = is_due_behind(self.is_due, is_held);
+                queue.push(given)
+            }
             None => {
                 drop(given);
                 Ok(())
@@ -245,7 +253,7 @@ impl Runner {
     fn note(&mut self, from: usize, told: Option<u64>, outcome: &Outcome) -> Result<(), NoMemory>
         requires { from ≤ length (seen self.old.world).history }
         ensures over { OnOk result ((line : ℕ) → has_line line self.new.over ≡ (has_line line self.old.over || is_ended line (drop from (seen self.old.world).history))) }
-        ensures heard { OnOk result ((number : ℕ) → has_number number self.new.heard ≡ (has_number number self.old.heard || (is_one_of number told && heard_by outcome.now))) }
+        ensures heard { OnOk result ((number : ℕ) → has_mark number self.new.heard ≡ (has_mark number self.old.heard || (is_one_of number told && heard_by outcome.now))) }
         ensures due { OnOk result (self.new.is_due ≡ (self.old.is_due || may_start_by outcome.now)) }
         ensures rest { self.new ≡ record self.old { over = self.new.over; heard = self.new.heard; is_due = self.new.is_due } }
     {
@@ -264,23 +272,23 @@ impl Runner {
         if !self.is_due {
             return Ok(());
         }
-        while self.start_next(alloc)? {}
+        for session in 0..self.queues.len() {
+            self.start_each(alloc, SessionNo(session as u8))?;
+        }
         self.is_due = false;
         Ok(())
     }
 
-    /// Starts the command that starts next: `false` exactly where none may start.
-    fn start_next(&mut self, alloc: Global) -> Result<bool, NoMemory>
-        requires { KeepsUp self.old }
-        ensures starts { IfOk result (λ started. StartsWhere as_is (given_to self.old) started (seen self.old.world) (seen self.new.world)) }
+    /// Starts each command of a session that may start, one after another, where none of the
+    /// sessions before it has one.
+    fn start_each(&mut self, alloc: Global, session: SessionNo) -> Result<(), NoMemory>
+        requires keeps { KeepsUp self.old }
+        requires before { (other : ℕ) → other < session → IsIdle (given_to self.old) (seen self.old.world) other }
+        ensures starts { OnOk result (StartsEach as_is (given_to self.old) session (seen self.old.world) (seen self.new.world)) }
         ensures goes { OnOk result (RunnerGoesOn self.old self.new) }
     {
-        for session in 0..self.queues.len() {
-            if self.start_of(alloc, SessionNo(session as u8))? {
-                return Ok(true);
-            }
-        }
-        Ok(false)
+        while self.start_of(alloc, session)? {}
+        Ok(())
     }
 
     /// Starts the earliest command of a session that may start: `false` exactly where there is
@@ -337,6 +345,13 @@ impl Runner {
     }
 }
 
+/// Whether a command may have come to start, behind one that was given.
+fn is_due_behind(is_due: bool, is_held: bool) -> bool
+    ensures { result ≡ (is_due || not is_held) }
+{
+    is_due || !is_held
+}
+
 /// The highest slot that was given so far, behind a step.
 fn highest_behind(highest: u8, outcome: &Outcome) -> u8
     ensures { result ≡ highest_after highest outcome.now }
@@ -379,18 +394,14 @@ fn line_ended_by(entry: &Entry) -> Option<u32>
 }
 
 /// The notice that an event told, where an instance heard it.
-fn note_hearing(
-    heard: &mut HashSet<u64>,
-    told: Option<u64>,
-    outcome: &Outcome,
-) -> Result<(), NoMemory>
-    ensures { OnOk result ((number : ℕ) → has_number number heard.new ≡ (has_number number heard.old || (is_one_of number told && heard_by outcome.now))) }
+fn note_hearing(heard: &mut Heard, told: Option<u64>, outcome: &Outcome) -> Result<(), NoMemory>
+    ensures { OnOk result ((number : ℕ) → has_mark number heard.new ≡ (has_mark number heard.old || (is_one_of number told && heard_by outcome.now))) }
 {
     if !is_heard(outcome) {
         return Ok(());
     }
     if let Some(number) = told {
-        heard.insert(number)?;
+        heard.add(number)?;
     }
     Ok(())
 }
@@ -456,13 +467,13 @@ fn no_commands(alloc: Global, sessions: usize) -> Result<Vec<Queue>, NoMemory>
     Ok(queues)
 }
 
-/// 0 for each of so many sessions.
-fn no_numbers(alloc: Global, sessions: usize) -> Result<Vec<u64>, NoMemory>
-    ensures { IfOk result (λ numbers. (k : ℕ) → count_of (slice_get numbers.items k) ≡ 0) }
+/// An empty inbox for each of so many sessions.
+fn empty_inboxes(alloc: Global, sessions: usize) -> Result<Vec<VecDeque<u64>>, NoMemory>
+    ensures { IfOk result (λ inboxes. (k : ℕ) → numbers_in (slice_get inboxes.items k) ≡ []) }
 {
-    let mut numbers = Vec::new(alloc);
+    let mut inboxes = Vec::new(alloc);
     for _session in 0..sessions {
-        numbers.push(0)?;
+        inboxes.push(VecDeque::new(alloc))?;
     }
-    Ok(numbers)
+    Ok(inboxes)
 }

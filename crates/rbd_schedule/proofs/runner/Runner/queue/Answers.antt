@@ -1,4 +1,4 @@
-use Rattle.std.proofs.Common.{◌≡◌, Some, true, [], ◌∷◌, ◌++◌, slice_get, slice_set, sym, ap, ◌∙◌, refl}
+use Rattle.std.proofs.Common.{◌≡◌, ◌||◌, Some, not, [], ◌∷◌, ◌++◌, slice_get, slice_set, sym, ap, ◌∙◌, refl}
 use Rattle.std.proofs.lemmas.Option.{slice_get_read, slice_get_within}
 use Rattle.std.proofs.lemmas.Result.{on_ok_weaker}
 use Rattle.std.specs.Vec.{vec_len, with_item}
@@ -25,9 +25,10 @@ told c = sym (ap given_or_none c.in-Some.is) ∙ c.in_ok-given.ensures
 pub returns-in-Some-get_mut-clause-keeps : goal.returns-in-Some-get_mut-clause-keeps
 returns-in-Some-get_mut-clause-keeps c =
     on_ok_weaker c.push.result (λ commands played keeps.
-    keeps_more c.args.self.now (record c.args.self.now { queues = with_item c.args.self.now.queues c.given.inside.0.0.0 c.push.new.self; is_due = true })
+    keeps_more c.args.self.now (record c.args.self.now { queues = with_item c.args.self.now.queues c.given.inside.0.0.0 c.push.new.self; is_due = c.is_due_behind-self.result })
     c.in-Some.given c.in-Some-get_mut.queue.now c.push.new.self keeps (there c) refl
-    (ap (λ n. slice_set c.args.self.now.queues.items n c.push.new.self) (number c)) commands c.push.ensures.front c.push.ensures.next
+    (ap (λ n. slice_set c.args.self.now.queues.items n c.push.new.self) (number c))
+    (c.is_due_behind-self.ensures ∙ ap (λ b. c.args.self.now.is_due || not b) c.holds_back-is_held.ensures) commands c.push.ensures.front c.push.ensures.next
     (one_given c.args.line.now.number c.args.line.now.said c.in-Some.given (told c) played)) c.push.ensures.commands
 
 pub returns-in-Some-get_mut-clause-given : goal.returns-in-Some-get_mut-clause-given
