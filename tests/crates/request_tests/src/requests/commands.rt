@@ -1,6 +1,6 @@
 //! The requests of the commands that a case spells, and what each of them wants.
 //!
-//! A case is a paragraph: what is tested, the command, and the rows of `rbd_fixtures` by which its
+//! A case is a paragraph: what is tested, the command, and the rows of `fixtures` by which its
 //! request is fed.
 use crate::fixtures::{
     RowError, asked, fails, fill_length, holds, name, number, payload, plays, read_length,
