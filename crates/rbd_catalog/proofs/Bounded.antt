@@ -4,6 +4,8 @@ use Rattle.std.proofs.lemmas.List.{length-replicate}
 use Rattle.rbd_kinds.specs.declared.sharing.Sharing.TheVariants as sharing
 use Rattle.rbd_commands.specs.declared.command.Command.{Command}
 use Rattle.rbd_commands.specs.declared.command.Command.TheVariants as command
+use Rattle.rbd_commands.specs.declared.quiescing.Quiescing.{Quiescing}
+use Rattle.rbd_commands.specs.Quiescing.{quiescing_of}
 use Rattle.rbd_kinds.specs.declared.header.HeaderView.{HeaderView}
 use Rattle.rbd_kinds.specs.declared.id.SiteId.{SiteId}
 use Rattle.rbd_kinds.specs.declared.layout.Extent.{Extent}
@@ -20,6 +22,7 @@ use Rattle.rbd_machine.specs.Refused.{AreGiven}
 use Rattle.rbd_machine.specs.declared.seat.Seat.{Seat}
 use Rattle.rbd_meaning.specs.Listings.{shown_snaps}
 use Rattle.rbd_meaning.specs.Range.{extent_at, out_of_range}
+use Rattle.rbd_meaning.specs.Straight.{operations_of, Straight, straight_of}
 use Rattle.rbd_meaning.specs.Writes.{write_refuses}
 use Rattle.rbd_pieces.proofs.Bounded.{bounded_gather}
 use Rattle.rbd_data.proofs.Bounded.{bounded_closing, bounded_put}
@@ -28,7 +31,7 @@ use Rattle.rbd_data.specs.Seen.{seen_at}
 use Rattle.rbd_data.specs.Write.{put_plan, write}
 use Rattle.rbd_image.proofs.Bounds.{bounded_create, bounded_listing, bounded_names, bounded_rename, bounded_show_header}
 use Rattle.rbd_snap.proofs.Bounds.{bounded_removal, bounded_snap}
-use Rattle.rbd_session.proofs.Bounds.{bounded_close, bounded_quiesce, bounded_resume, bounded_tell}
+use Rattle.rbd_session.proofs.Bounds.{bounded_close, bounded_quiesce, bounded_straight}
 use Rattle.rbd_data.proofs.DiscardsBounded.{bounded_own}
 use Rattle.rbd_data.specs.Discard.{discard, zero}
 use Rattle.rbd_image.proofs.RemovalsBounded.{request_is_short}
@@ -38,8 +41,8 @@ use Rattle.rbd_snap.specs.Rollback.{rollback}
 use Rattle.rbd_catalog.proofs.Given.{asks_on_id, asks_on_header, asks_unless, asks_change, asks_within, walk_asks}
 use Rattle.rbd_catalog.proofs.Told.{resize_within, rollback_within}
 use Rattle.rbd_catalog.specs.EachRequest.{of_create, of_plan, same_some, stands_at}
-use Rattle.rbd_catalog.specs.Plans.{IsPlanFor, planned, read_from}
-use Rattle.rbd_catalog.specs.Profile.{between, is_nothing, more_by, most_operations, profile}
+use Rattle.rbd_catalog.specs.Plans.{IsPlanFor, planned, planned_straight, read_from}
+use Rattle.rbd_catalog.specs.Profile.{between, is_nothing, more_by, most_operations, profile, straight_row}
 use Rattle.rbd_catalog.specs.Touched.{AsksAtMost, HasAtMost}
 
 -- ---- write, fill
@@ -108,6 +111,10 @@ module _ (seat : Seat) (s : Standing) (most : ℕ) where
   by_bound : (n : ℕ) (plan : Plan) → planned plan ≡ Some s → IsBounded plan n → AskOnce most n s
   by_bound n plan is bounded = of_plan (AskOnce most n) plan s is (once most n plan bounded)
 
+  row_asks_few : (q : Quiescing) (o : Option Straight) → planned_straight seat.home o ≡ Some s → AskFew s (most_operations (straight_row q o) most)
+  row_asks_few q None is = cc
+  row_asks_few q (Some row) is = by_bound (operations_of row) _ is (bounded_straight seat.home row)
+
   ask_few : (c : Command) → IsPlanFor seat c s → is_nothing (profile c).told ≡ true → HasAtMost most (profile c).extent → AskFew s (most_operations (profile c) most)
   ask_few (command.Write name from bytes) is bounded few = by_told s _ _ is (write_asks_few seat.home name from bytes most few)
   ask_few (command.Fill name from len byte) is bounded few = by_told s _ _ is (fill_asks_few seat.home name from len byte most few)
@@ -125,9 +132,10 @@ module _ (seat : Seat) (s : Standing) (most : ℕ) where
   ask_few (command.SnapList name) is bounded few = by_bound 2 _ is (bounded_show_header seat.home name shown_snaps)
   ask_few (command.Close name) is bounded few = by_bound 4 _ is (bounded_close seat.home name)
   ask_few (command.Quiesce name) is bounded few = by_bound 3 _ is (bounded_quiesce seat.home name)
-  ask_few (command.Resume name) is bounded few = by_bound 1 _ is (bounded_resume seat.home name)
-  ask_few (command.Tell name bytes) is bounded few = by_bound 2 _ is (bounded_tell seat.home name bytes)
-  ask_few _ is bounded few = cc
+  ask_few (command.Resize name size) is bounded few = cc
+  ask_few (command.SnapRollback name snap) is bounded few = cc
+  ask_few (command.Remove name) is bounded few = cc
+  ask_few c is bounded few = row_asks_few (quiescing_of c) (straight_of c) is
 
 pub command_is_bounded : (seat : Seat) (c : Command) (s : Standing) (most : ℕ) → IsPlanFor seat c s → is_nothing (profile c).told ≡ true → HasAtMost most (profile c).extent
     → AsksAtMost s.plan (most_operations (profile c) most)

@@ -1,16 +1,20 @@
 -- Each command follows its row.
-use Rattle.std.proofs.Common.{◌≡◌, refl, sym, ◌∙◌, subst, true, false, Bool, cond, List, [], Some, None}
+use Rattle.std.proofs.Common.{◌≡◌, refl, sym, ◌∙◌, subst, true, false, Bool, cond, List, [], Option, Some, None}
 use Rattle.rbd_commands.specs.declared.command.Command.{Command}
 use Rattle.rbd_commands.specs.declared.command.Command.TheVariants as command
+use Rattle.rbd_commands.specs.Quiescing.{quiescing_of}
+use Rattle.rbd_commands.specs.declared.quiescing.Quiescing.{Quiescing}
+use Rattle.rbd_kinds.specs.declared.id.SiteId.{SiteId}
 use Rattle.rbd_layout.specs.Asked.{layout_of}
 use Rattle.rbd_machine.specs.Plan.{Plan, Standing, without_labels}
 use Rattle.rbd_machine.specs.declared.seat.Seat.{Seat}
+use Rattle.rbd_meaning.specs.Straight.{Straight, straight_of}
 use Rattle.rbd_data.specs.Read.{is_read}
 use Rattle.rbd_catalog.specs.EachRequest.{HoldsOfEach, is_one_read, of_command, of_plan, same_some}
 use Rattle.rbd_catalog.specs.Follows.{Follows, FollowsFrom, Outside}
-use Rattle.rbd_catalog.specs.Plans.{IsPlanFor, create_at, planned}
-use Rattle.rbd_catalog.specs.Profile.{Profile, profile}
-use Rattle.rbd_catalog.proofs.Walks.{close_follows, quiesce_follows, resume_follows, tell_follows}
+use Rattle.rbd_catalog.specs.Plans.{IsPlanFor, create_at, planned, planned_straight}
+use Rattle.rbd_catalog.specs.Profile.{Profile, profile, straight_row}
+use Rattle.rbd_catalog.proofs.Walks.{close_follows, quiesce_follows, straight_follows}
 use Rattle.rbd_catalog.proofs.ReadsRemoves.{read_follows, rm_follows}
 use Rattle.rbd_catalog.proofs.Changes.{create_follows, discard_follows, fill_follows, info_follows, list_follows, rename_follows, rollback_follows, size_follows, snap_list_follows, snap_removal_follows, take_follows, used_follows, write_follows}
 
@@ -18,6 +22,10 @@ use Rattle.rbd_catalog.proofs.Changes.{create_follows, discard_follows, fill_fol
 
 from_plan : (p : Profile) (plan : Plan) (s : Standing) → planned plan ≡ Some s → Follows p Outside plan → FollowsFrom p s
 from_plan p plan s is follows = of_plan (FollowsFrom p) plan s is (record { plan = follows; labels = λ label. refl })
+
+from_row : (home : SiteId) (q : Quiescing) (o : Option Straight) (s : Standing) → planned_straight home o ≡ Some s → FollowsFrom (straight_row q o) s
+from_row home q None s is = cc
+from_row home q (Some row) s is = from_plan _ _ s is (straight_follows home q row)
 
 pub command_follows : (seat : Seat) (c : Command) (s : Standing) → IsPlanFor seat c s → FollowsFrom (profile c) s
 command_follows seat (command.Write image at bytes) s is = from_plan _ _ s is (write_follows seat.home image at bytes)
@@ -45,9 +53,7 @@ command_follows seat (command.SnapRollback image snap) s is = from_plan _ _ s is
 command_follows seat (command.SnapList image) s is = from_plan _ _ s is (snap_list_follows seat.home image)
 command_follows seat (command.Close image) s is = from_plan _ _ s is (close_follows seat.home image)
 command_follows seat (command.Quiesce image) s is = from_plan _ _ s is (quiesce_follows seat.home image)
-command_follows seat (command.Resume image) s is = from_plan _ _ s is (resume_follows seat.home image)
-command_follows seat (command.Tell image bytes) s is = from_plan _ _ s is (tell_follows seat.home image bytes)
-command_follows seat _ s is = cc
+command_follows seat c s is = from_row seat.home (quiescing_of c) (straight_of c) s is
 
 -- ---- no other than a read goes to a label
 

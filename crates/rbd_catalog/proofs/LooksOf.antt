@@ -25,13 +25,14 @@ use Rattle.rbd_machine.specs.Steps.{unless, on_header, change_plan, joining as c
 use Rattle.rbd_meaning.specs.Listings.{shown_snaps, used_among}
 use Rattle.rbd_meaning.specs.Range.{extent_at}
 use Rattle.rbd_meaning.specs.Snaps.{create_refuses, remove_refuses}
+use Rattle.rbd_meaning.specs.Straight.{Straight, straight_of}
 use Rattle.rbd_meaning.specs.Writes.{write_refuses}
 use Rattle.rbd_data.specs.Write.{put_plan, write, write_pieces, write_plan}
 use Rattle.rbd_image.specs.Create.{IsCreate, IsCreatePlan, mapping, making, drawing}
 use Rattle.rbd_image.specs.Listing.{counting, list_names, listing_plan, measuring, rename, show_header, show_used, showing}
 use Rattle.rbd_snap.specs.Snap.{taking_snap, unmapping, take, remove_listed, remove_snap_plan, snap_plan}
 use Rattle.rbd_image.proofs.Decided.{limits_or_not}
-use Rattle.rbd_session.specs.Close.{replies_done, unwatching, on_dropped, joining, close, quiesced, resumed_plan, resume, telling_others, tell, close_plan}
+use Rattle.rbd_session.specs.Close.{replies_done, unwatching, on_dropped, joining, close, quiesced, straight, straight_plan, telling, close_plan}
 use Rattle.rbd_data.specs.Discard.{discard_plan, zero}
 use Rattle.rbd_kinds.specs.declared.layout.Extent.{Extent}
 use Rattle.rbd_meaning.specs.Count.{object_count}
@@ -234,16 +235,22 @@ pub at_remove_plan : (site : SiteId) (session : ℕ) (c : Command) → LooksWell
 at_remove_plan site session (command.Remove image) = (tt, λ a. (tt, at_id LooksWell well_ends (joining_its_line site session) (λ i. well_joined site session i) a))
 at_remove_plan site session _ = tt
 
--- ---- close, quiesce, resume, tell
+-- ---- close, quiesce, straight commands
 
 none_dropped : (site : SiteId) (image : ℕ) (a : Answer) → LooksNoMore (on_dropped site image a)
 none_dropped site image answer.Done = (tt, at_done LooksNoMore none_ends (unwatching site image) (tt, at_done LooksNoMore none_ends replies_done tt))
 none_dropped site image answer.Changed = (tt, at_done LooksNoMore none_ends replies_done tt)
 none_dropped site image a = at_not_there LooksNoMore none_ends a
 
+none_telling : (site : SiteId) (o : Option (List ℕ)) (image : ℕ) → LooksNoMore (telling site o image)
+none_telling site None image = tt
+none_telling site (Some bytes) image = (tt, at_done LooksNoMore none_ends replies_done tt)
+
+at_straight : (site : SiteId) (o : Option Straight) → LooksWell (straight_plan site o)
+at_straight site None = tt
+at_straight site (Some s) = at_none (straight site s) (tt, at_id LooksNoMore none_ends (telling site s.tells) (none_telling site s.tells))
+
 pub at_close_plan : (site : SiteId) (c : Command) → LooksWell (close_plan site c)
 at_close_plan site (command.Close image) = at_none (close site image) (tt, at_id LooksNoMore none_ends (joining site) (λ i. (tt, none_dropped site i)))
 at_close_plan site (command.Quiesce image) = at_change site image sharing.Alone refuses_none quiesced (λ i h. tt)
-at_close_plan site (command.Resume image) = at_none (resume site image) (tt, at_id LooksNoMore none_ends resumed_plan (λ i. tt))
-at_close_plan site (command.Tell image bytes) = at_none (tell site image bytes) (tt, at_id LooksNoMore none_ends (telling_others site bytes) (λ i. (tt, at_done LooksNoMore none_ends replies_done tt)))
-at_close_plan site _ = tt
+at_close_plan site c = at_straight site (straight_of c)

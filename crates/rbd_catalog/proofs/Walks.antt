@@ -1,6 +1,7 @@
 -- Steps that many commands share, along any row; the session's commands along theirs.
 use Rattle.std.proofs.Common.{◌≡◌, refl, ℕ, true, false, List, inl, inr, Option, Some, None}
 use Rattle.rbd_commands.specs.declared.command.Command.TheVariants as command
+use Rattle.rbd_commands.specs.declared.quiescing.Quiescing.{Quiescing}
 use Rattle.rbd_commands.specs.declared.refusal.Refusal.{Refusal}
 use Rattle.rbd_kinds.specs.declared.answer.Answer.{Answer}
 use Rattle.rbd_kinds.specs.declared.answer.Answer.TheVariants as answer
@@ -16,9 +17,10 @@ use Rattle.rbd_kinds.specs.declared.sharing.Sharing.TheVariants as sharing
 use Rattle.rbd_machine.specs.Plan.{Plan}
 use Rattle.rbd_machine.specs.Refused.{only_looks, refuses_none}
 use Rattle.rbd_machine.specs.Steps.{change_plan, joining, looked, holding, owned, not_there, on_done, on_header, on_id, unless}
+use Rattle.rbd_meaning.specs.Straight.{Straight}
 use Rattle.rbd_session.specs.Close as session
 use Rattle.rbd_catalog.specs.Follows.{Follows, IsAmong, MayGoFirst, MayRecord, Outside, Joined, Held, Progress}
-use Rattle.rbd_catalog.specs.Profile.{Profile, profile}
+use Rattle.rbd_catalog.specs.Profile.{Profile, profile, straight_row}
 
 -- ---- steps that many share
 
@@ -43,7 +45,7 @@ module _ (p : Profile) (at : Progress) where
   follows_unless None next follows = follows
   follows_unless (Some r) next follows = tt
 
--- ---- close, quiesce, resume, tell
+-- ---- close
 
 module _ (site : SiteId) (name : List ℕ) where
   unwatches : (image : ℕ) → Follows (profile (command.Close name)) Held (session.unwatching site image)
@@ -67,9 +69,6 @@ module _ (site : SiteId) (name : List ℕ) where
           (refl, (record { kind = inr (inl refl); recorded = tt; own = tt; by_itself = refl; first = tt }, λ d. on_dropped image d)),
         )) a,
   )
-
-  pub resume_follows : Follows (profile (command.Resume name)) Outside (session.resume site name)
-  resume_follows = (record { kind = inl refl; recorded = tt; own = tt; by_itself = refl; first = tt }, λ a. follows_on_id (profile (command.Resume name)) Outside session.resumed_plan (λ image. refl) a)
 
 -- ---- a change, up to what it does behind its look under the lock
 
@@ -112,12 +111,18 @@ quiesce_follows site name =
     change_follows (profile (command.Quiesce name)) site sharing.Alone (record { joins = refl; finds = inl refl; looks = inr (inl refl); records_none = λ at. tt })
     refuses_none session.quiesced name (λ image h. refl)
 
-pub tell_follows : (site : SiteId) (name bytes : List ℕ) → Follows (profile (command.Tell name bytes)) Outside (session.tell site name bytes)
-tell_follows site name bytes = (
-  record { kind = inl refl; recorded = tt; own = tt; by_itself = refl; first = tt },
-  λ a.
-      follows_on_id (profile (command.Tell name bytes)) Outside (session.telling_others site bytes) (λ image. (
-        record { kind = inr (inl refl); recorded = tt; own = tt; by_itself = refl; first = tt },
-        λ told. follows_on_done (profile (command.Tell name bytes)) Outside session.replies_done refl told,
-      )) a,
-)
+-- ---- straight commands
+
+module _ (site : SiteId) (q : Quiescing) where
+  telling_follows : (name : List ℕ) (o : Option (List ℕ)) (image : ℕ) → Follows (straight_row q (Some (record { name = name; tells = o }))) Outside (session.telling site o image)
+  telling_follows name None image = refl
+  telling_follows name (Some bytes) image = (
+    record { kind = inr (inl refl); recorded = tt; own = tt; by_itself = refl; first = tt },
+    λ told. follows_on_done (straight_row q (Some (record { name = name; tells = Some bytes }))) Outside session.replies_done refl told,
+  )
+
+  pub straight_follows : (s : Straight) → Follows (straight_row q (Some s)) Outside (session.straight site s)
+  straight_follows s = (
+    record { kind = inl refl; recorded = tt; own = tt; by_itself = refl; first = tt },
+    λ a. follows_on_id (straight_row q (Some s)) Outside (session.telling site s.tells) (telling_follows s.name s.tells) a,
+  )

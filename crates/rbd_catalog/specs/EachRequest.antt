@@ -1,6 +1,6 @@
 -- What holds of each kind of request holds of the request of each command: a lemma that the laws of
 -- an `impl` cite. So those over all commands don't go through them one by one.
-use Rattle.std.proofs.Common.{◌≡◌, ◌↔◌, refl, sym, ◌∙◌, subst, ap, ℕ, true, false, Bool, cond, List, Some, None}
+use Rattle.std.proofs.Common.{◌≡◌, ◌↔◌, refl, sym, ◌∙◌, subst, ap, ℕ, true, false, Bool, cond, List, Option, Some, None, is_some}
 use Rattle.rbd_commands.specs.declared.command.Command.{Command}
 use Rattle.rbd_commands.specs.declared.command.Command.TheVariants as command
 use Rattle.rbd_commands.specs.declared.command.Shape.{Shape}
@@ -12,11 +12,12 @@ use Rattle.rbd_machine.specs.Plan.{Plan, Standing, without_labels}
 use Rattle.rbd_machine.specs.Steps.{refused}
 use Rattle.rbd_machine.specs.declared.seat.Seat.{Seat}
 use Rattle.rbd_meaning.specs.Count.{object_count}
+use Rattle.rbd_meaning.specs.Straight.{Straight, straight_of}
 use Rattle.rbd_meaning.proofs.Counts.{counts, one_count}
 use Rattle.rbd_image.specs.Create.{IsCreate, IsCreatePlan, drawing}
 use Rattle.rbd_image.specs.Listing.{is_listing, listing_plan}
 use Rattle.rbd_snap.specs.Snap.{is_snap, snap_plan}
-use Rattle.rbd_session.specs.Close.{is_close, close_plan}
+use Rattle.rbd_session.specs.Close.{is_close, close_plan, straight_plan}
 use Rattle.rbd_data.specs.Discard.{is_discard, discard_plan}
 use Rattle.rbd_image.specs.Remove.{is_remove, remove_plan}
 use Rattle.rbd_data.specs.Read.{IsReadOf, is_read}
@@ -24,7 +25,7 @@ use Rattle.rbd_data.specs.Write.{is_write, write_plan}
 use Rattle.rbd_image.specs.Resize.{is_resize, resize_plan}
 use Rattle.rbd_snap.specs.Rollback.{is_rollback, rollback_plan}
 use Rattle.rbd_catalog.specs.Limits.{limits_are_told}
-use Rattle.rbd_catalog.specs.Plans.{IsPlanFor, create_at, keeps_limits, planned}
+use Rattle.rbd_catalog.specs.Plans.{IsPlanFor, create_at, keeps_limits, planned, planned_straight}
 
 pub same_some : (s t : Standing) → Some s ≡ Some t → s ≡ t
 same_some s t is = cc
@@ -117,6 +118,14 @@ module _ (seat : Seat) (P : Command → Standing → Type 0) where
   of : (serves : Command → Bool) (plan : Command → Plan) → Of serves plan → (c : Command) (s : Standing) → serves c ≡ true → planned (plan c) ≡ Some s → P c s
   of serves plan holds c s served is = of_plan (P c) (plan c) s is (holds c served)
 
+  is_row : (o : Option Straight) (s : Standing) → planned_straight seat.home o ≡ Some s → is_some o ≡ true
+  is_row None s is = cc
+  is_row (Some row) s is = refl
+
+  row_plan : (o : Option Straight) (s : Standing) → planned_straight seat.home o ≡ Some s → planned (straight_plan seat.home o) ≡ Some s
+  row_plan None s is = cc
+  row_plan (Some row) s is = is
+
   pub of_command : HoldsOfEach → (c : Command) (s : Standing) → IsPlanFor seat c s → P c s
   of_command each (command.Write image at bytes) s is = of is_write (write_plan seat.home) each.writes (command.Write image at bytes) s refl is
   of_command each (command.Fill image at len byte) s is = of is_write (write_plan seat.home) each.writes (command.Fill image at len byte) s refl is
@@ -136,6 +145,4 @@ module _ (seat : Seat) (P : Command → Standing → Type 0) where
   of_command each (command.SnapList image) s is = of is_listing (listing_plan seat.home) each.lists (command.SnapList image) s refl is
   of_command each (command.Close image) s is = of is_close (close_plan seat.home) each.closes (command.Close image) s refl is
   of_command each (command.Quiesce image) s is = of is_close (close_plan seat.home) each.closes (command.Quiesce image) s refl is
-  of_command each (command.Resume image) s is = of is_close (close_plan seat.home) each.closes (command.Resume image) s refl is
-  of_command each (command.Tell image bytes) s is = of is_close (close_plan seat.home) each.closes (command.Tell image bytes) s refl is
-  of_command each _ s is = cc
+  of_command each c s is = of is_close (close_plan seat.home) each.closes c s (is_row (straight_of c) s is) (row_plan (straight_of c) s is)

@@ -17,6 +17,7 @@ use Rattle.rbd_machine.specs.declared.seat.Seat.{Seat}
 use Rattle.rbd_meaning.specs.Count.{object_count}
 use Rattle.rbd_meaning.specs.Listings.{shown_snaps}
 use Rattle.rbd_meaning.specs.Resizes.{has_few_objects}
+use Rattle.rbd_meaning.specs.Straight.{Straight, straight_of}
 use Rattle.rbd_image.specs.Create.{drawing}
 use Rattle.rbd_image.specs.Listing.{list_names, rename, show_header, show_used}
 use Rattle.rbd_snap.specs.Snap.{snap_plan}
@@ -64,6 +65,10 @@ unless_journaled shape plan = if shape.journal then None else planned plan
 abbrev pub read_from : SiteId → (name : List ℕ) → (snap : Option (List ℕ)) → Extent → Standing
 read_from site name snap e = read_standing site name snap e (pass site name snap e)
 
+abbrev pub planned_straight : SiteId → Option Straight → Option Standing
+planned_straight home None = None
+planned_straight home (Some s) = planned (session.straight home s)
+
 -- Where the request of a command stands at first, of a session at its home site. None: it isn't
 -- served.
 abbrev pub plan_of : Seat → Command → Option Standing
@@ -84,9 +89,7 @@ plan_of seat (command.SnapRollback image snap) = planned (rollback seat.home ima
 plan_of seat (command.SnapList image) = planned (show_header seat.home image shown_snaps)
 plan_of seat (command.Close image) = planned (session.close seat.home image)
 plan_of seat (command.Quiesce image) = planned (session.quiesce seat.home image)
-plan_of seat (command.Resume image) = planned (session.resume seat.home image)
-plan_of seat (command.Tell image bytes) = planned (session.tell seat.home image bytes)
-plan_of seat c = None
+plan_of seat c = planned_straight seat.home (straight_of c)
 
 -- Where a request of a session stands at first, made of a command.
 abbrev pub IsPlanFor : Seat → Command → Standing → Type 0

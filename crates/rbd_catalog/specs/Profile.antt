@@ -5,6 +5,7 @@ use Rattle.rbd_commands.specs.declared.command.Command.{Command}
 use Rattle.rbd_commands.specs.declared.command.Command.TheVariants as command
 use Rattle.rbd_commands.specs.declared.quiescing.Quiescing.{Quiescing}
 use Rattle.rbd_commands.specs.declared.quiescing.Quiescing.TheVariants as quiescing
+use Rattle.rbd_commands.specs.Quiescing.{quiescing_of}
 use Rattle.rbd_kinds.specs.declared.journal.JournalEvent.{JournalEvent}
 use Rattle.rbd_kinds.specs.declared.journal.JournalEvent.TheVariants as event
 use Rattle.rbd_kinds.specs.declared.layout.Extent.{Extent}
@@ -17,6 +18,7 @@ use Rattle.rbd_kinds.specs.declared.sharing.Sharing.TheVariants as sharing
 use Rattle.rbd_kinds.specs.Sharing.{is_alone}
 use Rattle.rbd_machine.specs.Path.{Answered}
 use Rattle.rbd_meaning.specs.Range.{extent_at}
+use Rattle.rbd_meaning.specs.Straight.{operations_of, Straight, straight_of}
 use Rattle.rbd_image.specs.Told.{objects_told}
 use Rattle.rbd_catalog.specs.Touched.{cut_by, most_told, restored_by}
 
@@ -110,6 +112,15 @@ kinds_that_remove =
     kind.WatchersGet ∷ kind.MapGet ∷ kind.DirRemove ∷ kind.HeaderRemove ∷ kind.ChildRemove ∷ kind.DataRemove ∷ kind.MapRemove
     ∷ kind.JournalRemove ∷ []
 
+abbrev pub kinds_that_tell : Option (List ℕ) → List OpKind
+kinds_that_tell None = []
+kinds_that_tell (Some bytes) = kind.Notify ∷ []
+
+-- The row of a straight command, which does this to a quiesce. No request serves the others yet.
+abbrev pub straight_row : Quiescing → Option Straight → Profile
+straight_row q None = look_row None [] HasNone 0
+straight_row q (Some s) = record (look_row (Some s.name) (kind.DirFind ∷ kinds_that_tell s.tells) IsDone (operations_of s)) { quiescing = q }
+
 -- ---- the rows
 
 abbrev pub between : (at len : ℕ) → Extent
@@ -148,11 +159,7 @@ profile (command.Close image) =
     record (change_row image sharing.Alone None None [] 0 4 Nothing) { kinds = kind.DirFind ∷ kind.LockDrop ∷ kind.Notify ∷ kind.Unwatch ∷ [] }
 profile (command.Quiesce image) =
     record (change_row image sharing.Alone None None [] 0 3 Nothing) { quiescing = quiescing.Begins }
-profile (command.Resume image) =
-    record (look_row (Some image) (kind.DirFind ∷ []) IsDone 1) { quiescing = quiescing.Ends }
-profile (command.Tell image bytes) = look_row (Some image) (kind.DirFind ∷ kind.Notify ∷ []) IsDone 2
--- no request serves the others yet
-profile _ = look_row None [] HasNone 0
+profile c = straight_row (quiescing_of c) (straight_of c)
 
 -- ---- what is read off it
 

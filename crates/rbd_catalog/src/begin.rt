@@ -2,6 +2,7 @@
 ghost use Rattle.std.specs.Prelude.{◌≡◌, true, false, IfOk};
 ghost use Rattle.rbd_machine.specs.Begun.{IsBegun};
 ghost use Rattle.rbd_image.specs.Create.{is_create};
+ghost use Rattle.rbd_image.specs.Listing.{is_listing};
 ghost use Rattle.rbd_session.specs.Close.{is_close};
 ghost use Rattle.rbd_meaning.specs.Meant.{IsMeantBy};
 ghost use Rattle.rbd_catalog.specs.CommandsLawful.{command_is_lawful};
@@ -31,7 +32,8 @@ impl Request for SessionRequest {
 
     ghost means = { IsMeantBy };
 
-    /// Only a `create` outside the limits is refused before any operation.
+    /// The request of a command. Only a `create` outside the limits is refused before any
+    /// operation, with BadShape. NoMemory where the memory for the request is refused.
     fn begin(alloc: Global, seat: &Seat, command: Command) -> Result<Begun<Self>, NoMemory> {
         let home = seat.home;
         match &command {
@@ -64,7 +66,7 @@ impl Request for SessionRequest {
         }
     }
 
-    /// A write's, a fill's and a discard's.
+    /// The extent of a write, a fill or a discard. Other commands have none.
     fn extent(command: &Command) -> Option<Extent> {
         match command {
             Command::Write { at, bytes, .. } => Some(Extent {
@@ -106,15 +108,28 @@ fn begin_look(
             Ok(Begun::Asks(SessionRequest::Read(request)))
         }
         Command::Create { .. } => begin_create(alloc, seat, command),
-        Command::Resume { .. } | Command::Tell { .. } => begin_close(alloc, seat, command),
-        _ => {
-            let request = Boxed::new(alloc, ListRequest::new(seat.home, command))?;
-            Ok(Begun::Asks(SessionRequest::List(request)))
+        Command::List | Command::Rename { .. } => begin_listing(alloc, seat, command),
+        Command::Info { .. } | Command::SnapList { .. } | Command::Used { .. } => {
+            begin_listing(alloc, seat, command)
         }
+        _ => begin_close(alloc, seat, command),
     }
 }
 
-/// The request of a `close`, a `quiesce`, a `resume` or a `tell`.
+/// The request of an `ls`, `info`, `snap ls`, `du` or `rename`.
+fn begin_listing(
+    alloc: Global,
+    seat: &Seat,
+    command: Command,
+) -> Result<Begun<SessionRequest>, NoMemory>
+    requires { is_listing command ≡ true }
+    ensures { IfOk result (IsBegun (IsPlanFor seat.now command) stands_of) }
+{
+    let request = Boxed::new(alloc, ListRequest::new(seat.home, command))?;
+    Ok(Begun::Asks(SessionRequest::List(request)))
+}
+
+/// The request of a `close`, a `quiesce` or a straight command.
 fn begin_close(
     alloc: Global,
     seat: &Seat,

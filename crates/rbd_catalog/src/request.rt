@@ -9,13 +9,7 @@ use rbd_session::CloseRequest;
 use rbd_snap::{RollbackRequest, SnapRequest};
 use std::alloc::Global;
 
-/// The request of a command. It does what the request in it does.
-///
-/// ```text
-/// let request = write_request(alloc, SiteId::A, command)?;
-/// let mut request = SessionRequest::Write(request);
-/// request.wants()       // what the write wants: an operation at site A, of the kind dir-find
-/// ```
+/// The request of a command. It does what the request in it does, which lies in memory of its own.
 pub enum SessionRequest {
     /// `read`
     Read(Boxed<ReadRequest>),
@@ -35,7 +29,7 @@ pub enum SessionRequest {
     Rollback(Boxed<RollbackRequest>),
     /// `rm`
     Remove(Boxed<RemoveRequest>),
-    /// `close`, `quiesce`, `resume` or `tell`
+    /// `close`, `quiesce` or a straight command
     Close(Boxed<CloseRequest>),
 }
 

@@ -4,8 +4,8 @@ ghost use Rattle.rbd_catalog.specs.Plans.{is_built as is_one_built};
 
 use rbd_kinds::Command;
 
-/// Whether a command is served. An image with a journal isn't made, nor a clone, and nothing is
-/// asked of clones or mirrors. A session asks this before it makes a request of a command.
+/// Whether a command is served. It isn't where it makes an image with a journal or a clone, or asks
+/// something of clones or mirrors. Ask this before a request of the command is made.
 pub fn is_built(command: &Command) -> bool
     ensures { result ≡ is_one_built command.now }
 {

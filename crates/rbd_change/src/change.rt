@@ -35,9 +35,11 @@ pub trait Change: Refuses + Drop {
     fn from_command(command: Command) -> (Name, Self)
         requires { serves command ≡ true }
         ensures { (site : SiteId)
-            → change_plan site result.0 Sharing.Alone (Self.refuses result.1) (does result.1 site) ≡ plan site command };
+            → change_plan site result.0 Sharing.Alone (Self.refuses result.1) (does result.1 site)
+            ≡ plan site command };
 
-    /// What is done behind the event, by a header that it doesn't refuse.
+    /// What is done behind the event, by a header that it doesn't refuse. NoMemory where memory for
+    /// it is refused.
     fn part(
         &self,
         alloc: Global,

@@ -26,7 +26,8 @@ pub trait ExtentChange: Refuses + Drop {
     /// The plan from its event on, by the header of its look under the lock.
     ghost does: { Self → SiteId → (image : ℕ) → HeaderView → Plan };
 
-    /// What is done behind the event, piece by piece, by a header that it doesn't refuse.
+    /// What is done behind the event, piece by piece, by a header that it doesn't refuse. NoMemory
+    /// where memory for it is refused.
     fn pieces(
         &self,
         alloc: Global,

@@ -59,8 +59,8 @@ enum Stage<P> {
 }
 
 impl<C: ExtentChange> ExtentRequest<C, C::Piece> {
-    /// A change of the image of a name at a site, beside others in the image's line. It takes no
-    /// memory.
+    /// A change of the image of a name at a site, which goes beside the others that `sharing` names
+    /// in the image's line. It takes no memory.
     pub fn new(alloc: Global, home: SiteId, image: Name, sharing: Sharing, change: C) -> Self
         ensures { rest_of_extent C.refuses C.noted C.does C.Piece.rest C.Piece.number result
             ≡ steps.change_plan home image sharing (C.refuses change) (C.does change home) }
@@ -73,7 +73,7 @@ impl<C: ExtentChange> ExtentRequest<C, C::Piece> {
         }
     }
 
-    /// The image, where it approaches and is at its look under the lock.
+    /// The image, where its look under the lock is what it wants.
     fn under_lock(&self) -> Option<ImageId>
         ensures { result ≡ under_lock_in self.now.stage }
     {

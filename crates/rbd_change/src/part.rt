@@ -27,16 +27,18 @@ pub trait ChangePart: Drop {
     fn wants(&self) -> Want
         ensures { (next : Plan) → Wants (rest self.now next) result };
 
-    /// The operation that it wants.
+    /// The operation that it wants. NoMemory where memory for it is refused.
     fn next(&self, alloc: Global) -> Result<Op, NoMemory>
         ensures { (next : Plan) → IfOk result (Asks (rest self.now next)) };
 
-    /// Takes the memory for an answer, and changes nothing else, also where it is refused.
+    /// Takes the memory for an answer. What is left of the part stays the same. NoMemory where that
+    /// memory is refused.
     fn ready(&mut self, alloc: Global, answer: &Answer) -> Result<(), NoMemory>
         ensures rest { (next : Plan) → rest self.new next ≡ rest self.old next }
         ensures ready { OnOk result (is_ready self.new answer.now) };
 
-    /// Goes on with an answer that it has the memory for. It takes no memory.
+    /// Goes on with an answer that it has the memory for. It has ended where nothing is left, or is
+    /// refused by the answer. It takes no memory.
     fn feed(&mut self, answer: &Answer) -> Progress<()>
         requires tells { tells self.old answer.now }
         requires ready { is_ready self.old answer.now }

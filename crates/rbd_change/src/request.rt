@@ -49,7 +49,7 @@ enum Stage<P> {
 }
 
 impl<C: Change> ChangeRequest<C, C::Part> {
-    /// The request of a command at a site. It takes no memory.
+    /// The request of a command at a session's home site. It takes no memory.
     pub fn new(home: SiteId, command: Command) -> Self
         requires { C.serves command ≡ true }
         ensures { rest_of_change C.refuses C.noted C.does C.Part.rest result ≡ C.plan home command }
@@ -63,7 +63,7 @@ impl<C: Change> ChangeRequest<C, C::Part> {
         }
     }
 
-    /// The image, where it approaches and is at its look under the lock.
+    /// The image, where its look under the lock is what it wants.
     fn under_lock(&self) -> Option<ImageId>
         ensures { result ≡ under_lock_in self.now.stage }
     {

@@ -26,8 +26,8 @@ use Rattle.rbd_slots.specs.Session.{SessionView, kind_at, op_at, look_under_lock
 
 -- ---- a request at its look under the lock
 
--- A request that stands at its look under the lock acts where the lock is the session's, and else
--- its way to the lock does. A quiesce holds it back, and so does another session that wants the
+-- A request that stands at its look under the lock acts where the lock is the client's, and else
+-- its way to the lock does. A quiesce holds it back, and so does another client that wants the
 -- lock.
 abbrev pub actor_by : LockState → SiteId → (image : ℕ) → Actor
 actor_by s site image =

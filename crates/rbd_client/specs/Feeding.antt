@@ -48,14 +48,16 @@ CanGet stands slot s f actor.Request = OfRunning (IsAnswered stands slot s.lines
 CanGet stands slot s f (actor.Way a) = CanBeFed (standing_of a).plan f
 CanGet stands slot s f (actor.Release r) = CanBeFed (rest_of_release r) f
 
-abbrev pub IsReadyBy : {R : Type 0} → (stands : R → Standing) → (is_ready : R → Answer → Type 0) → (slot : ℕ) → SessionView R → Fed → Actor → Type 0
+abbrev pub IsReadyBy : {R : Type 0} → (stands : R → Standing) → (is_ready : R → Answer → Type 0) → (slot : ℕ)
+    → SessionView R → Fed → Actor → Type 0
 IsReadyBy stands is_ready slot s f actor.Nobody = ⊥
 IsReadyBy stands is_ready slot s f actor.Request = IsReadied stands is_ready slot f s
 IsReadyBy stands is_ready slot s f (actor.Way a) = CanBeFed (standing_of a).plan f
 IsReadyBy stands is_ready slot s f (actor.Release r) = CanBeFed (rest_of_release r) f
 
 -- everything is ready for an answer
-pub record IsReadiedFor {R : Type 0} (stands : R → Standing) (is_ready : R → Answer → Type 0) (slot : ℕ) (f : Fed) (c : ClientView R) : Type 0 where
+pub record IsReadiedFor {R : Type 0} (stands : R → Standing) (is_ready : R → Answer → Type 0) (slot : ℕ) (f : Fed)
+    (c : ClientView R) : Type 0 where
   pub ready : IsReadyBy stands is_ready slot c.session f (actor_at stands slot c)
   pub room : 0 < c.locks.room
 
@@ -128,7 +130,8 @@ state_behind has_ended has_looked s =
 pub record GoesOnItsWay (a : Acquire) (f : Fed) (b : Acquire) : Type 0 where
   pub site : b.site ≡ a.site
   pub image : b.image ≡ a.image
-  pub goes : (labels : Label → Plan) (next : Plan) → labels Lock ≡ lock_of a next → IsGoing (past_label labels (plan_after (rest_of_acquire a next) f)) (rest_of_acquire b next)
+  pub goes : (labels : Label → Plan) (next : Plan) → labels Lock ≡ lock_of a next
+      → IsGoing (past_label labels (plan_after (rest_of_acquire a next) f)) (rest_of_acquire b next)
 
 -- The way took the lock: what comes next is left of it.
 pub record TakesTheLock (a : Acquire) (f : Fed) (p : ImageAt) : Type 0 where
@@ -152,7 +155,8 @@ WayComesTo a f (Some r) w = (w ≡ way.Unbegun) × RefusesIt a f r
 -- the session gave up the request in the slot
 pub record IsGivenUp {R : Type 0} (slot : ℕ) (old new : SessionView R) : Type 0 where
   pub free : IsSome (running_at slot old) → held_in slot new.slots ≡ None
-  pub left : (r : Running R) → running_at slot old ≡ Some r → lines_of new.lines ≡ (ended_by slot (track_of r old.lines)).lines
+  pub left : (r : Running R) → running_at slot old ≡ Some r
+      → lines_of new.lines ≡ (ended_by slot (track_of r old.lines)).lines
 
 -- a way that goes on changes nothing in the session
 abbrev pub GoesItsWay : {R : Type 0} → (slot : ℕ) → Option Reply → (old new : SessionView R) → Type 0
@@ -167,29 +171,37 @@ release_once_fed r fed.Passed = None
 -- ---- what it comes to in all
 
 abbrev pub CountsAll : List Coming → (old new : LocksView) → Type 0
-CountsAll comings old new = (site : SiteId) (image : ℕ) → lock_state_at site image new ≡ after_all comings site image (lock_state_at site image old)
+CountsAll comings old new = (site : SiteId) (image : ℕ) → lock_state_at site image new ≡ after_all comings site image
+    (lock_state_at site image old)
 
-pub record RequestIsFed {R : Type 0} (stands : R → Standing) (slot : ℕ) (site : SiteId) (o : Op) (f : Fed) (result : Option Reply) (old new : ClientView R) : Type 0 where
+pub record RequestIsFed {R : Type 0} (stands : R → Standing) (slot : ℕ) (site : SiteId) (o : Op) (f : Fed)
+    (result : Option Reply) (old new : ClientView R) : Type 0 where
   pub fed : IsFed stands slot f result old.session new.session
-  pub counts : CountsAll (comings_of (slot_state slot old.slots).quiescing (look_under_lock_at stands slot old.session) site o f) old.locks new.locks
-  pub state : slot_state slot new.slots ≡ state_behind (is_some result) (is_some (look_under_lock_at stands slot old.session)) (slot_state slot old.slots)
+  pub counts : CountsAll (comings_of (slot_state slot old.slots).quiescing
+      (look_under_lock_at stands slot old.session) site o f) old.locks new.locks
+  pub state : slot_state slot new.slots ≡ state_behind (is_some result)
+      (is_some (look_under_lock_at stands slot old.session)) (slot_state slot old.slots)
   pub release : new.release ≡ old.release
 
-pub record WayIsFed {R : Type 0} (a : Acquire) (slot : ℕ) (site : SiteId) (o : Op) (f : Fed) (result : Option Reply) (old new : ClientView R) : Type 0 where
+pub record WayIsFed {R : Type 0} (a : Acquire) (slot : ℕ) (site : SiteId) (o : Op) (f : Fed) (result : Option Reply)
+    (old new : ClientView R) : Type 0 where
   pub comes : WayComesTo a f result (slot_state slot new.slots).way
   pub session : GoesItsWay slot result old.session new.session
   pub counts : CountsAll (comings_of quiescing.Leaves None site o f) old.locks new.locks
-  pub state : slot_state slot new.slots ≡ state_on_way (is_some result) (slot_state slot new.slots).way (slot_state slot old.slots)
+  pub state : slot_state slot new.slots ≡ state_on_way (is_some result) (slot_state slot new.slots).way
+      (slot_state slot old.slots)
   pub release : new.release ≡ old.release
 
-pub record ReleaseIsFed {R : Type 0} (r : Release) (site : SiteId) (o : Op) (f : Fed) (result : Option Reply) (old new : ClientView R) : Type 0 where
+pub record ReleaseIsFed {R : Type 0} (r : Release) (site : SiteId) (o : Op) (f : Fed) (result : Option Reply)
+    (old new : ClientView R) : Type 0 where
   pub none : result ≡ None
   pub session : new.session ≡ old.session
   pub counts : CountsAll (comings_of quiescing.Leaves None site o f) old.locks new.locks
   pub slots : new.slots ≡ old.slots
   pub release : new.release ≡ release_once_fed r f
 
-abbrev pub IsFedBy : {R : Type 0} → (stands : R → Standing) → (slot : ℕ) → SiteId → Op → Fed → Option Reply → (old new : ClientView R) → Actor → Type 0
+abbrev pub IsFedBy : {R : Type 0} → (stands : R → Standing) → (slot : ℕ) → SiteId → Op → Fed → Option Reply
+    → (old new : ClientView R) → Actor → Type 0
 IsFedBy stands slot site o f result old new actor.Nobody = ⊥
 IsFedBy stands slot site o f result old new actor.Request = RequestIsFed stands slot site o f result old new
 IsFedBy stands slot site o f result old new (actor.Way a) = WayIsFed a slot site o f result old new

@@ -12,9 +12,10 @@ use Rattle.rbd_lock.specs.Locks.{LocksView, lock_state_at}
 use Rattle.rbd_lock.specs.declared.release.Release.{Release}
 use Rattle.rbd_lock.specs.declared.release.Stage.TheVariants as stage
 
--- the image is quiesced, or another session wants its lock
+-- the image is quiesced, or another client wants its lock
 abbrev pub IsHeldBack : SiteId → (image : ℕ) → LocksView → Type 0
-IsHeldBack site image locks = IsTrue ((lock_state_at site image locks).quiesced || (lock_state_at site image locks).asked)
+IsHeldBack site image locks = IsTrue
+    ((lock_state_at site image locks).quiesced || (lock_state_at site image locks).asked)
 
 -- a release that has yet to drop its lock
 abbrev pub DropsALock : Release → Type 0

@@ -15,7 +15,14 @@ as_is s = s
 
 module _ {R : Type 0} (stands : R → Standing) where
   abbrev pub seen_running : Running R → Running Standing
-  seen_running r = record { line = r.line; request = stands r.request; extent = r.extent; place = r.place; turn = r.turn; looked = r.looked }
+  seen_running r = record {
+    line = r.line;
+    request = stands r.request;
+    extent = r.extent;
+    place = r.place;
+    turn = r.turn;
+    looked = r.looked;
+  }
 
   abbrev pub seen_occupant : Occupant R → Occupant Standing
   seen_occupant (occupant.Refused line refusal) = occupant.Refused line refusal
@@ -25,7 +32,19 @@ module _ {R : Type 0} (stands : R → Standing) where
   seen_slot held = option_map seen_occupant held
 
   abbrev pub seen_session : SessionView R → SessionView Standing
-  seen_session s = record { instance = s.instance; home = s.home; slots = map seen_slot s.slots; lowest = s.lowest; lines = s.lines }
+  seen_session s = record {
+    instance = s.instance;
+    home = s.home;
+    slots = map seen_slot s.slots;
+    lowest = s.lowest;
+    lines = s.lines;
+  }
 
   abbrev pub seen : ClientView R → ClientView Standing
-  seen c = record { session = seen_session c.session; locks = c.locks; slots = c.slots; release = c.release; heard = c.heard }
+  seen c = record {
+    session = seen_session c.session;
+    locks = c.locks;
+    slots = c.slots;
+    release = c.release;
+    heard = c.heard;
+  }

@@ -16,7 +16,8 @@ use Rattle.rbd_slots.specs.Session.{SessionView, IsSoundSession, held_in, is_loo
 
 -- The request in a slot waits for its look under the lock, in the line of an image, and wants that
 -- look; and the line lets it go past.
-pub record WaitsForLook {R : Type 0} (stands : R → Standing) (slot : ℕ) (site : SiteId) (image : ℕ) (s : SessionView R) : Type 0 where
+pub record WaitsForLook {R : Type 0} (stands : R → Standing) (slot : ℕ) (site : SiteId) (image : ℕ)
+    (s : SessionView R) : Type 0 where
   pub request : Running R
   pub runs : running_at slot s ≡ Some request
   pub place : request.place ≡ Some (record { site = site; image = image })

@@ -27,7 +27,7 @@ use rbd_slots::Session;
 use std::alloc::Global;
 use std::marker::Model;
 
-/// One client: its requests, each in a slot, and the locks of the images that they change.
+/// What an instance has: its requests, each in a slot, and what it counts of the locks of images.
 pub struct Client<R: Request> {
     session: Session<R>,
     locks: Locks,
@@ -61,14 +61,27 @@ impl<R: Request> Model for Client<R> {
 
     ghost Value = { ClientView R };
 
-    ghost view = { λ c. record { session = c.session; locks = c.locks; slots = c.slots.items; release = c.release; heard = c.heard.items } };
+    ghost view = { λ c. record {
+      session = c.session;
+      locks = c.locks;
+      slots = c.slots.items;
+      release = c.release;
+      heard = c.heard.items;
+    } };
 
-    ghost invariant = { λ c. IsSoundClient R.stands (record { session = c.session; locks = c.locks; slots = c.slots.items; release = c.release; heard = c.heard.items }) };
+    ghost invariant = { λ c. IsSoundClient R.stands
+        (record {
+          session = c.session;
+          locks = c.locks;
+          slots = c.slots.items;
+          release = c.release;
+          heard = c.heard.items;
+        }) };
 }
 
 impl<R: Request> Client<R> {
-    /// A life of a client at its home site, without requests. Nothing is known of any lock, and
-    /// none is let go.
+    /// The client of an instance, at its session's home site, without requests. Nothing is known of
+    /// any lock, and none is let go. NoMemory where the memory for its slots is refused.
     pub fn new(alloc: Global, instance: Instance, home: SiteId) -> Result<Self, NoMemory>
         ensures who { IfOk result (λ c. (c.session.instance ≡ instance) × (c.session.home ≡ home)) }
         ensures slots { IfOk result (λ c. (slot : ℕ) → held_in slot c.session.slots ≡ None) }
@@ -89,14 +102,14 @@ impl<R: Request> Client<R> {
         })
     }
 
-    /// Whose client it is: one life of one session.
+    /// Whose client it is: one life of a session.
     pub fn instance(&self) -> Instance
         ensures { result ≡ self.now.session.instance }
     {
         self.session.instance()
     }
 
-    /// The site at which the client is.
+    /// The site at which its session is at home.
     pub fn home(&self) -> SiteId
         ensures { result ≡ self.now.session.home }
     {
@@ -111,8 +124,9 @@ impl<R: Request> Client<R> {
         self.session.free()
     }
 
-    /// A request takes the lowest free slot: that of the command in a line of the script, or
-    /// another's. Refused memory, nothing changes.
+    /// A request of some work takes the lowest free slot, with the number of its script's line, and
+    /// with what it does to a quiesce. There is a free slot. NoMemory where memory for the request
+    /// is refused; then nothing changes.
     pub fn submit(
         &mut self,
         alloc: Global,
@@ -123,11 +137,16 @@ impl<R: Request> Client<R> {
         requires free { self.old.session.lowest ≤ 64 }
         requires serves { R.serves work }
         ensures slot { IfOk result (λ slot. slot ≡ self.old.session.lowest) }
-        ensures held { OnOk result (IsNewcomer R.stands R.stands_for R.extent_for (seat_of self.old.session) line work (held_in self.old.session.lowest self.new.session.slots)) }
+        ensures held { OnOk result (IsNewcomer R.stands R.stands_for R.extent_for (seat_of self.old.session) line work
+            (held_in self.old.session.lowest self.new.session.slots)) }
         ensures state { OnOk result (slot_state self.old.session.lowest self.new.slots ≡ newcomer quiescing) }
-        ensures others { (slot : ℕ) → slot ≢ self.old.session.lowest → (held_in slot self.new.session.slots ≡ held_in slot self.old.session.slots) × (slot_state slot self.new.slots ≡ slot_state slot self.old.slots) }
+        ensures others { (slot : ℕ) → slot ≢ self.old.session.lowest
+            → (held_in slot self.new.session.slots ≡ held_in slot self.old.session.slots)
+            × (slot_state slot self.new.slots ≡ slot_state slot self.old.slots) }
         ensures lines { self.new.session.lines ≡ self.old.session.lines }
-        ensures rest { (self.new.session.instance ≡ self.old.session.instance) × (self.new.session.home ≡ self.old.session.home) × (self.new.locks ≡ self.old.locks) × (self.new.release ≡ self.old.release) × (self.new.heard ≡ self.old.heard) }
+        ensures rest { (self.new.session.instance ≡ self.old.session.instance)
+            × (self.new.session.home ≡ self.old.session.home) × (self.new.locks ≡ self.old.locks)
+            × (self.new.release ≡ self.old.release) × (self.new.heard ≡ self.old.heard) }
         ensures err { OnErr result (self.new ≡ self.old) }
         ensures sound { IsSoundClient R.stands self.new }
     {
@@ -156,9 +175,13 @@ impl<R: Request> Client<R> {
         ensures reply { result ≡ reply_of (refusal_in (held_in slot self.old.session.slots)) }
         ensures none { IsNone result → self.new ≡ self.old }
         ensures some { IsSome result → held_in slot self.new.session.slots ≡ None }
-        ensures others { (other : ℕ) → other ≢ slot → (held_in other self.new.session.slots ≡ held_in other self.old.session.slots) × (slot_state other self.new.slots ≡ slot_state other self.old.slots) }
+        ensures others { (other : ℕ) → other ≢ slot
+            → (held_in other self.new.session.slots ≡ held_in other self.old.session.slots)
+            × (slot_state other self.new.slots ≡ slot_state other self.old.slots) }
         ensures lines { self.new.session.lines ≡ self.old.session.lines }
-        ensures rest { (self.new.session.instance ≡ self.old.session.instance) × (self.new.session.home ≡ self.old.session.home) × (self.new.locks ≡ self.old.locks) × (self.new.release ≡ self.old.release) × (self.new.heard ≡ self.old.heard) }
+        ensures rest { (self.new.session.instance ≡ self.old.session.instance)
+            × (self.new.session.home ≡ self.old.session.home) × (self.new.locks ≡ self.old.locks)
+            × (self.new.release ≡ self.old.release) × (self.new.heard ≡ self.old.heard) }
         ensures sound { IsSoundClient R.stands self.new }
     {
         let reply = self.session.refuse(slot);
@@ -199,7 +222,8 @@ impl<R: Request> Client<R> {
         )
     }
 
-    /// The next operation of a slot, and its site: `None` as by [`Client::kind`].
+    /// The next operation of a slot by who acts there, and its site: `None` as by [`Client::kind`].
+    /// NoMemory where memory for it is refused.
     pub fn next(
         &self,
         alloc: Global,
@@ -219,7 +243,7 @@ impl<R: Request> Client<R> {
     }
 
     /// Makes everything ready for an answer to a slot's next operation: all memory that
-    /// [`Client::feed`] needs. Nothing else changes, also where memory is refused.
+    /// [`Client::feed`] needs. Nothing else changes. NoMemory where memory is refused.
     pub fn ready(
         &mut self,
         alloc: Global,
@@ -230,7 +254,8 @@ impl<R: Request> Client<R> {
         requires actor { actor.now ≡ actor_at R.stands slot self.old }
         requires can { CanGet R.stands slot self.old.session fed.now (actor_at R.stands slot self.old) }
         ensures alike { IsClientAlike R.stands self.old self.new }
-        ensures others { (other : ℕ) → other ≢ slot → held_in other self.new.session.slots ≡ held_in other self.old.session.slots }
+        ensures others { (other : ℕ) → other ≢ slot
+            → held_in other self.new.session.slots ≡ held_in other self.old.session.slots }
         ensures ready { OnOk result (IsReadiedFor R.stands R.is_ready slot fed.now self.new) }
         ensures stays { StaysUnlessRequest (actor_at R.stands slot self.old) self.old.session self.new.session }
         ensures sound { IsSoundClient R.stands self.new }
@@ -258,10 +283,14 @@ impl<R: Request> Client<R> {
         requires ready { IsReadiedFor R.stands R.is_ready slot fed.now self.old }
         requires op { op_wanted R.stands slot self.old ≡ Some (site, op.now) }
         requires rest { DropsAtRest (actor_at R.stands slot self.old) site op.now self.old }
-        ensures fed { IsFedBy R.stands slot site op.now fed.now result self.old self.new (actor_at R.stands slot self.old) }
-        ensures slots { (other : ℕ) → other ≢ slot → (held_in other self.new.session.slots ≡ held_in other self.old.session.slots) × (slot_state other self.new.slots ≡ slot_state other self.old.slots) }
+        ensures fed { IsFedBy R.stands slot site op.now fed.now result self.old self.new
+            (actor_at R.stands slot self.old) }
+        ensures slots { (other : ℕ) → other ≢ slot
+            → (held_in other self.new.session.slots ≡ held_in other self.old.session.slots)
+            × (slot_state other self.new.slots ≡ slot_state other self.old.slots) }
         ensures others { LeavesOthers slot (lines_of self.old.session.lines) (lines_of self.new.session.lines) }
-        ensures who { (self.new.session.instance ≡ self.old.session.instance) × (self.new.session.home ≡ self.old.session.home) × (self.new.heard ≡ self.old.heard) }
+        ensures who { (self.new.session.instance ≡ self.old.session.instance)
+            × (self.new.session.home ≡ self.old.session.home) × (self.new.heard ≡ self.old.heard) }
         ensures sound { IsSoundClient R.stands self.new }
     {
         match actor {
@@ -275,12 +304,15 @@ impl<R: Request> Client<R> {
         }
     }
 
-    /// Hears a notice. Another one's wish for a lock that counts as this client's is noted, and
-    /// what it was told is kept. Nothing else changes. Refused memory, nothing does.
+    /// Hears a notice. Another client's wish for a lock that counts as this client's is noted, and
+    /// what it was told is kept. NoMemory where memory for that is refused; then nothing changes.
     pub fn hear(&mut self, notice: &Notice) -> Result<(), NoMemory>
-        ensures ok { OnOk result ((site : Site) (image : ℕ) → lock_state_at site image self.new.locks ≡ counted_heard notice.now site image (lock_state_at site image self.old.locks)) }
+        ensures ok { OnOk result ((site : Site) (image : ℕ)
+            → lock_state_at site image self.new.locks ≡ counted_heard notice.now site image
+            (lock_state_at site image self.old.locks)) }
         ensures heard { OnOk result (self.new.heard ≡ heard_with notice.now self.old.heard) }
-        ensures rest { (self.new.session ≡ self.old.session) × (self.new.slots ≡ self.old.slots) × (self.new.release ≡ self.old.release) }
+        ensures rest { (self.new.session ≡ self.old.session) × (self.new.slots ≡ self.old.slots)
+            × (self.new.release ≡ self.old.release) }
         ensures err { OnErr result (self.new ≡ self.old) }
         ensures sound { IsSoundClient R.stands self.new }
     {
@@ -330,9 +362,12 @@ impl<R: Request> Client<R> {
         requires op { op_at R.stands slot self.old.session ≡ Some (site, op.now) }
         requires rest { DropsAtRest actor.Request site op.now self.old }
         ensures fed { IsFedBy R.stands slot site op.now fed.now result self.old self.new actor.Request }
-        ensures slots { (other : ℕ) → other ≢ slot → (held_in other self.new.session.slots ≡ held_in other self.old.session.slots) × (slot_state other self.new.slots ≡ slot_state other self.old.slots) }
+        ensures slots { (other : ℕ) → other ≢ slot
+            → (held_in other self.new.session.slots ≡ held_in other self.old.session.slots)
+            × (slot_state other self.new.slots ≡ slot_state other self.old.slots) }
         ensures others { LeavesOthers slot (lines_of self.old.session.lines) (lines_of self.new.session.lines) }
-        ensures who { (self.new.session.instance ≡ self.old.session.instance) × (self.new.session.home ≡ self.old.session.home) × (self.new.heard ≡ self.old.heard) }
+        ensures who { (self.new.session.instance ≡ self.old.session.instance)
+            × (self.new.session.home ≡ self.old.session.home) × (self.new.heard ≡ self.old.heard) }
         ensures sound { IsSoundClient R.stands self.new }
     {
         let look = self.session.look_under_lock(slot);
@@ -356,9 +391,12 @@ impl<R: Request> Client<R> {
         requires ready { IsReadiedFor R.stands R.is_ready slot fed.now self.old }
         requires op { op_wanted R.stands slot self.old ≡ Some (site, op.now) }
         ensures fed { IsFedBy R.stands slot site op.now fed.now result self.old self.new (actor.Way way) }
-        ensures slots { (other : ℕ) → other ≢ slot → (held_in other self.new.session.slots ≡ held_in other self.old.session.slots) × (slot_state other self.new.slots ≡ slot_state other self.old.slots) }
+        ensures slots { (other : ℕ) → other ≢ slot
+            → (held_in other self.new.session.slots ≡ held_in other self.old.session.slots)
+            × (slot_state other self.new.slots ≡ slot_state other self.old.slots) }
         ensures others { LeavesOthers slot (lines_of self.old.session.lines) (lines_of self.new.session.lines) }
-        ensures who { (self.new.session.instance ≡ self.old.session.instance) × (self.new.session.home ≡ self.old.session.home) × (self.new.heard ≡ self.old.heard) }
+        ensures who { (self.new.session.instance ≡ self.old.session.instance)
+            × (self.new.session.home ≡ self.old.session.home) × (self.new.heard ≡ self.old.heard) }
         ensures sound { IsSoundClient R.stands self.new }
     {
         count(&mut self.locks, Quiescing::Leaves, None, site, op, fed);
@@ -383,7 +421,7 @@ impl<R: Request> Client<R> {
     }
 }
 
-/// Keeps a notice. Refused memory, nothing changes.
+/// Keeps a notice. NoMemory where memory for it is refused; then nothing changes.
 fn keep(heard: &mut Vec<Notice>, notice: &Notice) -> Result<(), NoMemory>
     ensures ok { OnOk result (heard.new.items ≡ heard.old.items ++ notice.now ∷ []) }
     ensures err { OnErr result (heard.new.items ≡ heard.old.items) }

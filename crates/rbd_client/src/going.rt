@@ -53,7 +53,7 @@ pub fn settle<R: Request>(session: &mut Session<R>, slot: Slot, has_ended: bool)
 }
 
 impl SlotState {
-    /// Of a slot that is free, and of each request at first, where it leaves quiesces as they are.
+    /// What is kept of a free slot, and of each request at first that leaves quiesces as they are.
     pub fn blank() -> Self
         ensures { result ≡ blank_slot }
     {

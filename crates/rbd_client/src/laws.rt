@@ -22,7 +22,8 @@ use rbd_machine::Request;
 /// A request goes on to its look under the lock only where the client counts the lock as its own.
 pub fn looks_under_lock_need_the_lock<R: Request>()
     ensures { (c : ClientView R) (slot : ℕ) (p : ImageAt)
-        → IsSoundClient R.stands c → look_under_lock_at R.stands slot c.session ≡ Some p → actor_at R.stands slot c ≡ actor.Request
+        → IsSoundClient R.stands c → look_under_lock_at R.stands slot c.session ≡ Some p
+        → actor_at R.stands slot c ≡ actor.Request
         → IsOwned p.site p.image c.locks }
 {}
 
@@ -31,18 +32,21 @@ pub fn looks_under_lock_need_the_lock<R: Request>()
 /// request that removes the header ends that: the lock goes with the header. So nothing is changed
 /// without the lock.
 pub fn locks_last_while_requests_rely<R: Request>()
-    ensures { (c d : ClientView R) (slot : ℕ) (site there : Site) (image : ℕ) (op : Op) (f : Fed) (result : Option Reply)
-        → IsSoundClient R.stands c → op_wanted R.stands slot c ≡ Some (site, op) → DropsAtRest (actor_at R.stands slot c) site op c
+    ensures { (c d : ClientView R) (slot : ℕ) (site there : Site) (image : ℕ) (op : Op) (f : Fed)
+        (result : Option Reply)
+        → IsSoundClient R.stands c → op_wanted R.stands slot c ≡ Some (site, op)
+        → DropsAtRest (actor_at R.stands slot c) site op c
         → IsFedBy R.stands slot site op f result c d (actor_at R.stands slot c)
         → is_at_rest there image c ≡ false → IsFalse (removes_header site op f there image)
         → IsOwned there image c.locks → IsOwned there image d.locks }
 {}
 
-/// Where an image is quiesced, or another session asked for its lock, a request that stands at its
+/// Where an image is quiesced, or another client asked for its lock, a request that stands at its
 /// look under the lock and has begun no way to the lock waits.
 pub fn quiesced_and_asked_hold_back<R: Request>()
     ensures { (c : ClientView R) (slot : ℕ) (p : ImageAt)
-        → IsSoundClient R.stands c → look_under_lock_at R.stands slot c.session ≡ Some p → (slot_state slot c.slots).way ≡ way.Unbegun
+        → IsSoundClient R.stands c → look_under_lock_at R.stands slot c.session ≡ Some p
+        → (slot_state slot c.slots).way ≡ way.Unbegun
         → IsHeldBack p.site p.image c.locks → kind_wanted R.stands slot c ≡ None }
 {}
 
@@ -52,5 +56,6 @@ pub fn quiesced_and_asked_hold_back<R: Request>()
 pub fn releases_wait_for_requests<R: Request>()
     ensures { (c : ClientView R) (r : Release)
         → IsSoundClient R.stands c → actor_at R.stands 0 c ≡ actor.Release r → DropsALock r
-        → IsTrue (is_among r.site r.image c.locks.asked) × IsFalse (lock_state_at r.site r.image c.locks).quiesced × (is_at_rest r.site r.image c ≡ true) }
+        → IsTrue (is_among r.site r.image c.locks.asked) × IsFalse (lock_state_at r.site r.image c.locks).quiesced
+        × (is_at_rest r.site r.image c ≡ true) }
 {}

@@ -18,5 +18,6 @@ pub enum Way {
 #[derive(Clone, Copy)]
 pub struct SlotState {
     pub way: Way,
+    /// What its request does to a quiesce of its image.
     pub quiescing: Quiescing,
 }

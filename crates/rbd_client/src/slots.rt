@@ -7,7 +7,7 @@ use crate::slot_state::{SlotState, Way};
 use rbd_kinds::{ImageAt, NoMemory, Slot};
 use std::alloc::Global;
 
-/// Of slots that are all free.
+/// What is kept of slots that are all free. NoMemory where memory for it is refused.
 pub fn blank_slots(alloc: Global) -> Result<Vec<SlotState>, NoMemory>
     ensures { IfOk result (λ slots. slots.items ≡ replicate 65 blank_slot) }
 {

@@ -50,7 +50,8 @@ abbrev pub objects_of : List Piece → List ℕ
 objects_of = map (λ (p : Piece). p.object)
 
 abbrev pub write : SiteId → (name : List ℕ) → (at : ℕ) → (bytes : List ℕ) → Plan
-write site name at bytes = change_plan site name sharing.Shared (write_refuses (extent_at at bytes)) (put_plan site at bytes)
+write site name at bytes = change_plan site name sharing.Shared (write_refuses (extent_at at bytes))
+    (put_plan site at bytes)
 
 abbrev pub write_plan : SiteId → Command → Plan
 write_plan site (command.Write image at bytes) = write site image at bytes

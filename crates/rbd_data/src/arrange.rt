@@ -11,7 +11,7 @@ use rbd_parts::copy_window;
 use std::alloc::Global;
 
 /// The bytes of an extent, out of those of its pieces, one piece after another and in it one part
-/// after another.
+/// after another. NoMemory where memory for them is refused.
 pub fn arrange(
     alloc: Global,
     layout: &Layout,

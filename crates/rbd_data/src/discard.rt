@@ -16,7 +16,7 @@ use rbd_pieces::ZeroPiece;
 use std::alloc::Global;
 use std::collections::VecDeque;
 
-/// A range of an image's bytes that becomes zeros, beside writes.
+/// The request of a `discard`: a range of an image's bytes becomes zeros, beside writes.
 ///
 /// It is refused with NoImage where no image has the name, with NonPrimary where the image is a
 /// secondary, with BadRange where the range is empty or ends behind the size (own: as a write of

@@ -1,104 +1,96 @@
-//! The requests of `write`, `fill`, `read` and `discard`, as machines that want one thing at a
-//! time. They do nothing themselves: whoever holds one does what it wants, and feeds it what came
-//! of it.
+//! The requests of `write`, `fill`, `discard` and `read`.
 //!
 //! ```text
-//! let mut request = write_request(alloc, SiteId::A, command)?;    // write disk 4094 hello
-//! loop {
-//!     request.wants()              // dir-find, to join the line, header-get, the lock,
-//!                                  // header-get, its event noted,
-//!                                  // its turn at object 0, map-set, data-write,
-//!                                  // its turn at object 1, map-set, data-write, applied
-//!     request.next(alloc)?         // the operation, where it wants one
-//!     request.ready(alloc, &fed)?  // takes the memory that the answer needs
-//!     match request.feed(&fed) {
-//!         Flow::More => continue,
-//!         Flow::Done(reply) => break reply,    // done
-//!     }
-//! }
+//! let write = write_request(alloc, SiteId::A, write_hello)?;     // write disk 4094 68656c6c6f
+//! let reply = run(write)?;               // by the loop that `rbd_machine` shows: Reply::Done
 //!
-//! // discard disk 4000 4192: the end of object 0, and all of object 1, of 4096 bytes each
-//! let mut request = discard_request(alloc, SiteId::A, command);
-//! request.wants()                  // the same up to its event;
-//!                                  // its turn at object 0, data-zero,
-//!                                  // its turn at object 1, map-set 2, data-remove, map-set 0,
-//!                                  // applied
+//! let discard = discard_request(alloc, SiteId::A, discard_both); // discard disk 4000 4192
+//! let reply = run(discard)?;             // Reply::Done: these bytes are zeros
+//!
+//! let read = ReadRequest::new(SiteId::A, read_hello);            // read disk 4094 5
+//! let reply = run(read)?;                // the five bytes
 //! ```
+//!
+//! | request | made by | its change | a piece of it |
+//! |---|---|---|---|
+//! | [`WriteRequest`] | [`write_request`] | [`WriteChange`] | [`WriteTurn`] (`WritePiece`) |
+//! | [`DiscardRequest`] | [`discard_request`] | [`DiscardChange`] | [`DiscardTurn`] (`ZeroPiece`) |
+//! | [`ReadRequest`] | [`ReadRequest::new`] | none | none: it reads by a `Gather` |
+//!
+//! A write, which a `fill` is too, and a discard are the machine of `rbd_change` for a change that
+//! goes object by object beside others. Their pieces, and the `Gather`, are parts of `rbd_pieces`.
+//! [`range_refusal`] is why a header refuses a change of a range.
 //!
 //! # Rules
 //!
-//! | command | steps | refused |
-//! |---|---|---|
-//! | `write`, `fill` | `dir-find`, the image's line (beside other writes), `header-get`, the lock, `header-get`, the event noted, for each object its turn, a `map-set` and a `data-write`, the event counts as applied | NoImage, NonPrimary, BadRange |
-//! | `discard` | the same, in the line beside writes, and for each object what makes its bytes zeros | NoImage, NonPrimary, BadRange |
-//! | `read` | `dir-find`, `header-get`, a `data-read` for each object, `header-get` | NoImage, NoSnap, BadRange |
+//! ```text
+//! write, fill   to its look under the lock; its event; for each object, at its turn there,
+//!               a map-set and a data-write; applied
+//! discard       the same, with what makes the object's bytes zeros
+//! read          dir-find, header-get, a data-read of each object, header-get
+//! ```
 //!
-//! Refusals are tested in the order of the table, those of a write and of a discard at both looks.
-//! Any operation may be answered `fenced`, which ends the request with Fenced.
-//!
-//! A fill is a write of one byte many times. The pieces of a write or a discard are those of its
-//! extent by the striping that the look under the lock told (Ceph: RBD striping), object by object
-//! in the order of their numbers, under the snapshot context of that header. They are made at the
-//! look under the lock, before the event is noted. Before the bytes of a write's piece, the head's
-//! map says that its object exists.
-//!
-//! What makes the bytes of a discard's piece zeros is told by the table in `rbd_pieces`. It depends
-//! on whether the piece has all bytes of its object below the size, and on whether the object is
-//! inside the overlap: an object that loses all its bytes goes, where no parent's bytes would show
-//! in its place (Ceph: RBD discard).
-//!
-//! A read takes no lock. It looks at the header before and after, and where the generation is
-//! another, or the header is gone, it begins again with `dir-find`. So its bytes are those of one
-//! state of the header. An object that isn't there shows zeros.
+//! - A `write`, a `fill` and a `discard` join the image's line beside others. At both looks their
+//!   header refuses them with NonPrimary and then with BadRange. A `read` is refused with NoSnap,
+//!   and then with BadRange. All are refused with NoImage where the name is no image's.
+//! - Any operation may be answered `fenced`, which ends the request with Fenced.
+//! - A fill is a write of one byte many times.
+//! - The pieces of a change are those of its extent by the striping that its look under the lock
+//!   told (Ceph: RBD striping), by ascending object, under the snapshot context of that header.
+//! - Before the bytes of a write's piece, the head's map says that its object exists. What makes
+//!   the bytes of a discard's piece zeros is in the table of `rbd_pieces`: an object that loses all
+//!   its bytes goes, where no parent's bytes would show in its place (Ceph: RBD discard).
+//! - A read takes no lock. It looks at the header before and after. Where the generation is another
+//!   then, or the header is gone, it begins again with `dir-find`. So its bytes are those of one
+//!   state of the header. An object that isn't there shows zeros.
 //!
 //! # Contracts
 //!
-//! The requests meet the contract of `Machine` in `rbd_machine`: it says of each step that it is
-//! the next of a *plan*, a tree of steps, and the definitions here are the plans. What they refuse,
-//! and what their replies mean, stands in `rbd_meaning`. They are read in this order.
+//! - A request that is made has the plan of its command left, and keeps to it
+//!   ([`Machine`](rbd_machine::Machine)).
+//! - [`laws`] and [`discard_laws`]: a change is done only where each of its pieces was written, or
+//!   became zeros, by its look under the lock. Its turns are those at the objects of its pieces,
+//!   ascending. A read shows bytes only of a pass between two looks at a header that didn't change,
+//!   however often it began again. The plans are lawful from nothing known, how many operations
+//!   they have is said, and each reply is meant. A discard that is refused has done the front of a
+//!   whole one.
+//! - The replies of a discard are meant where images have no parent: inside an overlap a
+//!   `data-zero` may be answered `none`, which ends the request with NoImage.
+//!
+//! The definitions are read after those of `rbd_pieces` and `rbd_change`, in this order. What the
+//! commands refuse, and what their replies mean, stands in `rbd_meaning`.
 //!
 //! | file | what it says |
 //! |---|---|
-//! | `specs/Write.antt` | what a write does at its look under the lock (`put_plan`), the whole (`write`), and what is left of it (`rest_of_request`) |
-//! | `specs/Discard.antt` | the same of a discard: `zero`, `discard`, `rest_of_request`, and for which answers it has the memory (`IsReady`) |
-//! | `specs/Seen.antt` | what a read keeps of the header, and the bytes that it shows (`shown_bytes`) |
-//! | `specs/Read.antt` | a pass over the objects between two looks (`pass`), its closing look (`on_closing`), and where it stands (`rest_at`) |
-//!
-//! [`laws`] and [`discard_laws`] say what such plans come to: a write or a discard is done only
-//! when each of its pieces was written, or became zeros, by its look under the lock, its turns are
-//! those at the objects of its pieces, ascending, a read shows bytes only in a pass between two
-//! looks at a header that didn't change, however often it began again, each reply is meant,
-//! refusals among them, the plans are lawful from nothing known (`rbd_machine`), and how many
-//! operations they have. Where a discard is refused behind its look under the lock, it has done the
-//! first operations of a whole discard, and no others.
-//!
-//! That the replies of a discard are meant is said of images without a parent. Inside an overlap a
-//! `data-zero` may be answered `none`, where the object was never copied up, and that ends the
-//! request with NoImage: copy-up will join there.
+//! | `specs/Write.antt` | the plan of a write (`write`), and what is left of one |
+//! | `specs/WritePieceLaws.antt` | lemmas on [`WriteTurn`]; it defines nothing |
+//! | `specs/Discard.antt` | the same of a discard, and for which answers it has the memory |
+//! | `specs/ZeroPieceLaws.antt` | lemmas on [`DiscardTurn`]; it defines nothing |
+//! | `specs/Seen.antt` | what a read keeps of the header, and the bytes that it shows |
+//! | `specs/Read.antt` | a pass between two looks (`pass`), its closing look, and what is left |
 //!
 //! # Cost
 //!
-//! A request takes a step for each thing that it wants. A write asks twice for each object that it
-//! touches, for its state and for its bytes, a discard one to three times, and a read once; a read
-//! that begins again takes all its steps again. The bytes of a write lie in memory once: the
-//! request takes them over from the command, and its pieces and their operations share them. Only
-//! those of a piece with several parts, which lie apart in the command's bytes, are gathered, once,
-//! at the look under the lock. The snapshot context is one for all pieces, and a discard makes
-//! parts of those alone that don't have all bytes of their object. The bytes of a read are copied
-//! once from the answers to behind one another, and once into the reply, in the order of the image.
+//! | request | operations at most |
+//! |---|---|
+//! | `write`, `fill` | 3, and 2 for each object |
+//! | `discard` | 3, and 3 for each object |
+//! | `read` | 3, and one for each object; as many again each time that it begins again |
 //!
-//! Memory is taken by [`write_request`], `next` and `ready`, and these may be
-//! refused it without a change. [`discard_request`], [`ReadRequest::new`], `wants` and `feed` take
-//! none.
+//! The bytes of a write lie in memory once: its pieces share those of the command. Only a piece of
+//! several parts, which lie apart there, gathers its bytes, once, at the look under the lock. One
+//! snapshot context serves all pieces. A discard makes the parts of those pieces alone that aren't
+//! whole. The bytes of a read are copied once from each answer, and once into the reply, in the
+//! order of the image.
+//!
+//! Memory is taken by [`write_request`], `next` and `ready`, which may be refused it without a
+//! change. [`discard_request`], [`ReadRequest::new`], `wants` and `feed` take none.
 //!
 //! # How it works
 //!
-//! A [`WriteRequest`] and a [`DiscardRequest`] are the machine `ExtentRequest` of `rbd_change`,
-//! with a [`WriteChange`] or a [`DiscardChange`]. Both are refused by their range alike
-//! ([`range_refusal`]). The pieces of the one, [`WriteTurn`], are each a `WritePiece` of
-//! `rbd_pieces`, and those of the other, [`DiscardTurn`], a `ZeroPiece`. A [`ReadRequest`] goes
-//! through stages of its own, and its reading is a `Gather`. What an answer needs is made ready in
-//! `ready` and put beside the stage, and `feed` takes it from there.
+//! All pieces of a change are made by `ready` at the look under the lock, before the event is
+//! noted. A [`ReadRequest`] goes through stages of its own. What an answer needs is put beside the
+//! stage by `ready`, and `feed` takes it from there.
 #![tactic(auto)]
 
 mod arrange;

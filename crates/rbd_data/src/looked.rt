@@ -61,7 +61,8 @@ impl Looked {
         header.generation == self.generation
     }
 
-    /// The bytes of the extent, out of those that were read object by object.
+    /// The bytes of the extent, out of those that were read object by object. NoMemory where memory
+    /// for them is refused.
     pub fn arranged(&self, alloc: Global, read: &[u8]) -> Result<Bytes, NoMemory>
         ensures { IfOk result (λ bytes. bytes ≡ of_seen.shown_bytes self.now read.now) }
     {

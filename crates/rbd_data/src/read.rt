@@ -28,8 +28,9 @@ use rbd_machine::{
 use rbd_pieces::Gather;
 use std::alloc::Global;
 
-/// A read of bytes of an image or of a snapshot. It needs no lock: that nothing changed while it
-/// went from object to object is shown by the header's generation, before and after.
+/// The request of a `read` of bytes of an image or of a snapshot. It needs no lock: the header's
+/// generation, before and after, shows whether the header changed while it went from object to
+/// object.
 ///
 /// ```text
 ///    ┌─────────▶ Finding    dir-find     ──none──▶ NoImage

@@ -17,7 +17,7 @@ use rbd_pieces::WritePiece;
 use std::alloc::Global;
 use std::collections::VecDeque;
 
-/// A write of bytes to an image, or of one byte many times (`fill`).
+/// The request of a `write` of bytes to an image, or of one byte many times (`fill`).
 ///
 /// ```text
 /// Approaching   dir-find, the line, header-get, the lock, header-get   (see `Approach`)
@@ -47,7 +47,8 @@ pub struct WriteTurn {
     pub(crate) piece: WritePiece,
 }
 
-/// A `write` or a `fill` of an image of the session's home site.
+/// A `write` or a `fill` of an image of the session's home site. NoMemory where the memory to share
+/// the bytes of a write, or for those of a fill, is refused.
 pub fn write_request(
     alloc: Global,
     home: SiteId,

@@ -19,7 +19,8 @@ use rbd_pieces::WritePiece;
 use std::alloc::Global;
 use std::collections::VecDeque;
 
-/// The pieces of a write of bytes to an image, from its byte `at` on, by ascending object.
+/// The pieces of a write of bytes to an image, from its byte `at` on, by ascending object. NoMemory
+/// where memory for them is refused.
 pub fn write_pieces(
     alloc: Global,
     target: ImageAt,

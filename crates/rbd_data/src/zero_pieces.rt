@@ -16,7 +16,8 @@ use rbd_pieces::ZeroPiece;
 use std::alloc::Global;
 use std::collections::VecDeque;
 
-/// The pieces of a range of an image's bytes, by ascending object. They share one snapshot context.
+/// The pieces of a range of an image's bytes that become zeros, by ascending object. They share one
+/// snapshot context. NoMemory where memory for them is refused.
 pub fn zero_pieces(
     alloc: Global,
     target: ImageAt,

@@ -10,4 +10,5 @@ abbrev pub instance_cmp : Instance → Instance → Ordering
 instance_cmp a b = ordering_then (nat_cmp a.session b.session) (nat_cmp a.life b.life)
 
 abbrev pub instance_code : Coded Instance
-instance_code = code_by (ℕ × ℕ) (coded× coded_ℕ coded_ℕ) (λ i. (i.session, i.life)) (λ p. record { session = p.0; life = p.1 }) (λ _. refl)
+instance_code = code_by (ℕ × ℕ) (coded× coded_ℕ coded_ℕ) (λ i. (i.session, i.life))
+    (λ p. record { session = p.0; life = p.1 }) (λ _. refl)

@@ -34,7 +34,8 @@ pub record Link : Type 0 where
   pub child : ℕ
 
 abbrev pub link_cmp : Link → Link → Ordering
-link_cmp a b = ordering_then (nat_cmp a.parent b.parent) (ordering_then (nat_cmp a.snap b.snap) (nat_cmp a.child b.child))
+link_cmp a b = ordering_then (nat_cmp a.parent b.parent)
+    (ordering_then (nat_cmp a.snap b.snap) (nat_cmp a.child b.child))
 
 -- A flat site: names to ids, ids to flat images, and links. A name may stand without an image.
 pub record Flat : Type 0 where
@@ -92,7 +93,13 @@ renamed (Some image) from to f = record f { names = finmap.insert (finmap.remove
 
 abbrev pub cloned : Option FlatSnap → ℕ → Flat → Flat
 cloned None image f = f
-cloned (Some s) image f = record f { images = finmap.insert f.images image (record { bytes = s.bytes; snaps = []; role = Plain }) }
+cloned (Some s) image f = record f {
+  images = finmap.insert f.images image (record {
+    bytes = s.bytes;
+    snaps = [];
+    role = Plain;
+  });
+}
 
 abbrev pub with_status : ℕ → SnapStatus → FlatSnap → FlatSnap
 with_status t status s = if s.id == t then record s { status = status } else s
@@ -100,18 +107,33 @@ with_status t status s = if s.id == t then record s { status = status } else s
 -- one step of the flat-copy machine: all else stays
 abbrev pub after : Flat → Effect → Flat
 after f (effect.Name name image) = record f { names = finmap.insert f.names name image }
-after f (effect.NameFree image) = record f { names = finmap.from_entries (filter (λ e. not (e.1 == image)) (finmap.entries f.names)) }
+after f (effect.NameFree image) =
+    record f { names = finmap.from_entries (filter (λ e. not (e.1 == image)) (finmap.entries f.names)) }
 after f (effect.Rename from to) = renamed (id_of f from) from to f
-after f (effect.Create image size role) = record f { images = finmap.insert f.images image (record { bytes = replicate size 0; snaps = []; role = role }) }
+after f (effect.Create image size role) =
+    record f { images = finmap.insert f.images image (record { bytes = replicate size 0; snaps = []; role = role }) }
 after f (effect.Clone image parent snap) = cloned (snap_of (image_at f parent) snap) image f
-after f (effect.Piece image at bytes) = with_image f image (λ i. record i { bytes = painted (places_of at) bytes i.bytes })
+after f (effect.Piece image at bytes) =
+    with_image f image (λ i. record i { bytes = painted (places_of at) bytes i.bytes })
 after f (effect.Zero image at) = with_image f image (λ i. record i { bytes = painted (places_of at) [] i.bytes })
 after f (effect.Size image size) = with_image f image (λ i. record i { bytes = resized size i.bytes })
-after f (effect.Snap image snap name) = with_image f image (λ i. record i { snaps = i.snaps ++ record { id = snap; name = name; bytes = i.bytes; status = Unprotected } ∷ [] })
-after f (effect.Unsnap image snap) = with_image f image (λ i. record i { snaps = filter (λ s. not (s.id == snap)) i.snaps })
-after f (effect.Status image snap status) = with_image f image (λ i. record i { snaps = map (with_status snap status) i.snaps })
-after f (effect.Link parent snap child) = record f { links = finset.insert f.links (record { parent = parent; snap = snap; child = child }) }
-after f (effect.Unlink parent snap child) = record f { links = finset.remove f.links (record { parent = parent; snap = snap; child = child }) }
+after f (effect.Snap image snap name) =
+    with_image f image (λ i. record i {
+      snaps = i.snaps ++ record {
+        id = snap;
+        name = name;
+        bytes = i.bytes;
+        status = Unprotected;
+      } ∷ [];
+    })
+after f (effect.Unsnap image snap) =
+    with_image f image (λ i. record i { snaps = filter (λ s. not (s.id == snap)) i.snaps })
+after f (effect.Status image snap status) =
+    with_image f image (λ i. record i { snaps = map (with_status snap status) i.snaps })
+after f (effect.Link parent snap child) =
+    record f { links = finset.insert f.links (record { parent = parent; snap = snap; child = child }) }
+after f (effect.Unlink parent snap child) =
+    record f { links = finset.remove f.links (record { parent = parent; snap = snap; child = child }) }
 after f (effect.Role image role) = with_image f image (λ i. record i { role = role })
 after f (effect.Gone image) = record f { images = finmap.remove f.images image }
 

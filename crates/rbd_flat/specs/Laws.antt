@@ -22,7 +22,8 @@ covered at x = list_any (λ e. covers e x) at
 -- has x tells it.
 abbrev pub painted_at : List Extent → (new : List ℕ) → (old x : ℕ) → ℕ
 painted_at [] new old x = old
-painted_at (e ∷ at) new old x = painted_at at (drop e.len new) (if covers e x then slice_index new (x - e.at) else old) x
+painted_at (e ∷ at) new old x =
+    painted_at at (drop e.len new) (if covers e x then slice_index new (x - e.at) else old) x
 
 -- the same, where the places are listed one by one
 abbrev pub painted_byte : (places new : List ℕ) → (old x : ℕ) → ℕ
@@ -65,8 +66,10 @@ snap_size (Some s) old = length s.bytes
 -- the byte at place x of image i after the effect
 abbrev pub byte_after : Effect → Flat → (i x : ℕ) → ℕ
 byte_after (effect.Create image size role) f i x = if i == image then 0 else flat_byte f i x
-byte_after (effect.Clone image parent snap) f i x = if i == image then snap_byte (snap_at f parent snap) (flat_byte f i x) x else flat_byte f i x
-byte_after (effect.Piece image at bytes) f i x = if (i == image) && nat_lt x (size_at f i) then painted_at at bytes (flat_byte f i x) x else flat_byte f i x
+byte_after (effect.Clone image parent snap) f i x = if i == image then snap_byte (snap_at f parent snap)
+    (flat_byte f i x) x else flat_byte f i x
+byte_after (effect.Piece image at bytes) f i x = if (i == image) && nat_lt x (size_at f i)
+    then painted_at at bytes (flat_byte f i x) x else flat_byte f i x
 byte_after (effect.Zero image at) f i x = if (i == image) && covered at x then 0 else flat_byte f i x
 byte_after (effect.Size image size) f i x = if (i == image) && nat_le size x then 0 else flat_byte f i x
 byte_after (effect.Gone image) f i x = if i == image then 0 else flat_byte f i x
@@ -75,7 +78,8 @@ byte_after _ f i x = flat_byte f i x
 -- the size of image i after the effect
 abbrev pub size_after : Effect → Flat → (i : ℕ) → ℕ
 size_after (effect.Create image size role) f i = if i == image then size else size_at f i
-size_after (effect.Clone image parent snap) f i = if i == image then snap_size (snap_at f parent snap) (size_at f i) else size_at f i
+size_after (effect.Clone image parent snap) f i = if i == image then snap_size (snap_at f parent snap) (size_at f i)
+    else size_at f i
 size_after (effect.Size image size) f i = if (i == image) && is_some (image_at f i) then size else size_at f i
 size_after (effect.Gone image) f i = if i == image then 0 else size_at f i
 size_after _ f i = size_at f i
@@ -83,22 +87,27 @@ size_after _ f i = size_at f i
 -- the role of image i after the effect
 abbrev pub role_after : Effect → Flat → (i : ℕ) → Option Role
 role_after (effect.Create image size role) f i = if i == image then Some role else role_at f i
-role_after (effect.Clone image parent snap) f i = if (i == image) && is_some (snap_at f parent snap) then Some Plain else role_at f i
+role_after (effect.Clone image parent snap) f i = if (i == image) && is_some (snap_at f parent snap) then Some Plain
+    else role_at f i
 role_after (effect.Role image role) f i = if (i == image) && is_some (image_at f i) then Some role else role_at f i
 role_after (effect.Gone image) f i = if i == image then None else role_at f i
 role_after _ f i = role_at f i
 
 -- the snapshot that is taken of an image now
 abbrev pub taken_of : Option FlatImage → (snap : ℕ) → (name : List ℕ) → Option FlatSnap
-taken_of image snap name = option_map {T = FlatImage} {U = FlatSnap} (λ i. record { id = snap; name = name; bytes = i.bytes; status = Unprotected }) image
+taken_of image snap name = option_map {T = FlatImage} {U = FlatSnap}
+    (λ i. record { id = snap; name = name; bytes = i.bytes; status = Unprotected }) image
 
 -- snapshot t of image i after the effect
 abbrev pub snap_after : Effect → Flat → (i t : ℕ) → Option FlatSnap
 snap_after (effect.Create image size role) f i t = if i == image then None else snap_at f i t
-snap_after (effect.Clone image parent snap) f i t = if (i == image) && is_some (snap_at f parent snap) then None else snap_at f i t
-snap_after (effect.Snap image snap name) f i t = if (i == image) && (t == snap) then option_or (snap_at f i t) (taken_of (image_at f i) snap name) else snap_at f i t
+snap_after (effect.Clone image parent snap) f i t = if (i == image) && is_some (snap_at f parent snap) then None
+    else snap_at f i t
+snap_after (effect.Snap image snap name) f i t = if (i == image) && (t == snap) then option_or (snap_at f i t)
+    (taken_of (image_at f i) snap name) else snap_at f i t
 snap_after (effect.Unsnap image snap) f i t = if (i == image) && (t == snap) then None else snap_at f i t
-snap_after (effect.Status image snap status) f i t = if (i == image) && (t == snap) then option_map {T = FlatSnap} {U = FlatSnap} (λ s. record s { status = status }) (snap_at f i t) else snap_at f i t
+snap_after (effect.Status image snap status) f i t = if (i == image) && (t == snap)
+    then option_map {T = FlatSnap} {U = FlatSnap} (λ s. record s { status = status }) (snap_at f i t) else snap_at f i t
 snap_after (effect.Gone image) f i t = if i == image then None else snap_at f i t
 snap_after _ f i t = snap_at f i t
 

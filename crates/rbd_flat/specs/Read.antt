@@ -35,8 +35,10 @@ read_of f image snap e = read_image (image_at f image) snap e
 
 -- a snapshot is asked for, of an image that doesn't list it
 abbrev pub IsUnlisted : Flat → (image : ℕ) → (snap : Option ℕ) → Type 0
-IsUnlisted f image snap = IsSome (image_at f image) × ((t : ℕ) × (snap ≡ Some t) × (snap_of (image_at f image) t ≡ None))
+IsUnlisted f image snap = IsSome (image_at f image)
+    × ((t : ℕ) × (snap ≡ Some t) × (snap_of (image_at f image) t ≡ None))
 
 -- the extent doesn't fit into the bytes that are shown
 abbrev pub IsOutsideBytes : Flat → (image : ℕ) → (snap : Option ℕ) → Extent → Type 0
-IsOutsideBytes f image snap e = (bytes : List ℕ) × (view_at (image_at f image) snap ≡ Some bytes) × (fits e (length bytes) ≡ false)
+IsOutsideBytes f image snap e = (bytes : List ℕ) × (view_at (image_at f image) snap ≡ Some bytes)
+    × (fits e (length bytes) ≡ false)

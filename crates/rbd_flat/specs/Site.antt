@@ -15,7 +15,11 @@ use Rattle.rbd_flat.specs.Flat.{Flat, FlatImage, FlatSnap, Link, link_cmp}
 
 -- the flat site of these names, images and links
 abbrev pub site_of : List (List ℕ × ℕ) → List (ℕ × FlatImage) → List Link → Flat
-site_of names images links = record { names = finmap.from_entries names; images = finmap.from_entries images; links = finset.from_list links }
+site_of names images links = record {
+  names = finmap.from_entries names;
+  images = finmap.from_entries images;
+  links = finset.from_list links;
+}
 
 -- whether a step may want memory: it adds something, or makes something longer
 abbrev pub wants_memory : Effect → Bool
@@ -68,8 +72,10 @@ status_code = code_by ℕ coded_ℕ status_number status_of status_again
 
 abbrev pub snap_code : Coded FlatSnap
 snap_code =
-    code_by (ℕ × (List ℕ × (List ℕ × SnapStatus))) (coded× coded_ℕ (coded× (coded_list coded_ℕ) (coded× (coded_list coded_ℕ) status_code)))
-    (λ s. (s.id, (s.name, (s.bytes, s.status)))) (λ p. record { id = p.0; name = p.1.0; bytes = p.1.1.0; status = p.1.1.1 }) (λ _. refl)
+    code_by (ℕ × (List ℕ × (List ℕ × SnapStatus)))
+    (coded× coded_ℕ (coded× (coded_list coded_ℕ) (coded× (coded_list coded_ℕ) status_code)))
+    (λ s. (s.id, (s.name, (s.bytes, s.status))))
+    (λ p. record { id = p.0; name = p.1.0; bytes = p.1.1.0; status = p.1.1.1 }) (λ _. refl)
 
 abbrev pub image_code : Coded FlatImage
 image_code =
@@ -84,5 +90,6 @@ link_code =
 abbrev pub flat_code : Coded Flat
 flat_code =
     code_by (finmap.FinMap (slice_cmp nat_cmp) ℕ × (finmap.FinMap nat_cmp FlatImage × finset.FinSet link_cmp))
-    (coded× (finmap.code (coded_list coded_ℕ) coded_ℕ) (coded× (finmap.code coded_ℕ image_code) (finset.code link_code)))
+    (coded× (finmap.code (coded_list coded_ℕ) coded_ℕ)
+    (coded× (finmap.code coded_ℕ image_code) (finset.code link_code)))
     (λ f. (f.names, (f.images, f.links))) (λ p. record { names = p.0; images = p.1.0; links = p.1.1 }) (λ _. refl)

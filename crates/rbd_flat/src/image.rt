@@ -130,7 +130,15 @@ impl Image {
 
     /// Adds a copy of the bytes as the newest snapshot.
     pub fn take_snapshot(&mut self, snap: SnapId, name: &Name) -> Result<(), NoMemory>
-        ensures ok { OnOk result (self.new ≡ record self.old { snaps = self.old.snaps ++ record { id = snap; name = name.now; bytes = self.old.bytes; status = Unprotected } ∷ [] }) }
+        ensures ok { OnOk result (self.new
+            ≡ record self.old {
+              snaps = self.old.snaps ++ record {
+                id = snap;
+                name = name.now;
+                bytes = self.old.bytes;
+                status = Unprotected;
+              } ∷ [];
+            }) }
         ensures err { OnErr result (self.new ≡ self.old) }
     {
         let snapshot = Snapshot {

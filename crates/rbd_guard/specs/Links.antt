@@ -18,7 +18,8 @@ abbrev pub link : (key : ℕ) → (before after : Option ℕ) → TicketLink
 link key before after = record { key = key; before = before; after = after }
 
 -- each number of a part of a line is linked with the one before it and the one after it
-abbrev pub AreLinked : (links : ℕ → Option TicketLink) → (key : ℕ) → (before : Option ℕ) → List ℕ → (after : Option ℕ) → Type 0
+abbrev pub AreLinked : (links : ℕ → Option TicketLink) → (key : ℕ) → (before : Option ℕ) → List ℕ → (after : Option ℕ)
+    → Type 0
 AreLinked links key before [] after = Unit {0}
 AreLinked links key before (n ∷ line) after = (links n ≡ Some (link key before (front line after)))
     × AreLinked links key (Some n) line after
@@ -59,7 +60,11 @@ other_unless (Some n) other kept = kept
 
 -- the ends of a line without the number that has a link
 abbrev pub shorter : Ends → TicketLink → Ends
-shorter e l = record { first = other_unless l.before l.after e.first; last = other_unless l.after l.before e.last; count = e.count - 1 }
+shorter e l = record {
+  first = other_unless l.before l.after e.first;
+  last = other_unless l.after l.before e.last;
+  count = e.count - 1;
+}
 
 -- a line of none has no ends
 abbrev pub or_none : Ends → Ends

@@ -84,7 +84,8 @@ pub fn lengthen(table: &mut HashMap<u64, Ends>, key: u64, place: usize) -> Optio
 /// Gives a line its ends, where nobody stood yet.
 fn add_ends(table: &mut HashMap<u64, Ends>, key: u64, place: usize)
     requires { 0 < spare table.old }
-    ensures ends { (k : ℕ) → get nat_eq table.new k ≡ cond (nat_eq key k) (Some (longer no_ends place)) (get nat_eq table.old k) }
+    ensures ends { (k : ℕ) → get nat_eq table.new k ≡ cond (nat_eq key k) (Some (longer no_ends place))
+        (get nat_eq table.old k) }
     ensures room { spare table.old ≤ spare table.new + 1 }
 {
     let ends = Ends {

@@ -124,10 +124,14 @@ impl Guard {
     /// The same where room is reserved. A place that is free is taken again.
     fn enter_place(&mut self, request: u64, object: u64) -> Ticket
         requires { 0 < self.old.reserved }
-        ensures queue { (o : ℕ) → queue o self.new ≡ cond (object == o) (queue o self.old ++ result ∷ []) (queue o self.old) }
-        ensures list { (r : ℕ) → list r self.new ≡ cond (request == r) (list r self.old ++ result ∷ []) (list r self.old) }
-        ensures object { (t : ℕ) → ticket_object t self.new ≡ cond (result == t) (Some object) (ticket_object t self.old) }
-        ensures request { (t : ℕ) → ticket_request t self.new ≡ cond (result == t) (Some request) (ticket_request t self.old) }
+        ensures queue { (o : ℕ) → queue o self.new ≡ cond (object == o) (queue o self.old ++ result ∷ [])
+            (queue o self.old) }
+        ensures list { (r : ℕ) → list r self.new ≡ cond (request == r) (list r self.old ++ result ∷ [])
+            (list r self.old) }
+        ensures object { (t : ℕ) → ticket_object t self.new ≡ cond (result == t) (Some object)
+            (ticket_object t self.old) }
+        ensures request { (t : ℕ) → ticket_request t self.new ≡ cond (result == t) (Some request)
+            (ticket_request t self.old) }
         ensures number { result ≡ self.old.drawn }
         ensures drawn { self.new.drawn ≡ self.old.drawn + 1 }
         ensures fresh { ticket_object result self.old ≡ None }

@@ -8,7 +8,8 @@ ghost use Rattle.rbd_guard.specs.Tickets.{Tickets, queue, list, ticket_object, t
 /// ahead of the other.
 pub fn turns()
     ensures first { (tickets : List ℕ) (first other : ℕ)
-        → slice_get tickets 0 ≡ Some first → IsTrue (is_in other tickets) → other ≢ first → IsTrue (is_ahead first other tickets) }
+        → slice_get tickets 0 ≡ Some first → IsTrue (is_in other tickets) → other ≢ first
+        → IsTrue (is_ahead first other tickets) }
 
     ensures one_way { (tickets : List ℕ) (one other : ℕ)
         → AreApart tickets → IsTrue (is_ahead one other tickets) → IsFalse (is_ahead other one tickets) }
@@ -38,7 +39,8 @@ pub fn leaving()
     ensures order { (tickets : List ℕ) (ticket one other : ℕ)
         → one ≢ ticket → other ≢ ticket → is_ahead one other (without ticket tickets) ≡ is_ahead one other tickets }
 
-    ensures next { (tickets : List ℕ) (ticket : ℕ) → AreApart (ticket ∷ tickets) → without ticket (ticket ∷ tickets) ≡ tickets }
+    ensures next { (tickets : List ℕ) (ticket : ℕ) → AreApart (ticket ∷ tickets)
+        → without ticket (ticket ∷ tickets) ≡ tickets }
 
     ensures one { (tickets : List ℕ) (ticket : ℕ)
         → AreApart tickets → IsTrue (is_in ticket tickets) → length (without ticket tickets) + 1 ≡ length tickets }
@@ -46,13 +48,15 @@ pub fn leaving()
 
 /// Where several tickets leave, they are out, the others stay in and keep their order.
 pub fn leaving_all()
-    ensures out { (tickets gone : List ℕ) (ticket : ℕ) → IsTrue (is_in ticket gone) → IsFalse (is_in ticket (without_all gone tickets)) }
+    ensures out { (tickets gone : List ℕ) (ticket : ℕ) → IsTrue (is_in ticket gone)
+        → IsFalse (is_in ticket (without_all gone tickets)) }
 
     ensures others { (tickets gone : List ℕ) (other : ℕ)
         → IsFalse (is_in other gone) → is_in other (without_all gone tickets) ≡ is_in other tickets }
 
     ensures order { (tickets gone : List ℕ) (one other : ℕ)
-        → IsFalse (is_in one gone) → IsFalse (is_in other gone) → is_ahead one other (without_all gone tickets) ≡ is_ahead one other tickets }
+        → IsFalse (is_in one gone) → IsFalse (is_in other gone) → is_ahead one other (without_all gone tickets)
+        ≡ is_ahead one other tickets }
 {}
 
 /// A queued ticket stands in one queue, that of its object, and in one list, that of its request,

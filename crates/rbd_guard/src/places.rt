@@ -34,7 +34,8 @@ pub fn next_free(places: &Vec<SlabPlace>, at: usize) -> Option<usize>
 /// Puts something at a place.
 pub fn put(places: &mut Vec<SlabPlace>, at: usize, place: SlabPlace)
     requires { at < length places.old.items }
-    ensures places { (p : ℕ) → slice_get places.new.items p ≡ cond (at == p) (Some place) (slice_get places.old.items p) }
+    ensures places { (p : ℕ) → slice_get places.new.items p ≡ cond (at == p) (Some place)
+        (slice_get places.old.items p) }
     ensures len { vec_len places.new ≡ vec_len places.old }
     ensures capacity { vec_capacity places.new ≡ vec_capacity places.old }
 {

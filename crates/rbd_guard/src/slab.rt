@@ -30,7 +30,10 @@ impl Model for Slab {
 
     ghost Value = { Slots };
 
-    ghost view = { λ s. record { places = s.places.items; room = s.count + (vec_capacity s.places - vec_len s.places) } };
+    ghost view = { λ s. record {
+      places = s.places.items;
+      room = s.count + (vec_capacity s.places - vec_len s.places);
+    } };
 
     ghost invariant = { λ s. AreFree s.places.items s.free s.count };
 }
@@ -74,8 +77,10 @@ impl Slab {
         requires room { 0 < self.old.room }
         requires used { ticket.used ≡ true }
         ensures free { used_at self.old.places result ≡ None }
-        ensures places { (p : ℕ) → used_at self.new.places p ≡ cond (result == p) (Some ticket) (used_at self.old.places p) }
-        ensures reused { (p : ℕ) → IsSome (free_at self.old.places p) → length self.new.places ≡ length self.old.places }
+        ensures places { (p : ℕ) → used_at self.new.places p ≡ cond (result == p) (Some ticket)
+            (used_at self.old.places p) }
+        ensures reused { (p : ℕ) → IsSome (free_at self.old.places p)
+            → length self.new.places ≡ length self.old.places }
         ensures room { self.old.room ≤ self.new.room + 1 }
     {
         let Some(at) = self.free else {

@@ -66,7 +66,11 @@ abbrev pub snap_taken : List ℕ → HeaderView → SnapView
 snap_taken name h = record { id = h.snap_seq + 1; name = name; size = h.size; status = Unprotected; parent = h.parent }
 
 abbrev pub with_snap : List ℕ → HeaderView → HeaderView
-with_snap name h = record h { snaps = h.snaps ++ snap_taken name h ∷ []; snap_seq = h.snap_seq + 1; generation = h.generation + 1 }
+with_snap name h = record h {
+  snaps = h.snaps ++ snap_taken name h ∷ [];
+  snap_seq = h.snap_seq + 1;
+  generation = h.generation + 1;
+}
 
 -- a snapshot with this status, if it has the id
 abbrev pub status_marked : ℕ → SnapStatus → SnapView → SnapView

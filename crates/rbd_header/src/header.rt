@@ -156,10 +156,12 @@ impl Header {
         ensures ok { OnOk result (self.new ≡ with_snap name.now self.old) }
         ensures err { OnErr result (self.new ≡ self.old) }
         ensures exists { IsErrOf result SnapAddFault.Exists ↔ IsSome (snap_named self.old.snaps name.now) }
-        ensures full { IsErrOf result SnapAddFault.Full ↔ ((snap_named self.old.snaps name.now ≡ None) × IsTrue (is_full self.old)) }
+        ensures full { IsErrOf result SnapAddFault.Full
+            ↔ ((snap_named self.old.snaps name.now ≡ None) × IsTrue (is_full self.old)) }
         ensures free { OnOk result (snap_named self.old.snaps name.now ≡ None) }
         ensures room { OnOk result (is_full self.old ≡ false) }
-        ensures no_memory { IsErrOf result SnapAddFault.NoMemory → (snap_named self.old.snaps name.now ≡ None) × (is_full self.old ≡ false) }
+        ensures no_memory { IsErrOf result SnapAddFault.NoMemory → (snap_named self.old.snaps name.now ≡ None)
+            × (is_full self.old ≡ false) }
     {
         if self.named(name).is_some() {
             return Err(SnapAddFault::Exists);

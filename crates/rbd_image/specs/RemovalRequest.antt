@@ -27,7 +27,8 @@ rest_at (stage.Joining image) site session removal = joining_its_line site sessi
 rest_at (stage.Looking image) site session removal = looking_at_it site session image
 rest_at (stage.Asking image) site session removal = unless_watched site session image (holding_it site session image)
 rest_at (stage.Holding image) site session removal = holding_it site session image
-rest_at (stage.UnderLock image) site session removal = under_lock site image_removal_refuses (remove_owned site session) image
+rest_at (stage.UnderLock image) site session removal =
+    under_lock site image_removal_refuses (remove_owned site session) image
 rest_at (stage.AskingAgain image) site session removal = rest_with removal (unless_watched site session image)
 rest_at stage.Removing site session removal = rest_with removal (λ rest. rest)
 

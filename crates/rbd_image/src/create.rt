@@ -13,7 +13,7 @@ use rbd_layout::{keeps_limits, layout_of, objects};
 use rbd_machine::{Machine, Reason, refusal_of, told_done};
 use std::alloc::Global;
 
-/// Makes an image of zeros.
+/// The request of a `create`: makes an image of zeros.
 ///
 /// ```text
 /// Outside   a shape outside the limits: BadShape, and no operation
@@ -51,7 +51,8 @@ enum Stage {
 }
 
 impl CreateRequest {
-    /// The request of a `create` at a site, for an image without a journal.
+    /// The request of a `create` at a session's home site, for an image without a journal. It takes
+    /// no memory.
     pub fn new(home: SiteId, command: Command) -> Self
         requires { is_create command ≡ true }
         ensures { IsCreatePlan home command (rest_of_create result) }
@@ -93,9 +94,9 @@ impl CreateRequest {
         }
     }
 
-    /// Why it ends before any operation: BadShape where the shape is outside the limits. It is
-    /// `None` where there is something to do. It is asked first: of a request that is refused,
-    /// nothing is said of what it wants.
+    /// Why it ends before any operation: BadShape where the shape is outside the limits, and `None`
+    /// where there is something to do. Ask it first: of a request that is refused, nothing is said
+    /// of what it wants.
     pub fn refusal(&self) -> Option<Refusal>
         ensures refusal { result ≡ refusal_at (rest_of_create self.now) }
         ensures asking { result ≡ None → IsAsking (rest_of_create self.now) }
@@ -109,8 +110,8 @@ impl CreateRequest {
     }
 }
 
-/// The id that was drawn for a name, or why the request ends: the name is held, no more names or
-/// ids are left, or it is fenced.
+/// The id that was drawn for a name, or why the request ends: ImageExists where the name is held,
+/// BadShape where no more names or ids are left, or Fenced.
 fn drawn(answer: &Answer) -> Result<ImageId, Refusal>
     requires { TellsDrawn answer.now }
     ensures { (next : ℕ → Plan) → on_drawn next answer.now ≡ going next result }

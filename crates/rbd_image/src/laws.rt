@@ -93,7 +93,8 @@ pub fn creates_make_one()
 /// told are in form. None of them has done anything else.
 pub fn listings_show_what_was_told()
     ensures names { (site : SiteId) (feds : List Fed) (steps : List Answered) (names : List (List ℕ))
-        → IsWalk Goto (listing_plan site ListAll) feds steps (Return (Names names)) → steps ≡ names_told site names ∷ [] }
+        → IsWalk Goto (listing_plan site ListAll) feds steps (Return (Names names))
+        → steps ≡ names_told site names ∷ [] }
     ensures info { (site : SiteId) (image : List ℕ) (feds : List Fed) (steps : List Answered) (header : HeaderView)
         → IsWalk Goto (listing_plan site (Info image)) feds steps (Return (ShownHeader header))
         → ShowsHeader site image ShownHeader (ShownHeader header) steps }

@@ -20,8 +20,8 @@ use rbd_layout::objects;
 use rbd_machine::{Machine, Reason, dir_find, header_get, refusal_of, told_image};
 use std::alloc::Global;
 
-/// Shows the names of a site's images (`ls`), or what an image's header tells (`info`), or its
-/// snapshots (`snap ls`), or how many of an image's objects are in use (`du`). Or it gives an image
+/// A request that shows the names of a site's images (`ls`), what an image's header tells (`info`),
+/// its snapshots (`snap ls`), or how many of its objects are in use (`du`). Or it gives an image
 /// another name (`rename`).
 ///
 /// ```text
@@ -77,7 +77,8 @@ enum Shown {
 }
 
 impl ListRequest {
-    /// The request of an `ls`, `info`, `snap ls`, `du` or `rename` at a site. It takes no memory.
+    /// The request of an `ls`, `info`, `snap ls`, `du` or `rename` at a session's home site. It
+    /// takes no memory.
     pub fn new(home: SiteId, command: Command) -> Self
         requires { is_listing command ≡ true }
         ensures { rest_of_list result ≡ listing_plan home command }
@@ -237,13 +238,13 @@ impl Machine for ListRequest {
         Want::Op { site, kind }
     }
 
-    fn next(&self, _alloc: Global) -> Result<Op, NoMemory> {
+    fn next(&self, alloc: Global) -> Result<Op, NoMemory> {
         match &self.stage {
             Stage::Listing => Ok(Op::Directory(DirectoryOp::List)),
             Stage::Finding(name, _) => dir_find(name),
             Stage::Looking(image, _) => Ok(header_get(*image)),
             Stage::Counting(image, _) => Ok(map_get(*image)),
-            Stage::Renaming(from, to) => dir_rename(from, to),
+            Stage::Renaming(from, to) => dir_rename(alloc, from, to),
         }
     }
 
@@ -268,10 +269,10 @@ impl Machine for ListRequest {
 }
 
 /// An image of a name gets another one.
-fn dir_rename(from: &Name, to: &Name) -> Result<Op, NoMemory>
+fn dir_rename(alloc: Global, from: &Name, to: &Name) -> Result<Op, NoMemory>
     ensures { IfOk result (λ op. op ≡ on.Directory (directory.Rename from.now to.now)) }
 {
     let from = from.try_clone()?;
-    let to = to.try_clone()?;
+    let to = Shared::new(alloc, to.try_clone()?)?;
     Ok(Op::Directory(DirectoryOp::Rename { from, to }))
 }

@@ -5,8 +5,8 @@ ghost use Rattle.rbd_image.specs.Remnants.{is_in_use};
 
 use rbd_kinds::NoMemory;
 
-/// How many states there are. NoMemory where they are more than the numbers of 64 bits, which no
-/// memory holds.
+/// How many states some bits have. NoMemory where they are more than the numbers of 64 bits, which
+/// no memory holds.
 pub fn state_count(bits: &[u8]) -> Result<u64, NoMemory>
     ensures { IfOk result (λ count. count ≡ 4 * length bits.now) }
 {
@@ -16,7 +16,7 @@ pub fn state_count(bits: &[u8]) -> Result<u64, NoMemory>
     }
 }
 
-/// The object, unless its state is 0.
+/// The object of this number, unless its state is 0.
 pub fn object_in(bits: &[u8], object: u64) -> Option<u64>
     requires { object < 4 * length bits.now }
     ensures { result ≡ (if is_in_use bits.now object then Some object else None) }

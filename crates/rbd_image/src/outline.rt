@@ -20,7 +20,8 @@ pub struct Outline {
 }
 
 impl Outline {
-    /// That of a header, with a copy of its snapshots, unless their memory is shared.
+    /// What a header tells, with a copy of its snapshots, unless their memory is shared. NoMemory
+    /// where that is refused.
     pub fn new(header: &HeaderView) -> Result<Self, NoMemory>
         ensures { IfOk result (IsOutlineOf header.now) }
     {

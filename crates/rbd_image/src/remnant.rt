@@ -16,6 +16,7 @@ use std::alloc::Global;
 pub enum Remnant {
     /// Its name in the directory.
     Name,
+    /// Its header.
     Header,
     /// Its entry in the list of its parent's clones.
     Link(ParentLink),
@@ -23,11 +24,12 @@ pub enum Remnant {
     Object(u64),
     /// The object map of the head, or of a snapshot.
     Map(Option<SnapId>),
+    /// Its journal.
     Journal,
 }
 
 impl Remnant {
-    /// The operation that removes it from an image.
+    /// The operation that removes it from an image. NoMemory where memory for it is refused.
     pub fn op(&self, alloc: Global, image: ImageId) -> Result<Op, NoMemory>
         ensures { IfOk result (λ op. op ≡ removal_op image self.now) }
     {

@@ -64,7 +64,8 @@ pub fn plans_go_to_no_label()
 /// nothing.
 pub fn images_are_removed_whole()
     ensures part { (site : SiteId) (image : ℕ) (h : HeaderView) (feds : List Fed) (steps : List Answered)
-        → IsWalk Goto (removal_plan site image h (Return Done)) feds steps (Return Done) → IsRemoved site image h steps }
+        → IsWalk Goto (removal_plan site image h (Return Done)) feds steps (Return Done)
+        → IsRemoved site image h steps }
     ensures request { (site : SiteId) (session : ℕ) (name : List ℕ) (feds : List Fed) (steps : List Answered)
         → IsWalk Goto (remove_image site session name) feds steps (Return Done) → RemovesImage site session name steps }
 {}

@@ -50,7 +50,8 @@ pub enum Stage {
 }
 
 impl Remove {
-    /// The removal of an image of a site, by its header: whoever makes it owns the image.
+    /// The removal of an image of a site, by its header. Whoever makes it owns the image. NoMemory
+    /// where a copy of the header's snapshots is refused.
     pub fn new(
         alloc: Global,
         site: SiteId,
@@ -82,7 +83,7 @@ impl Remove {
         }
     }
 
-    /// The operation that it wants.
+    /// The operation that it wants. NoMemory where memory for it is refused.
     pub fn next(&self, alloc: Global) -> Result<Op, NoMemory>
         ensures { (next : Plan) → IfOk result (Asks (rest_of_removal self.now next)) }
     {
@@ -96,7 +97,7 @@ impl Remove {
     }
 
     /// Takes the memory for an answer: where the states of the head's map are told, that of the
-    /// list of all that is removed.
+    /// list of all that is removed. NoMemory where that is refused.
     pub fn ready(&mut self, alloc: Global, answer: &Answer) -> Result<(), NoMemory>
         ensures rest { (next : Plan) → rest_of_removal self.new next ≡ rest_of_removal self.old next }
         ensures ready { OnOk result (of_part.IsReady self.new answer.now) }
@@ -111,7 +112,8 @@ impl Remove {
         Ok(())
     }
 
-    /// Goes on with an answer that it has the memory for. It takes no memory.
+    /// Goes on with an answer that it has the memory for. Refused with NoImage where what has to be
+    /// there isn't, and with Fenced by `fenced`. It takes no memory.
     pub fn feed(&mut self, answer: &Answer) -> Progress<()>
         requires tells { of_part.Tells self.old.stage answer.now }
         requires ready { of_part.IsReady self.old answer.now }
@@ -146,8 +148,8 @@ impl Remove {
     }
 }
 
-/// That a remnant went or was gone, or why the request ends: it is fenced, or what has to be there
-/// isn't.
+/// That a remnant went or was gone, or why the request ends: Fenced, or NoImage where what has to
+/// be there isn't.
 fn told_gone(remnant: &Remnant, answer: &Answer) -> Result<(), Refusal>
     requires { TellsDone answer.now }
     ensures { (image : ℕ) (next : Plan)

@@ -38,11 +38,11 @@ use std::alloc::Global;
 ///    │ instances
 /// Holding       the lock
 ///    │
-/// UnderLock        header-get     ──none──▶ NoImage, or NonPrimary, HasSnaps
+/// UnderLock     header-get     ──none──▶ NoImage, or NonPrimary, HasSnaps
 ///    │ header
 /// AskingAgain   watchers-get   ──none──▶ NoImage, or InUse
 ///    │ instances
-/// Removing      as a `Remove` by the second header
+/// Removing      as a `Remove` by the header of its look under the lock
 ///    │ nothing is left
 ///    ▼
 /// Done
@@ -202,8 +202,7 @@ impl Stage {
     }
 }
 
-/// That a header doesn't refuse a removal, or why the request ends: it does, it is fenced, or there
-/// is no such image.
+/// That a header doesn't refuse a removal, or why the request ends: it does, or Fenced, or NoImage.
 fn told_removable(answer: &Answer) -> Result<(), Refusal>
     requires { TellsHeader answer.now }
     ensures ok { IfOk result (λ may. of_request.TellsRemovable answer.now) }

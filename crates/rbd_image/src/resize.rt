@@ -12,7 +12,7 @@ use rbd_machine::{Progress, Refuses, non_primary};
 use rbd_pieces::Size;
 use std::alloc::Global;
 
-/// Sets the size of an image's head.
+/// The request of a `resize`: sets the size of an image's head.
 ///
 /// ```text
 /// Approaching   to its look under the lock, alone in the image's line   (see `Approach`)

@@ -20,8 +20,8 @@ pub fn watchers_get(image: ImageId) -> Op
     }
 }
 
-/// That no instance of another session watches, or why the request ends: one does (InUse), it is
-/// fenced, or the image isn't there. Former lives of the session count as itself (own).
+/// That no instance of another session watches, or why the request ends: InUse where one does,
+/// Fenced, or NoImage. Other lives of the session count as itself (own).
 pub fn told_watchers(session: SessionNo, answer: &Answer) -> Result<(), Refusal>
     requires { TellsWatchers answer.now }
     ensures { (next : Plan) → on_watchers session next answer.now ≡ going (λ unused. next) result }

@@ -27,7 +27,8 @@ AreUnfenced r me you = IsFalse (is_fenced r me) × IsFalse (is_fenced r you)
 -- id was drawn by both; none was drawn by one whose header the other removed; and no header was
 -- removed by both.
 pub record AreBeside (site : SiteId) (r : Records) (me you : Instance) (k j : Knowledge) : Type 0 where
-  pub shared : AreUnfenced r me you → (image : ℕ) → IsSome (known_header k site image) → IsSome (known_header j site image) → GoBesideOthers site image k j
+  pub shared : AreUnfenced r me you → (image : ℕ) → IsSome (known_header k site image)
+      → IsSome (known_header j site image) → GoBesideOthers site image k j
   pub apart : (image : ℕ) → is_drawn k.drawn site image ≡ true → is_drawn j.drawn site image ≡ false
   pub gone : (image : ℕ) → is_gone k.gone site image ≡ true → is_drawn j.drawn site image ≡ false
   pub gone_there : (image : ℕ) → is_gone j.gone site image ≡ true → is_drawn k.drawn site image ≡ false
@@ -36,15 +37,17 @@ pub record AreBeside (site : SiteId) (r : Records) (me you : Instance) (k j : Kn
 -- Where one request waited for the lock of an image, and the other knows its header, neither is
 -- alone.
 abbrev pub SharesLock : SiteId → (image : ℕ) → Records → (me you : Instance) → (k j : Knowledge) → Type 0
-SharesLock site image r me you k j = AreUnfenced r me you → IsSome (own_of k.owns site image) → IsSome (known_header j site image) → GoBesideOthers site image k j
+SharesLock site image r me you k j = AreUnfenced r me you → IsSome (own_of k.owns site image)
+    → IsSome (known_header j site image) → GoBesideOthers site image k j
 
 -- Where both know the header of an image, the other one knows nothing of an object.
 abbrev pub LeavesObject : SiteId → (image object : ℕ) → Records → (me you : Instance) → (k j : Knowledge) → Type 0
-LeavesObject site image object r me you k j = AreUnfenced r me you → IsSome (known_header k site image) → IsSome (known_header j site image) → KnowsOf j site image object → ⊥
+LeavesObject site image object r me you k j = AreUnfenced r me you → IsSome (known_header k site image)
+    → IsSome (known_header j site image) → KnowsOf j site image object → ⊥
 
 -- What one request may do beside another. It may look at the header of an image whose lock it
 -- waited for only where the other knows no header there, or neither of the two is alone. So it is
--- with the drop of a lock that is its own: nobody of its session may rely on a header meanwhile. It
+-- with the drop of a lock that is its own: nobody of its client may rely on a header meanwhile. It
 -- may change an object, or its state, only where the other knows nothing of that object: it has its
 -- turn there, which the other had before or waits for. The line of a session and the lock see to
 -- all of that.

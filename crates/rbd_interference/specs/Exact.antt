@@ -42,9 +42,12 @@ abbrev pub IsStateOwed : (state : ℕ) → (owed : (state : ℕ) → Type 0) →
 IsStateOwed state owed = ((state ≡ 1) × owed 1) ⊎ owed 2
 
 -- The maps of an image are exact, but for objects of the head that are under way.
-pub record AreExactBut (owed : (number state : ℕ) → Type 0) (h : HeaderView) (maps : Maps) (objects : ℕ → Mapped) : Type 0 where
-  pub head : (number : ℕ) → IsExactAt (maps None) (exists_at objects None) number ⊎ IsStateOwed (map_state_in (maps None) number) (owed number)
-  pub snaps : (t : ℕ) (s : SnapView) → snap_in h.snaps t ≡ Some s → (number : ℕ) → IsExactAt (maps (Some t)) (exists_at objects (Some t)) number
+pub record AreExactBut (owed : (number state : ℕ) → Type 0) (h : HeaderView) (maps : Maps)
+    (objects : ℕ → Mapped) : Type 0 where
+  pub head : (number : ℕ) → IsExactAt (maps None) (exists_at objects None) number
+      ⊎ IsStateOwed (map_state_in (maps None) number) (owed number)
+  pub snaps : (t : ℕ) (s : SnapView) → snap_in h.snaps t ≡ Some s → (number : ℕ)
+      → IsExactAt (maps (Some t)) (exists_at objects (Some t)) number
 
 -- the maps are exact at each of the image's views
 abbrev pub AreExact : HeaderView → Maps → (objects : ℕ → Mapped) → Type 0
@@ -52,7 +55,8 @@ AreExact h maps objects = EachView h (λ v shape. (number : ℕ) → IsExactAt (
 
 -- so it is of each image that has a header
 pub record IsExactBut (owed : (image number state : ℕ) → Type 0) (r : Records) : Type 0 where
-  pub images : (image : ℕ) (h : HeaderView) → r.headers image ≡ Some h → AreExactBut (owed image) h (r.maps image) (object_at r image)
+  pub images : (image : ℕ) (h : HeaderView) → r.headers image ≡ Some h
+      → AreExactBut (owed image) h (r.maps image) (object_at r image)
 
 -- ---- what an operation does to what is owed
 
@@ -79,9 +83,11 @@ takes_snap image o = false
 -- The rules of what is owed. Who sets another state than 0 owes the object from then on, until the
 -- object is made or its state is set to 0. An object of an image that has a header is removed only
 -- by who owes that. No object of an image is owed when a snapshot of it is taken.
-pub record KeepsWhatIsOwed (headers : (image : ℕ) → Option HeaderView) (o : Op) (owed later : (image number state : ℕ) → Type 0) : Type 0 where
+pub record KeepsWhatIsOwed (headers : (image : ℕ) → Option HeaderView) (o : Op)
+    (owed later : (image number state : ℕ) → Type 0) : Type 0 where
   pub made : (image number : ℕ) → owed image number 1 → later image number 1 ⊎ (makes_object image number o ≡ true)
   pub lowered : (image number : ℕ) → owed image number 2 → later image number 2 ⊎ (sets_state image number 0 o ≡ true)
   pub new : (image number state : ℕ) → sets_state image number state o ≡ true → state ≢ 0 → later image number state
-  pub gone : (image number : ℕ) (h : HeaderView) → removes_object image number o ≡ true → headers image ≡ Some h → later image number 2
+  pub gone : (image number : ℕ) (h : HeaderView) → removes_object image number o ≡ true → headers image ≡ Some h
+      → later image number 2
   pub free : (image number state : ℕ) → takes_snap image o ≡ true → owed image number state → ⊥

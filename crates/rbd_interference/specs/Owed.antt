@@ -50,7 +50,8 @@ owed_at site image object (Some due) = Some (record { site = site; image = image
 -- or that removed an object which had to go.
 abbrev pub owed_by : Option Spot → SiteId → Op → Answer → Option Spot
 owed_by owed site (op.Map image (states.Set None object state)) answer.Done = owed_at site image object (due_by state)
-owed_by (Some p) site (op.Data image number (object.Remove context)) answer.Done = owed_at site image number (due_behind p.due)
+owed_by (Some p) site (op.Data image number (object.Remove context)) answer.Done =
+    owed_at site image number (due_behind p.due)
 owed_by owed site o a = None
 
 -- behind operations, one after another
@@ -93,7 +94,8 @@ IsPayment p site o = ⊥
 
 -- Objects of the image are removed, one after another, and then its head's map.
 abbrev pub IsClearing : SiteId → (image : ℕ) → Plan → Type 0
-IsClearing site image (Ask at why (op.Data of number (object.Remove context)) next) = (at ≡ site) × (of ≡ image) × IsClearing site image (next answer.Done)
+IsClearing site image (Ask at why (op.Data of number (object.Remove context)) next) = (at ≡ site) × (of ≡ image)
+    × IsClearing site image (next answer.Done)
 IsClearing site image (Ask at why (op.Map of (states.Remove None)) next) = (at ≡ site) × (of ≡ image)
 IsClearing site image _ = ⊥
 
@@ -105,8 +107,10 @@ RemovesWhole site o next = Unit {0}
 -- The request does next what it owes, whatever it is answered of what it can be, as long as no
 -- image has a parent.
 abbrev pub PaysItsStates : Option Spot → Plan → Type 0
-PaysItsStates None (Ask site why o next) = RemovesWhole site o (next answer.Done) × ((a : Answer) → IsGiven o a → TellsStandalone a → PaysItsStates (owed_by None site o a) (next a))
-PaysItsStates (Some p) (Ask site why o next) = IsPayment p site o × ((a : Answer) → IsGiven o a → TellsStandalone a → PaysItsStates (owed_by (Some p) site o a) (next a))
+PaysItsStates None (Ask site why o next) = RemovesWhole site o (next answer.Done)
+    × ((a : Answer) → IsGiven o a → TellsStandalone a → PaysItsStates (owed_by None site o a) (next a))
+PaysItsStates (Some p) (Ask site why o next) = IsPayment p site o
+    × ((a : Answer) → IsGiven o a → TellsStandalone a → PaysItsStates (owed_by (Some p) site o a) (next a))
 PaysItsStates None (Await wait next) = PaysItsStates None next
 PaysItsStates None (Note site image event next) = PaysItsStates None next
 PaysItsStates None (Return reply) = Unit {0}

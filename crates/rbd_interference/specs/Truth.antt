@@ -94,7 +94,8 @@ pub record AreMapsTrue (alone : Bool) (maps : Maps) (m : MapsKnown) : Type 0 whe
 -- each place of the parts is zero in an object's head, or each place of the object
 abbrev pub AreZeros : Layout → (head : Option (List ℕ)) → Option (List Part) → Type 0
 AreZeros layout head None = (offset : ℕ) → slice_index (unwrap_or head []) offset ≡ 0
-AreZeros layout head (Some parts) = (x : ℕ) → Any (IsIn x) parts → slice_index (unwrap_or head []) (offset_of layout x) ≡ 0
+AreZeros layout head (Some parts) = (x : ℕ) → Any (IsIn x) parts → slice_index (unwrap_or head []) (offset_of layout x)
+    ≡ 0
 
 -- What is known of an image's objects is true: one that the request removed isn't there. A request
 -- that is alone on the image knows that what it zeroed is still zero.
@@ -133,12 +134,14 @@ pub record IsTrueAt (site : SiteId) (r : Records) (me : Instance) (k : Knowledge
   pub owned : IsFalse (is_fenced r me) → (image : ℕ) → IsStill (known_header k site image) (r.headers image)
   pub drawn : (image : ℕ) → is_drawn k.drawn site image ≡ true → IsWaiting r image
   pub fenced : (i : Instance) → is_fenced_by k.fenced site i ≡ true → is_fenced r i ≡ true
-  pub mapped : IsFalse (is_fenced r me) → (image : ℕ) → IsSome (known_header k site image) → AreMapsTrue (is_alone_on k site image) (r.maps image) (maps_of k.maps site image)
+  pub mapped : IsFalse (is_fenced r me) → (image : ℕ) → IsSome (known_header k site image)
+      → AreMapsTrue (is_alone_on k site image) (r.maps image) (maps_of k.maps site image)
   pub objects : IsFalse (is_fenced r me) → (image : ℕ) (h : HeaderView) → known_header k site image ≡ Some h
       → AreObjectsTrue (is_alone_on k site image) h.layout (object_at r image) (objects_known_of k.objects site image)
   pub gone : (image : ℕ) → is_gone k.gone site image ≡ true → IsGoneAt r image
   pub apart : (image : ℕ) → is_gone k.gone site image ≡ true → is_drawn k.drawn site image ≡ false
-  pub counted : (image : ℕ) → KnowsNoHeader k site image → IsCountTrue (maps_of k.maps site image).count (r.maps image None)
+  pub counted : (image : ℕ) → KnowsNoHeader k site image
+      → IsCountTrue (maps_of k.maps site image).count (r.maps image None)
 
 -- ---- the site
 

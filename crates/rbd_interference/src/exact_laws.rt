@@ -35,7 +35,8 @@ pub fn requests_pay_their_states()
 /// that next, as long as no image has a parent.
 pub fn walks_owe_by_their_last_operation()
     ensures { (s : Standing) (feds : List Fed) (steps : List Answered) (last : Plan)
-        → PaysFrom None s → AreGiven steps → TellAllStandalone steps → IsWalk s.labels s.plan feds steps last → PaysItsStates (owed_behind steps) last }
+        → PaysFrom None s → AreGiven steps → TellAllStandalone steps → IsWalk s.labels s.plan feds steps last
+        → PaysItsStates (owed_behind steps) last }
 {}
 
 /// Maps that are exact but for what is owed stay so under each operation that true knowledge
@@ -43,9 +44,12 @@ pub fn walks_owe_by_their_last_operation()
 /// exact then but for what is owed from there on.
 pub fn exact_maps_stay_exact()
     ensures first { (site : Site) (debts : (who : ℕ) → Option Spot) → IsExactBut (IsOwed debts site) no_records }
-    ensures operation { (site : Site) (r : Records) (f : Flat) (k : Knowledge) (me : Instance) (op : Op) (most : ℕ) (debts later : (who : ℕ) → Option Spot)
-        → StandsFor [] r f → AreInForm r most → AreMapped r → IsTrueAt site r me k → Permits k site op → IsFalse (is_fenced r me)
-        → KeepsWhatIsOwed r.headers op (IsOwed debts site) (IsOwed later site) → IsExactBut (IsOwed debts site) r → IsExactBut (IsOwed later site) (after r me op) }
+    ensures operation { (site : Site) (r : Records) (f : Flat) (k : Knowledge) (me : Instance) (op : Op) (most : ℕ)
+        (debts later : (who : ℕ) → Option Spot)
+        → StandsFor [] r f → AreInForm r most → AreMapped r → IsTrueAt site r me k → Permits k site op
+        → IsFalse (is_fenced r me)
+        → KeepsWhatIsOwed r.headers op (IsOwed debts site) (IsOwed later site) → IsExactBut (IsOwed debts site) r
+        → IsExactBut (IsOwed later site) (after r me op) }
     ensures trim { (site : Site) (r : Records) (image number : ℕ) (debts : (who : ℕ) → Option Spot)
         → IsExactBut (IsOwed debts site) r → IsExactBut (IsOwed debts site) (trimmed image number r) }
     ensures expiry { (site : Site) (r : Records) (image : ℕ) (i : Instance) (debts : (who : ℕ) → Option Spot)

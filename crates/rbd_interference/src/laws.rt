@@ -34,22 +34,25 @@ pub fn nothing_is_false_at_first()
 {}
 
 /// What a request of an instance `me` knows stays true while another request does what its own true
-/// knowledge permits, and what it may do beside the first. `you` is the instance of the other
-/// request; it may be the same one.
+/// knowledge permits, and what it may do beside the first. `you` is the instance of that other
+/// request, and may be the same one.
 pub fn others_keep_what_is_known()
     ensures { (site : Site) (r : Records) (k j : Knowledge) (me you : Instance) (op : Op)
-        → IsTrueAt site r me k → IsTrueAt site r you j → AreBeside site r me you k j → Permits j site op → MayAct site r you me j k op
+        → IsTrueAt site r me k → IsTrueAt site r you j → AreBeside site r me you k j → Permits j site op
+        → MayAct site r you me j k op
         → IsTrueAt site (after r you op) me k }
 {}
 
 /// A trim by the store keeps what is known.
 pub fn trims_keep_what_is_known()
-    ensures { (site : Site) (r : Records) (me : Instance) (k : Knowledge) (image number : ℕ) → IsTrueAt site r me k → IsTrueAt site (trimmed image number r) me k }
+    ensures { (site : Site) (r : Records) (me : Instance) (k : Knowledge) (image number : ℕ) → IsTrueAt site r me k
+        → IsTrueAt site (trimmed image number r) me k }
 {}
 
 /// The end of a watch keeps what is known.
 pub fn expiries_keep_what_is_known()
-    ensures { (site : Site) (r : Records) (me : Instance) (k : Knowledge) (image : ℕ) (i : Instance) → IsTrueAt site r me k → IsTrueAt site (expired image i r) me k }
+    ensures { (site : Site) (r : Records) (me : Instance) (k : Knowledge) (image : ℕ) (i : Instance)
+        → IsTrueAt site r me k → IsTrueAt site (expired image i r) me k }
 {}
 
 /// What a request learns by an operation that is permitted to it is true after that operation.
@@ -66,7 +69,8 @@ pub fn fences_teach_nothing()
 
 /// What a request may count on after a wait is true.
 pub fn waits_teach_what_is_true()
-    ensures { (site : Site) (r : Records) (me : Instance) (k : Knowledge) (wait : Wait) → IsTrueAt site r me k → IsTrueAt site r me (known_after_wait k wait) }
+    ensures { (site : Site) (r : Records) (me : Instance) (k : Knowledge) (wait : Wait) → IsTrueAt site r me k
+        → IsTrueAt site r me (known_after_wait k wait) }
 {}
 
 /// What a request learns at one site changes nothing of what it knows of the other: that stays
@@ -75,7 +79,8 @@ pub fn sites_are_known_apart()
     ensures truth { (site other : Site) (r : Records) (me : Instance) (k : Knowledge) (op : Op) (answer : Answer)
         → IsFalse (same_site site other) → IsTrueAt other r me k → IsTrueAt other r me (learned k site op answer) }
     ensures beside { (site other : Site) (r : Records) (me you : Instance) (k j : Knowledge) (op : Op) (answer : Answer)
-        → IsFalse (same_site site other) → AreBeside other r me you k j → AreBeside other r me you (learned k site op answer) j }
+        → IsFalse (same_site site other) → AreBeside other r me you k j
+        → AreBeside other r me you (learned k site op answer) j }
 {}
 
 /// Two requests that are beside each other stay so: whatever one of them learns by an operation
@@ -85,22 +90,30 @@ pub fn requests_stay_beside()
     ensures answered { (site : Site) (r : Records) (k j : Knowledge) (me you : Instance) (op : Op)
         → IsTrueAt site r you j → AreBeside site r me you k j → Permits k site op → MayAct site r me you k j op
         → AreBeside site (after r me op) me you (learned k site op (answer_to r me op)) j }
-    ensures waited { (site : Site) (r : Records) (me you : Instance) (k j : Knowledge) (wait : Wait) → AreBeside site r me you k j → AreBeside site r me you (known_after_wait k wait) j }
-    ensures others { (site : Site) (r : Records) (him me you : Instance) (k j : Knowledge) (op : Op) → AreBeside site r me you k j → AreBeside site (after r him op) me you k j }
-    ensures trim { (site : Site) (r : Records) (me you : Instance) (k j : Knowledge) (image number : ℕ) → AreBeside site r me you k j → AreBeside site (trimmed image number r) me you k j }
-    ensures expiry { (site : Site) (r : Records) (me you i : Instance) (k j : Knowledge) (image : ℕ) → AreBeside site r me you k j → AreBeside site (expired image i r) me you k j }
-    ensures first { (site : Site) (r : Records) (me you : Instance) (j : Knowledge) → AreBeside site r me you nothing_known j }
-    ensures mutual { (site : Site) (r : Records) (me you : Instance) (k j : Knowledge) → AreBeside site r me you k j → AreBeside site r you me j k }
+    ensures waited { (site : Site) (r : Records) (me you : Instance) (k j : Knowledge) (wait : Wait)
+        → AreBeside site r me you k j → AreBeside site r me you (known_after_wait k wait) j }
+    ensures others { (site : Site) (r : Records) (him me you : Instance) (k j : Knowledge) (op : Op)
+        → AreBeside site r me you k j → AreBeside site (after r him op) me you k j }
+    ensures trim { (site : Site) (r : Records) (me you : Instance) (k j : Knowledge) (image number : ℕ)
+        → AreBeside site r me you k j → AreBeside site (trimmed image number r) me you k j }
+    ensures expiry { (site : Site) (r : Records) (me you i : Instance) (k j : Knowledge) (image : ℕ)
+        → AreBeside site r me you k j → AreBeside site (expired image i r) me you k j }
+    ensures first { (site : Site) (r : Records) (me you : Instance) (j : Knowledge)
+        → AreBeside site r me you nothing_known j }
+    ensures mutual { (site : Site) (r : Records) (me you : Instance) (k j : Knowledge) → AreBeside site r me you k j
+        → AreBeside site r you me j k }
 {}
 
 /// A request that isn't alone on an image knows of an object only in its turn there, and nothing
 /// more once it waited for another turn, or for its event to count as applied.
 pub fn objects_are_known_in_their_turn()
     ensures first { KnowsInTurn nothing_known }
-    ensures answered { (site : Site) (k : Knowledge) (op : Op) (answer : Answer) → KnowsInTurn k → Permits k site op → KnowsInTurn (learned k site op answer) }
+    ensures answered { (site : Site) (k : Knowledge) (op : Op) (answer : Answer) → KnowsInTurn k → Permits k site op
+        → KnowsInTurn (learned k site op answer) }
     ensures waited { (k : Knowledge) (wait : Wait) → KnowsInTurn k → KnowsInTurn (known_after_wait k wait) }
     ensures turned { (site there : Site) (k : Knowledge) (image object of turn : ℕ)
-        → (KnowsOf (known_after_wait k (waits.Turn turn)) site image object → ⊥) × (KnowsOf (known_after_wait k (waits.Applied there of)) site image object → ⊥) }
+        → (KnowsOf (known_after_wait k (waits.Turn turn)) site image object → ⊥)
+        × (KnowsOf (known_after_wait k (waits.Applied there of)) site image object → ⊥) }
 {}
 
 /// A lock is broken only where its owner is fenced, so that nothing the owner knew of the image
@@ -111,23 +124,28 @@ pub fn nobody_relies_on_a_lock_that_ends()
         → IsTrueAt site r me k → Permits k site (on.Header image (header.LockBreak owner)) → is_fenced r owner ≡ true }
     ensures dropped { (site : Site) (r : Records) (me you : Instance) (k j : Knowledge) (image : ℕ)
         → AreUnfenced r me you → HasLock image me r
-        → Permits k site (on.Header image header.LockDrop) → MayAct site r me you k j (on.Header image header.LockDrop) → known_header j site image ≡ None }
+        → Permits k site (on.Header image header.LockDrop) → MayAct site r me you k j (on.Header image header.LockDrop)
+        → known_header j site image ≡ None }
     ensures removed { (site : Site) (r : Records) (me you : Instance) (k j : Knowledge) (image : ℕ)
-        → AreUnfenced r me you → AreBeside site r me you k j → Permits k site (on.Header image header.Remove) → known_header j site image ≡ None }
+        → AreUnfenced r me you → AreBeside site r me you k j → Permits k site (on.Header image header.Remove)
+        → known_header j site image ≡ None }
 {}
 
 /// A lock has one owner, as long as nobody is fenced. So two instances that each know headers by
 /// their locks go beside each other; and who has the lock that it waited for may look.
 pub fn a_lock_has_one_owner()
-    ensures one { (r : Records) (me you : Instance) (image : ℕ) → AreUnfenced r me you → HasLockWhileFree r me image → HasLockWhileFree r you image → me ≡ you }
+    ensures one { (r : Records) (me you : Instance) (image : ℕ) → AreUnfenced r me you → HasLockWhileFree r me image
+        → HasLockWhileFree r you image → me ≡ you }
     ensures beside { (site : Site) (r : Records) (me you : Instance) (k j : Knowledge)
         → me ≢ you → KnowsByLock site r me k → KnowsByLock site r you j
         → ((image : ℕ) → is_drawn k.drawn site image ≡ true → is_drawn j.drawn site image ≡ false)
         → ((image : ℕ) → is_gone k.gone site image ≡ true → is_drawn j.drawn site image ≡ false)
         → ((image : ℕ) → is_gone j.gone site image ≡ true → is_drawn k.drawn site image ≡ false)
-        → ((image : ℕ) → is_gone k.gone site image ≡ true → is_gone j.gone site image ≡ false) → AreBeside site r me you k j }
+        → ((image : ℕ) → is_gone k.gone site image ≡ true → is_gone j.gone site image ≡ false)
+        → AreBeside site r me you k j }
     ensures looks { (site : Site) (r : Records) (me you : Instance) (k j : Knowledge) (image : ℕ)
-        → me ≢ you → HasLockWhileFree r me image → KnowsByLock site r you j → MayAct site r me you k j (on.Header image header.Get) }
+        → me ≢ you → HasLockWhileFree r me image → KnowsByLock site r you j
+        → MayAct site r me you k j (on.Header image header.Get) }
     ensures drops { (site : Site) (r : Records) (me you : Instance) (k j : Knowledge) (image : ℕ)
         → me ≢ you → KnowsByLock site r you j → MayAct site r me you k j (on.Header image header.LockDrop) }
     ensures changes { (site : Site) (r : Records) (me you : Instance) (k j : Knowledge) (image object : ℕ)
@@ -137,12 +155,15 @@ pub fn a_lock_has_one_owner()
 /// A lock that was taken is its owner's until the owner gives it up or is fenced: nobody else ends
 /// it by what is permitted to an instance that knows headers by its locks.
 pub fn locks_last()
-    ensures taken { (r : Records) (me : Instance) (image : ℕ) → answer_to r me (on.Header image header.LockTake) ≡ answered.Done → HasLockWhileFree (after r me (on.Header image header.LockTake)) me image }
+    ensures taken { (r : Records) (me : Instance) (image : ℕ) → answer_to r me (on.Header image header.LockTake)
+        ≡ answered.Done → HasLockWhileFree (after r me (on.Header image header.LockTake)) me image }
     ensures operation { (site : Site) (r : Records) (me you : Instance) (j : Knowledge) (image : ℕ) (op : Op)
         → IsTrueAt site r you j → KnowsByLock site r you j → Permits j site op → (you ≡ me → gives_up image op ≡ false)
         → HasLockWhileFree r me image → HasLockWhileFree (after r you op) me image }
-    ensures trim { (r : Records) (me : Instance) (image other number : ℕ) → HasLockWhileFree r me image → HasLockWhileFree (trimmed other number r) me image }
-    ensures expiry { (r : Records) (me i : Instance) (image other : ℕ) → HasLockWhileFree r me image → HasLockWhileFree (expired other i r) me image }
+    ensures trim { (r : Records) (me : Instance) (image other number : ℕ) → HasLockWhileFree r me image
+        → HasLockWhileFree (trimmed other number r) me image }
+    ensures expiry { (r : Records) (me i : Instance) (image other : ℕ) → HasLockWhileFree r me image
+        → HasLockWhileFree (expired other i r) me image }
 {}
 
 /// What true knowledge permits meets the site's condition, and is answered as an operation of the
@@ -168,7 +189,8 @@ pub fn what_is_permitted_has_its_effect()
 pub fn images_keep_their_maps()
     ensures first { AreMapped no_records }
     ensures operation { (site : Site) (r : Records) (f : Flat) (k : Knowledge) (you : Instance) (op : Op) (most : ℕ)
-        → StandsFor [] r f → AreInForm r most → AreMapped r → IsTrueAt site r you k → Permits k site op → AreMapped (after r you op) }
+        → StandsFor [] r f → AreInForm r most → AreMapped r → IsTrueAt site r you k → Permits k site op
+        → AreMapped (after r you op) }
     ensures trim { (r : Records) (image number : ℕ) → AreMapped r → AreMapped (trimmed image number r) }
     ensures expiry { (r : Records) (image : ℕ) (i : Instance) → AreMapped r → AreMapped (expired image i r) }
 {}
@@ -176,8 +198,10 @@ pub fn images_keep_their_maps()
 /// What is permitted gives no image a parent or a journal, so no header that is told has one.
 pub fn images_stay_standalone()
     ensures first { AreStandalone no_records }
-    ensures told { (r : Records) (me : Instance) (op : Op) → AreStandalone r → IsGiven op (answer_to r me op) → TellsStandalone (answer_to r me op) }
-    ensures operation { (site : Site) (r : Records) (k : Knowledge) (you : Instance) (op : Op) → AreStandalone r → Permits k site op → AreStandalone (after r you op) }
+    ensures told { (r : Records) (me : Instance) (op : Op) → AreStandalone r → IsGiven op (answer_to r me op)
+        → TellsStandalone (answer_to r me op) }
+    ensures operation { (site : Site) (r : Records) (k : Knowledge) (you : Instance) (op : Op) → AreStandalone r
+        → Permits k site op → AreStandalone (after r you op) }
     ensures trim { (r : Records) (image number : ℕ) → AreStandalone r → AreStandalone (trimmed image number r) }
     ensures expiry { (r : Records) (image : ℕ) (i : Instance) → AreStandalone r → AreStandalone (expired image i r) }
 {}

@@ -25,7 +25,14 @@ pub record JournalRecords : Type 0 where
 
 -- a journal that begins on these spans: they are recorded and committed, and no frame is held
 abbrev pub based_on : List Span → JournalRecords
-based_on spans = record { spans = spans; end = end_after 0 spans; held = []; local = end_after 0 spans; mirror = None; drawn = 0 }
+based_on spans = record {
+  spans = spans;
+  end = end_after 0 spans;
+  held = [];
+  local = end_after 0 spans;
+  mirror = None;
+  drawn = 0;
+}
 
 abbrev pub same_tag : Tag → Tag → Bool
 same_tag a b = same_site a.site b.site && (a.image == b.image) && (a.no == b.no)
@@ -72,7 +79,13 @@ frame_at j seq =
 
 -- what a journal tells of itself. No number is above u64::MAX
 abbrev pub journal_view : JournalRecords → JournalView
-journal_view j = record { spans = j.spans; first = min (first_held j) (2 ^ 64 - 1); local = j.local; mirror = j.mirror; drawn = j.drawn }
+journal_view j = record {
+  spans = j.spans;
+  first = min (first_held j) (2 ^ 64 - 1);
+  local = j.local;
+  mirror = j.mirror;
+  drawn = j.drawn;
+}
 
 abbrev pub mirror_registered : JournalRecords → JournalRecords
 mirror_registered j = record j { mirror = Some (unwrap_or j.mirror 0) }

@@ -14,7 +14,8 @@ use byteorder::{BigEndian, ByteOrder};
 use rbd_kinds::{Bytes, JournalEvent, Name, is_name_byte};
 use std::alloc::Global;
 
-/// The event of a body whose length its kind allows, or the body's first fault.
+/// The event of a body whose length its kind allows, or the body's first fault: BadLength, BadText,
+/// or NoMemory.
 pub fn event_of(alloc: Global, kind: FrameKind, body: &[u8]) -> Result<JournalEvent, FrameFault>
     requires { IsTrue (allows_length kind (length body.now)) }
     ensures found { IfOk result (HasBody kind body.now) }

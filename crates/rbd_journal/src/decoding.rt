@@ -17,7 +17,8 @@ use std::alloc::Global;
 /// The event of the frame at the front of the bytes, and the frame's length. What follows isn't
 /// looked at.
 ///
-/// A fault is the first that applies, from left to right; memory is taken only where there is none.
+/// A fault is the first that applies, from left to right. Memory is taken only where there is none;
+/// NoMemory where it is refused.
 pub fn decode(alloc: Global, bytes: &[u8]) -> Result<(JournalEvent, usize), FrameFault>
     // What is decoded stands there.
     ensures found { IfOk result (λ x. IsInRange x.0 × (bytes.now ≡ frame x.0 ++ drop x.1 bytes.now)) }

@@ -13,7 +13,8 @@ use std::alloc::Global;
 /// The frame of an event, its one spelling (own).
 ///
 /// The event is in the ranges of the format: a write has 1 to 1,048,576 bytes, a discard at least
-/// 1, neither ends past byte 2^63, and no size is above it.
+/// 1, neither ends past byte 2^63, and no size is above it. NoMemory where memory for the frame is
+/// refused.
 pub fn encode(alloc: Global, event: &JournalEvent) -> Result<Vec<u8>, NoMemory>
     requires { IsInRange event.now }
     ensures { IfOk result (λ written. written.items ≡ frame event.now) }

@@ -37,15 +37,31 @@ impl Model for Journal {
 
     ghost Value = { JournalRecords };
 
-    ghost view = { λ j. record { spans = j.spans.items; end = j.end; held = j.held.items; local = j.local; mirror = j.mirror; drawn = j.drawn } };
+    ghost view = { λ j. record {
+      spans = j.spans.items;
+      end = j.end;
+      held = j.held.items;
+      local = j.local;
+      mirror = j.mirror;
+      drawn = j.drawn;
+    } };
 
-    ghost invariant = { λ j. IsSoundJournal (record { spans = j.spans.items; end = j.end; held = j.held.items; local = j.local; mirror = j.mirror; drawn = j.drawn })
+    ghost invariant = { λ j. IsSoundJournal
+        (record {
+          spans = j.spans.items;
+          end = j.end;
+          held = j.held.items;
+          local = j.local;
+          mirror = j.mirror;
+          drawn = j.drawn;
+        })
         × IfSome j.told (λ told. told ≡ j.spans.items) };
 }
 
 impl Journal {
     /// A journal on these spans, which run from 1 without gaps. It ends where they end, holds no
-    /// frame, and the owner's commit position is that end. It has drawn no tag.
+    /// frame, and the owner's commit position is that end. It has drawn no tag. NoMemory where the
+    /// copy of the spans is refused.
     pub fn based(alloc: Global, spans: &Spans) -> Result<Self, NoMemory>
         requires { RunFrom 1 spans.now }
         ensures { IfOk result (λ journal. journal ≡ based_on spans.now) }
@@ -77,8 +93,8 @@ impl Journal {
         }
     }
 
-    /// Records a frame at the next position, which may be the last that 64 bits count. Refused
-    /// memory, nothing changes.
+    /// Records a frame at the next position, which may be the last that 64 bits count. NoMemory
+    /// where memory for it is refused; then nothing changes.
     pub fn append(&mut self, position: Position, frame: &[u8]) -> Result<(), NoMemory>
         requires next { position.seq ≡ self.old.end + 1 }
         ensures ok { OnOk result (self.new ≡ appended position frame.now self.old) }
@@ -114,7 +130,7 @@ impl Journal {
     }
 
     /// From now on, until the spans change, `view` copies no spans. It copies them once, unless
-    /// they were shared already, and may be refused the memory: then all is as before.
+    /// they were shared already. NoMemory where that is refused; then all is as before.
     pub fn share(&mut self) -> Result<(), NoMemory>
         ensures { self.new ≡ self.old }
     {
@@ -135,7 +151,7 @@ impl Journal {
 
     /// What the journal tells of itself, with a copy of its spans, or, after [`Journal::share`],
     /// with spans that share their memory. `first` is one more than the end where no frame is held,
-    /// or `u64::MAX` where that is the end.
+    /// or `u64::MAX` where that is the end. NoMemory where the copy is refused.
     pub fn view(&self) -> Result<JournalView, NoMemory>
         ensures view { IfOk result (λ view. view ≡ journal_view self.now) }
         ensures sound { IsSoundJournal self.now }

@@ -29,7 +29,8 @@ pub fn reads_after_a_trim()
 
 /// Each frame that the owner hasn't committed is held, so a new owner can always replay the rest.
 pub fn uncommitted_frames_are_held()
-    ensures { (j : JournalRecords) (seq : ℕ) → IsSoundJournal j → j.local < seq → seq ≤ j.end → IsSome (frame_at j seq) }
+    ensures { (j : JournalRecords) (seq : ℕ) → IsSoundJournal j → j.local < seq → seq ≤ j.end
+        → IsSome (frame_at j seq) }
 {}
 
 /// What is read with a number has that number, and the tag of the span that has it in the view:

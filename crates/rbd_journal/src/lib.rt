@@ -3,31 +3,36 @@
 //! (own).
 //!
 //! ```text
-//! let mut journal = Journal::based(alloc, &Spans::new(alloc))?;      // nothing is recorded
-//! let tag = journal.tag(site, image);                                // an owner's, numbered 1
-//! let frame = encode(alloc, &JournalEvent::Write { at: 4094, bytes: hello })?;
-//!                                      // 11 0000000d 0000000000000ffe 68656c6c6f
+//! let mut journal = Journal::based(alloc, &Spans::new(alloc))?;  // nothing is recorded
+//! let tag = journal.tag(SiteId::A, image);                       // its first tag
+//! let frame = encode(alloc, &event)?;            // a Write of `hello` at 4094: 18 bytes
 //! journal.append(Position { tag, seq: 1 }, &frame)?;
-//! journal.read(1)                      // its position and frame
-//! decode(alloc, &frame)?               // the same event, and the frame's length 18
-//! journal.commit(JournalClient::Local, 1);                           // the owner has applied it
-//! journal.trim();                                                    // and nobody else needs it
+//! let read = journal.read(1);                                    // its position and frame
+//! let (same, length) = decode(alloc, &frame)?;                   // the event, and 18
+//! journal.commit(JournalClient::Local, 1);                       // the owner has applied it
+//! journal.trim();                                                // and nobody else needs it
 //! ```
+//!
+//! | type or call | what it is |
+//! |---|---|
+//! | [`Journal`] | spans of numbers, each under one tag; held frames; its clients' counters |
+//! | [`encode`] | the frame of an event |
+//! | [`decode`] | the event of the frame at the front of some bytes, and the frame's length |
+//! | [`FrameFault`] | why no frame stands there |
+//!
+//! A journal keeps a frame as bytes, and doesn't read it.
 //!
 //! # Rules
 //!
 //! - Sequence numbers run from 1 without gaps over the whole journal, across its tags (own).
 //! - A span is a run of numbers that bear one tag. A journal can begin on the spans of another:
 //!   then it ends where they end and holds no frame, and its owner has come that far.
-//! - A held frame has the tag of the span that has its number, so a reader of the spans knows whose
-//!   it is.
+//! - A held frame has the tag of the span that has its number.
 //! - A tag has the site and the image of the journal that drew it, and a number that is one above
-//!   the last: so no journal draws a tag twice, and no two journals draw one.
+//!   the last. So no tag is drawn twice.
 //! - A commit position never goes back. The mirror daemon has none until it registers, or commits.
 //! - A trim drops the frames that each client has committed. So what the owner has still to replay
 //!   is held, always.
-//!
-//! A journal keeps a frame as bytes, and doesn't read it.
 //!
 //! # Format
 //!
@@ -43,14 +48,10 @@
 //! | `17` | Demote | nothing | 0 |
 //!
 //! A discard has at least 1 byte. No write or discard ends past byte 2^63, and no size is above it.
-//! A name has letters, digits, `.`, `_` and `-`, whatever the first. That a session asks for none
-//! that begins with `.` or `-` is no rule of the journal: a synchronisation makes, records and
-//! replays a snapshot `.sync`.
+//! A name has letters, digits, `.`, `_` and `-`, whatever the first: that a session asks for none
+//! that begins with `.` or `-` is no rule of the journal.
 //!
 //! Each event has one frame, and no frame begins another, so frames can stand one behind the other.
-//!
-//! # Faults
-//!
 //! [`decode`] answers with the first fault that applies, in this order:
 //!
 //! 1. no byte: Short; a first byte that is no kind: BadKind of it;
@@ -62,13 +63,22 @@
 //!
 //! # Contracts
 //!
-//! Contracts see a [`Journal`] as `JournalRecords`: the spans, the end, the held frames with their
-//! tags, and the three counters. Each call says what the whole value becomes, and a refused append
-//! that it stays. [`laws`] says what that means for a reader.
+//! - Contracts see a [`Journal`] as `JournalRecords`: the spans, the end, the held frames with
+//!   their tags, and the counters of its clients. Each call says what the whole value becomes. An
+//!   append that is refused memory changes nothing.
+//! - [`laws`]: what is appended is read at its number, and what was read at others before. A trim
+//!   takes what each client has committed, and nothing else. No tag is drawn twice.
+//! - Contracts of frames speak of `frame`, the spelling of an event (`rbd_kinds`), and of
+//!   `first_fault`. [`frame_laws`]: at the front of any bytes stands a frame or a fault, never
+//!   both; no frame begins another; one spelling is one event.
 //!
-//! Those of [`encode`] and [`decode`] speak of `frame`, the spelling of an event, and of
-//! `first_fault`, which says of any bytes which fault applies, if one does. What they mean is said
-//! in [`frame_laws`]: [`frame_laws::frame_or_fault`] joins the two.
+//! | file | what it says |
+//! |---|---|
+//! | `specs/Records.antt` | `JournalRecords`, and what each call makes of it |
+//! | `specs/Calls.antt` | calls one after another, and the tags that they draw |
+//! | `specs/Faults.antt` | the first fault of some bytes (`first_fault`) |
+//! | `specs/Parts.antt` | what the steps of decoding find |
+//! | `specs/Texts.antt` | how a fault is told |
 //!
 //! # Cost
 //!
@@ -83,14 +93,10 @@
 //!
 //! # How it works
 //!
-//! Only a trim drops frames, and always the oldest, so the held ones are those of the last numbers:
-//! a queue, whose last frame stands at the end. The number of a frame is its place in the queue,
-//! counted from the end.
-//!
-//! `Kind` stands between bytes and events: it knows its byte and which lengths its body may have.
-//! Decoding first finds the kind and the body, whatever the kind is, and then the event in the
-//! body, by one small function for each form of body. A further event is a further kind, with a
-//! function of its own.
+//! Only a trim drops frames, and always the oldest. So the held ones are a queue of the last
+//! numbers, and the number of a frame is its place, counted from the end. Decoding first finds the
+//! kind and the body, whatever the kind is, and then the event in the body, by one small function
+//! for each form of body.
 #![tactic(auto)]
 
 mod body;

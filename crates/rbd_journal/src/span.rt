@@ -15,7 +15,8 @@ pub fn end_of(spans: &[Span]) -> u64
     }
 }
 
-/// Adds a position behind the last: to the newest span, or as a span of its own.
+/// Adds a position behind the last: to the newest span, or as a span of its own. NoMemory where the
+/// memory for that is refused.
 pub fn extend(spans: &mut Vec<Span>, position: Position) -> Result<(), NoMemory>
     ensures ok { OnOk result (spans.new.items ≡ extended position spans.old.items) }
     ensures err { OnErr result (spans.new.items ≡ spans.old.items) }

@@ -32,7 +32,10 @@ pub enum Answer {
     /// The states of an object map, two bits an object.
     Bits(Bytes),
     Tag(Tag),
-    Frame { position: Position, frame: Bytes },
+    Frame {
+        position: Position,
+        frame: Shared<Bytes>,
+    },
     Spans(Shared<JournalView>),
     /// The instance is in the site's blocklist.
     Fenced,

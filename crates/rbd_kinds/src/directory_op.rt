@@ -4,7 +4,7 @@ ghost use Rattle.rbd_kinds.specs.OperationKind.{directory_kind};
 
 use crate::id::ImageId;
 use crate::operation_kind::OpKind;
-use rbd_values::{Name, NoMemory, TryClone};
+use rbd_values::{Name, NoMemory, Shared, TryClone};
 
 /// An operation on a site's directory of names (Ceph: `rbd_directory`).
 #[derive(Drop)]
@@ -15,7 +15,9 @@ pub enum DirectoryOp {
     Add { name: Name },
     /// Takes the name of an image away.
     Remove { image: ImageId },
-    Rename { from: Name, to: Name },
+    /// Gives the image of a name another one. (It is shared, so that no operation is as large as two
+    /// names.)
+    Rename { from: Name, to: Shared<Name> },
     /// All names.
     List,
 }

@@ -4,22 +4,32 @@ ghost use Rattle.rbd_kinds.specs.OperationKind.{journal_kind};
 
 use crate::journal::{JournalClient, Position, Spans};
 use crate::operation_kind::OpKind;
-use rbd_values::{Bytes, NoMemory, TryClone};
+use rbd_values::{Bytes, NoMemory, Shared, TryClone};
 
 /// An operation on an image's journal (Ceph: `journal.<id>`). Positions are sequence numbers.
 #[derive(Drop)]
 pub enum JournalOp {
     /// Makes a journal that goes on behind these spans.
-    Create { spans: Spans },
+    Create {
+        spans: Spans,
+    },
     /// Draws a tag.
     Tag,
-    Append { position: Position, frame: Bytes },
-    Read { seq: u64 },
+    Append {
+        position: Position,
+        frame: Shared<Bytes>,
+    },
+    Read {
+        seq: u64,
+    },
     /// What the journal tells of itself.
     Spans,
     /// Gives the mirror daemon a commit position.
     Register,
-    Commit { client: JournalClient, seq: u64 },
+    Commit {
+        client: JournalClient,
+        seq: u64,
+    },
     Remove,
 }
 

@@ -1,8 +1,9 @@
 //! What sessions tell each other about an image.
 use crate::id::{ImageId, Instance, SiteId};
-use rbd_values::{Bytes, NoMemory, TryClone};
+use rbd_values::{Bytes, NoMemory, Shared, TryClone};
 
-/// What a notification says.
+/// What a notification says. (What a client tells is shared: so a notice is small, of which each
+/// watcher gets one.)
 #[derive(Drop)]
 pub enum NoticeKind {
     /// The sender wants the exclusive lock.
@@ -10,7 +11,7 @@ pub enum NoticeKind {
     /// The sender has released the exclusive lock.
     ReleasedLock,
     /// What a client had to tell.
-    Custom(Bytes),
+    Custom(Shared<Bytes>),
 }
 
 /// One notification to one watcher of an image's header. It may come late, never, or several times.

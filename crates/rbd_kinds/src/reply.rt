@@ -48,7 +48,7 @@ pub enum MirrorState {
     Following,
     SplitBrain,
     /// The next event is about this snapshot, and can't be replayed here.
-    Stuck(Name),
+    Stuck(Shared<Name>),
     /// The remote image or its journal isn't there.
     Missing,
 }

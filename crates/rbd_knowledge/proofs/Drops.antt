@@ -49,7 +49,7 @@ use Rattle.rbd_slots.specs.Advance.{track_of}
 use Rattle.rbd_slots.specs.Lines.{lines_of}
 use Rattle.rbd_slots.specs.Session.{held_in, look_under_lock_at, running_in}
 use Rattle.rbd_slots.specs.Track.{Track, course_of, line_in}
-use Rattle.rbd_slots.specs.Waits.{awaits_line, awaits_turn, is_at_own, waits}
+use Rattle.rbd_slots.specs.Waits.{awaits_line, awaits_turn, awaits_look, waits}
 use Rattle.rbd_slots.proofs.Members.{at_own_slot}
 use Rattle.rbd_slots.proofs.LooksUnderLock.{at_look_under_lock}
 
@@ -177,7 +177,7 @@ module _ {R : Type 0} (stands : R → Standing) (c : ClientView R) (knows : ℕ 
   pub may : may_pass slot line ≡ true
   may =
       sym (ap (may_pass slot) membership.line)
-      ∙ may_of (is_at_own (course_of slot track).place) (may_pass slot (line_in track.place track.lines)) (ap is_at_own membership.place ∙ ap is_waiting waiting)
+      ∙ may_of (awaits_look (course_of slot track).place) (may_pass slot (line_in track.place track.lines)) (ap awaits_look membership.place ∙ ap is_waiting waiting)
       (or_parts (awaits_line slot track) (awaits_turn slot track) wanting.goes).0
 
   nobody_past : (b : Bool) → any_past line ≡ b → b ≡ false

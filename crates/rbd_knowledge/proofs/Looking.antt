@@ -34,7 +34,7 @@ use Rattle.rbd_slots.specs.Advance.{track_of}
 use Rattle.rbd_slots.specs.Lines.{lines_of}
 use Rattle.rbd_slots.specs.Session.{SessionView, IsSoundSession, running_at}
 use Rattle.rbd_slots.specs.Track.{Track, Lines, line_in, course_of}
-use Rattle.rbd_slots.specs.Waits.{waits, awaits_line, awaits_turn, is_at_own}
+use Rattle.rbd_slots.specs.Waits.{waits, awaits_line, awaits_turn, awaits_look}
 use Rattle.rbd_slots.proofs.Members.{at_own_slot}
 use Rattle.rbd_site.specs.Records.{Records}
 use Rattle.rbd_knowledge.specs.Knowing.{AllKnow, KnowsBy, KnowsIn}
@@ -89,7 +89,7 @@ module _ (slot other : ℕ) (site : SiteId) (image : ℕ) (o p : Own) (t u : Tra
   may : is_waiting one.member.stage ≡ true → may_pass slot (t.lines site image) ≡ true
   may waiting =
       sym (ap (may_pass slot) one.line)
-      ∙ may_of (is_at_own (course_of slot t).place) (may_pass slot (line_in t.place t.lines)) (ap is_at_own one.place ∙ waiting) (or_parts (awaits_line slot t) (awaits_turn slot t) goes).0
+      ∙ may_of (awaits_look (course_of slot t).place) (may_pass slot (line_in t.place t.lines)) (ap awaits_look one.place ∙ waiting) (or_parts (awaits_line slot t) (awaits_turn slot t) goes).0
 
   are_shared : is_past two.member.stage ≡ true → (o.alone ≡ false) × (p.alone ≡ false)
   are_shared past = let shared = by one.member.stage refl in (one.alone ∙ shared.0, two.alone ∙ shared.1)

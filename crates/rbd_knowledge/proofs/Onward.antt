@@ -22,7 +22,7 @@ use Rattle.rbd_machine.specs.Wait as wait
 use Rattle.rbd_machine.proofs.Lawful.{told_alone}
 use Rattle.rbd_slots.specs.Advance.{fed_by}
 use Rattle.rbd_slots.specs.OnTrack.{IsOnTrack, IsSomewhere, IsNowhereElse, AreFair}
-use Rattle.rbd_slots.specs.Waits.{awaits_line, awaits_turn, is_at_own, waits}
+use Rattle.rbd_slots.specs.Waits.{awaits_line, awaits_turn, awaits_look, waits}
 use Rattle.rbd_slots.specs.Track.{Track, course_in, course_of, line_in, run, waited_by, track_noted, answered_by}
 use Rattle.rbd_interference.specs.Turns.{KnowsInTurn}
 use Rattle.rbd_interference.proofs.Turns.{answered_in_turn, waited_in_turn}
@@ -176,12 +176,12 @@ fed_keeps_turns slot from to e labels (Ask site why o next) (fed.Answer a) t ask
     (answered_by_fair slot e t site o a fair (λ s i own. passes s i own)) in
     λ other differ s i object is. rest other differ s i object (answered_keeps_turns slot e t site o a other differ s i object is)
   where
-    at_own : (s : SiteId) (i : ℕ) (place : Option PlaceInLine) → looks_under_lock_at s i place ≡ true → is_at_own place ≡ true
+    at_own : (s : SiteId) (i : ℕ) (place : Option PlaceInLine) → looks_under_lock_at s i place ≡ true → awaits_look place ≡ true
     at_own s i None own = absurd (true≢false (sym own))
     at_own s i (Some p) own = (and_parts (is_at s i p.site p.image) (is_waiting p.stage) own).1
 
     passes : (s : SiteId) (i : ℕ) → looks_under_lock_at s i (course_of slot t).place ≡ true → may_pass slot (line_in t.place t.lines) ≡ true
-    passes s i own = may_of (is_at_own (course_of slot t).place) (may_pass slot (line_in t.place t.lines)) (at_own s i (course_of slot t).place own) (or_parts (awaits_line slot t) (awaits_turn slot t) goes).0
+    passes s i own = may_of (awaits_look (course_of slot t).place) (may_pass slot (line_in t.place t.lines)) (at_own s i (course_of slot t).place own) (or_parts (awaits_line slot t) (awaits_turn slot t) goes).0
 fed_keeps_turns slot from to e labels (Ask site why o next) fed.Passed t asks can fair goes on = absurd can
 fed_keeps_turns slot from to e labels (Await w next) f t asks can fair goes on = absurd asks
 fed_keeps_turns slot from to e labels (Note site image event next) f t asks can fair goes on = absurd asks

@@ -1,5 +1,5 @@
--- What acts for a client, and what it knows. A request knows what its session's requests know --
--- (specs/Knowing.antt). What a way to a lock and a release know is told by where they stand.
+-- What acts for a client, and what it knows. What a request knows is told by the
+-- plans of Knowing.antt; what a way to a lock and a release know, by where they stand.
 use Rattle.std.specs.Prelude.{ℕ, ◌==◌, true, if◌then◌else◌, [], ◌∷◌, Option, Some, None}
 use Rattle.rbd_client.specs.declared.actor.Actor.{Actor}
 use Rattle.rbd_client.specs.declared.actor.Actor.TheVariants as actor
@@ -59,7 +59,8 @@ abbrev pub knows_on_way : (knows : (slot : ℕ) → Knowledge) → (slot : ℕ) 
 knows_on_way knows slot result other = if other == slot then unless_ended result (knows other) else knows other
 
 -- what the requests know once who acts at a slot was answered
-abbrev pub knows_fed : (knows : (slot : ℕ) → Knowledge) → (slot : ℕ) → Option Reply → Plan → Fed → Actor → (other : ℕ) → Knowledge
+abbrev pub knows_fed : (knows : (slot : ℕ) → Knowledge) → (slot : ℕ) → Option Reply → Plan → Fed → Actor → (other : ℕ)
+    → Knowledge
 knows_fed knows slot result plan f actor.Request = knows_after knows slot result plan f
 knows_fed knows slot result plan f (actor.Way a) = knows_on_way knows slot result
 knows_fed knows slot result plan f who = knows

@@ -33,18 +33,22 @@ unless_ended None k = k
 unless_ended (Some reply) k = nothing_known
 
 -- what the slots know once one of them was fed
-abbrev pub knows_after : (knows : (slot : ℕ) → Knowledge) → (slot : ℕ) → Option Reply → Plan → Fed → (other : ℕ) → Knowledge
-knows_after knows slot result plan f other = if other == slot then unless_ended result (known_behind (knows slot) plan f) else knows other
+abbrev pub knows_after : (knows : (slot : ℕ) → Knowledge) → (slot : ℕ) → Option Reply → Plan → Fed → (other : ℕ)
+    → Knowledge
+knows_after knows slot result plan f other = if other == slot
+    then unless_ended result (known_behind (knows slot) plan f) else knows other
 
 -- Of an object of an image that others change too, the request knows only in its turn there, and
 -- that turn is its own.
 abbrev pub HasItsTurns : (slot : ℕ) → Knowledge → Lines → Type 0
 HasItsTurns slot k lines = (site : SiteId) (image object : ℕ)
-    → IsSome (known_header k site image) → is_alone_on k site image ≡ false → KnowsOf k site image object → has_turn slot object (lines site image) ≡ true
+    → IsSome (known_header k site image) → is_alone_on k site image ≡ false → KnowsOf k site image object
+    → has_turn slot object (lines site image) ≡ true
 
 -- each other slot that has its turn at an object keeps it
 abbrev pub KeepsTurns : (slot : ℕ) → (old new : Lines) → Type 0
-KeepsTurns slot old new = (other : ℕ) → other ≢ slot → (site : SiteId) (image object : ℕ) → has_turn other object (old site image) ≡ true → has_turn other object (new site image) ≡ true
+KeepsTurns slot old new = (other : ℕ) → other ≢ slot → (site : SiteId) (image object : ℕ)
+    → has_turn other object (old site image) ≡ true → has_turn other object (new site image) ≡ true
 
 module _ {R : Type 0} (stands : R → Standing) where
   -- A request may know this: by it the request asks only for what it may, and it agrees with where

@@ -21,7 +21,8 @@ IsWayTrue site r me w = Unit {0}
 -- What the requests of a client know is true of its instance, and they are beside each other; where
 -- one of them knows a header the client counts the lock as its own; what its ways know is true; and
 -- a lock that it counts as its own is its own, unless it is fenced.
-pub record IsTrueOf {R : Type 0} (site : SiteId) (r : Records) (me : Instance) (knows : (slot : ℕ) → Knowledge) (c : ClientView R) : Type 0 where
+pub record IsTrueOf {R : Type 0} (site : SiteId) (r : Records) (me : Instance) (knows : (slot : ℕ) → Knowledge)
+    (c : ClientView R) : Type 0 where
   pub requests : (slot : ℕ) → IsTrueAt site r me (knows slot)
   pub beside : (slot other : ℕ) → slot ≢ other → AreBeside site r me me (knows slot) (knows other)
   pub counted : (slot image : ℕ) → IsSome (known_header (knows slot) site image) → IsOwned site image c.locks

@@ -55,18 +55,22 @@ pub fn headers_are_known_by_locks<R: Request>()
 {}
 
 /// Whoever acts may look at what it looks at, drop the lock that it drops, and change the object
-/// that it changes. Beside another request of its own client the lines of the session see to that,
-/// and beside one of another client, which knows headers by its locks, the lock. A way looks at no
-/// header, and changes nothing.
+/// that it changes. Beside another request of its own client the lines see to that, and beside one
+/// of another client, which knows headers by its locks, the lock. A way looks at no header, and
+/// changes no object.
 pub fn whoever_acts_may_act<R: Request>()
-    ensures own { (c : ClientView R) (knows : ℕ → Knowledge) (slot other : ℕ) (site : Site) (op : Op) (r : Records) (me you : Instance)
-        → IsSoundClient R.stands c → AllKnow R.stands knows c.session → slot ≢ other → op_wanted R.stands slot c ≡ Some (site, op)
+    ensures own { (c : ClientView R) (knows : ℕ → Knowledge) (slot other : ℕ) (site : Site) (op : Op) (r : Records)
+        (me you : Instance)
+        → IsSoundClient R.stands c → AllKnow R.stands knows c.session → slot ≢ other
+        → op_wanted R.stands slot c ≡ Some (site, op)
         → MayAct site r me you (known_to (knows slot) (actor_at R.stands slot c)) (knows other) op }
-    ensures others { (c : ClientView R) (knows : ℕ → Knowledge) (slot : ℕ) (site : Site) (op : Op) (r : Records) (me you : Instance) (j : Knowledge)
+    ensures others { (c : ClientView R) (knows : ℕ → Knowledge) (slot : ℕ) (site : Site) (op : Op) (r : Records)
+        (me you : Instance) (j : Knowledge)
         → IsSoundClient R.stands c → AllKnow R.stands knows c.session → op_wanted R.stands slot c ≡ Some (site, op)
         → IsTrueOf site r me knows c → me ≢ you → KnowsByLock site r you j
         → MayAct site r me you (known_to (knows slot) (actor_at R.stands slot c)) j op }
-    ensures way { (site : Site) (r : Records) (me you : Instance) (k j : Knowledge) (a : Acquire) → MayAct site r me you k j (op_of a) }
+    ensures way { (site : Site) (r : Records) (me you : Instance) (k j : Knowledge) (a : Acquire)
+        → MayAct site r me you k j (op_of a) }
 {}
 
 /// A request drops the lock of an image only where no other request of its client relies on it:
@@ -79,48 +83,59 @@ pub fn locks_are_dropped_at_rest<R: Request>()
         → DropsAtRest (actor_at R.stands slot c) site op c }
 {}
 
-/// After an answer at a slot, the request that acted knows what the answer taught it, one that was
-/// refused on its way knows nothing, and all others know what they knew. So it is where the answer
-/// tells no header with a parent or a journal.
+/// Behind an answer at a slot, the request that acted knows what the answer taught it, one that was
+/// refused on its way to the lock knows nothing, and all others know what they knew. So it is where
+/// the answer tells no header with a parent or a journal.
 pub fn answers_are_known<R: Request>()
-    ensures { (c d : ClientView R) (knows : ℕ → Knowledge) (slot : ℕ) (site : Site) (op : Op) (f : Fed) (result : Option Reply)
+    ensures { (c d : ClientView R) (knows : ℕ → Knowledge) (slot : ℕ) (site : Site) (op : Op) (f : Fed)
+        (result : Option Reply)
         → IsSoundClient R.stands c → IsSoundSession R.stands d.session → AllKnow R.stands knows c.session
         → ((other : ℕ) → other ≢ slot → held_in other d.session.slots ≡ held_in other c.session.slots)
         → LeavesOthers slot (lines_of c.session.lines) (lines_of d.session.lines)
-        → op_wanted R.stands slot c ≡ Some (site, op) → CanGet R.stands slot c.session f (actor_at R.stands slot c) → IsFedStandalone f
+        → op_wanted R.stands slot c ≡ Some (site, op) → CanGet R.stands slot c.session f (actor_at R.stands slot c)
+        → IsFedStandalone f
         → IsFedBy R.stands slot site op f result c d (actor_at R.stands slot c)
-        → AllKnow R.stands (knows_fed knows slot result (plan_in_slot R.stands (running_at slot c.session)) f (actor_at R.stands slot c)) d.session }
+        → AllKnow R.stands (knows_fed knows slot result (plan_in_slot R.stands (running_at slot c.session)) f
+        (actor_at R.stands slot c)) d.session }
 {}
 
 /// Behind the operation all of it is true, at its site and at the other one: what the requests
 /// know, what the ways know, and that each lock which the client counts as its own is its own,
 /// unless it is fenced.
 pub fn answers_leave_clients_true<R: Request>()
-    ensures here { (c d : ClientView R) (knows : ℕ → Knowledge) (slot : ℕ) (site : Site) (r : Records) (flat : Flat) (me : Instance) (op : Op) (result : Option Reply) (most : ℕ)
+    ensures here { (c d : ClientView R) (knows : ℕ → Knowledge) (slot : ℕ) (site : Site) (r : Records) (flat : Flat)
+        (me : Instance) (op : Op) (result : Option Reply) (most : ℕ)
         → IsSoundClient R.stands c → AllKnow R.stands knows c.session → op_wanted R.stands slot c ≡ Some (site, op)
         → ((other : ℕ) → other ≢ slot → slot_state other d.slots ≡ slot_state other c.slots)
         → StandsFor [] r flat → AreInForm r most → AreMapped r → IsTrueOf site r me knows c
         → IsFedBy R.stands slot site op (Answered (answer_to r me op)) result c d (actor_at R.stands slot c)
-        → IsTrueOf site (after r me op) me (knows_fed knows slot result (plan_in_slot R.stands (running_at slot c.session)) (Answered (answer_to r me op)) (actor_at R.stands slot c)) d }
-    ensures elsewhere { (c d : ClientView R) (knows : ℕ → Knowledge) (slot : ℕ) (site there : Site) (r q : Records) (me : Instance) (op : Op) (result : Option Reply)
+        → IsTrueOf site (after r me op) me
+        (knows_fed knows slot result (plan_in_slot R.stands (running_at slot c.session))
+        (Answered (answer_to r me op)) (actor_at R.stands slot c)) d }
+    ensures elsewhere { (c d : ClientView R) (knows : ℕ → Knowledge) (slot : ℕ) (site there : Site) (r q : Records)
+        (me : Instance) (op : Op) (result : Option Reply)
         → AllKnow R.stands knows c.session → op_wanted R.stands slot c ≡ Some (site, op)
         → ((other : ℕ) → other ≢ slot → slot_state other d.slots ≡ slot_state other c.slots)
         → IsFalse (same_site site there) → IsTrueOf there q me knows c
         → IsFedBy R.stands slot site op (Answered (answer_to r me op)) result c d (actor_at R.stands slot c)
-        → IsTrueOf there q me (knows_fed knows slot result (plan_in_slot R.stands (running_at slot c.session)) (Answered (answer_to r me op)) (actor_at R.stands slot c)) d }
+        → IsTrueOf there q me (knows_fed knows slot result (plan_in_slot R.stands (running_at slot c.session))
+        (Answered (answer_to r me op)) (actor_at R.stands slot c)) d }
 {}
 
 /// A client stays true whatever another instance does that is permitted to it, where that instance
 /// knows truly, knows headers by its locks, and goes beside the client's requests with what it
 /// does. The store's own steps leave a client true as well.
 pub fn others_leave_clients_true<R: Request>()
-    ensures operation { (c : ClientView R) (knows : ℕ → Knowledge) (site : Site) (r : Records) (me you : Instance) (j : Knowledge) (op : Op)
+    ensures operation { (c : ClientView R) (knows : ℕ → Knowledge) (site : Site) (r : Records) (me you : Instance)
+        (j : Knowledge) (op : Op)
         → IsTrueOf site r me knows c → you ≢ me → IsTrueAt site r you j → KnowsByLock site r you j → Permits j site op
         → ((slot : ℕ) → AreBeside site r me you (knows slot) j) → ((slot : ℕ) → MayAct site r you me j (knows slot) op)
         → IsTrueOf site (after r you op) me knows c }
-    ensures trim { (c : ClientView R) (knows : ℕ → Knowledge) (site : Site) (r : Records) (me : Instance) (image number : ℕ)
+    ensures trim { (c : ClientView R) (knows : ℕ → Knowledge) (site : Site) (r : Records) (me : Instance)
+        (image number : ℕ)
         → IsTrueOf site r me knows c → IsTrueOf site (trimmed image number r) me knows c }
-    ensures expiry { (c : ClientView R) (knows : ℕ → Knowledge) (site : Site) (r : Records) (me i : Instance) (image : ℕ)
+    ensures expiry { (c : ClientView R) (knows : ℕ → Knowledge) (site : Site) (r : Records) (me i : Instance)
+        (image : ℕ)
         → IsTrueOf site r me knows c → IsTrueOf site (expired image i r) me knows c }
 {}
 
@@ -128,15 +143,18 @@ pub fn others_leave_clients_true<R: Request>()
 /// or hears a notice counts no lock more than before.
 pub fn calls_leave_clients_true<R: Request>()
     ensures new { (c : ClientView R) (site : Site) (r : Records) (me : Instance)
-        → IsSoundClient R.stands c → ((slot : ℕ) → held_in slot c.session.slots ≡ None) → ((image : ℕ) → lock_state_at site image c.locks ≡ unknown)
+        → IsSoundClient R.stands c → ((slot : ℕ) → held_in slot c.session.slots ≡ None)
+        → ((image : ℕ) → lock_state_at site image c.locks ≡ unknown)
         → IsTrueOf site r me (λ slot. nothing_known) c }
-    ensures submitted { (c d : ClientView R) (knows : ℕ → Knowledge) (site : Site) (r : Records) (me : Instance) (slot : ℕ) (quiescing : Quiesces)
+    ensures submitted { (c d : ClientView R) (knows : ℕ → Knowledge) (site : Site) (r : Records) (me : Instance)
+        (slot : ℕ) (quiescing : Quiesces)
         → IsTrueOf site r me knows c → slot_state slot d.slots ≡ newcomer quiescing
         → ((other : ℕ) → other ≢ slot → slot_state other d.slots ≡ slot_state other c.slots) → d.locks ≡ c.locks
         → IsTrueOf site r me knows d }
     ensures readied { (c d : ClientView R) (knows : ℕ → Knowledge) (site : Site) (r : Records) (me : Instance)
         → IsTrueOf site r me knows c → d.slots ≡ c.slots → AreStatesAlike c.locks d.locks → IsTrueOf site r me knows d }
-    ensures heard { (c d : ClientView R) (knows : ℕ → Knowledge) (site : Site) (r : Records) (me : Instance) (notice : Notice)
+    ensures heard { (c d : ClientView R) (knows : ℕ → Knowledge) (site : Site) (r : Records) (me : Instance)
+        (notice : Notice)
         → IsTrueOf site r me knows c → d.slots ≡ c.slots
         → ((image : ℕ) → lock_state_at site image d.locks ≡ heard notice site image (lock_state_at site image c.locks))
         → IsTrueOf site r me knows d }

@@ -45,7 +45,8 @@ pub fn newcomers_know_nothing<R: Request>()
 /// with a parent or a journal.
 pub fn knowledge_goes_with_the_line<R: Request>()
     ensures { (s t : SessionView R) (slot : ℕ) (r : Running R) (f : Fed) (result : Option Reply) (knows : ℕ → Knowledge)
-        → IsSoundSession R.stands s → IsSoundSession R.stands t → running_at slot s ≡ Some r → waits slot (track_of r s.lines) ≡ false
+        → IsSoundSession R.stands s → IsSoundSession R.stands t → running_at slot s ≡ Some r
+        → waits slot (track_of r s.lines) ≡ false
         → CanBeFed (R.stands r.request).plan f → IsFedStandalone f
         → IsFed R.stands slot f result s t
         → ((other : ℕ) → other ≢ slot → held_in other t.slots ≡ held_in other s.slots)
@@ -55,7 +56,8 @@ pub fn knowledge_goes_with_the_line<R: Request>()
 
 /// To make a session ready for an answer changes nothing of what its requests know.
 pub fn ready_requests_know_the_same<R: Request>()
-    ensures { (s t : SessionView R) (knows : ℕ → Knowledge) → IsAlike R.stands s t → AllKnow R.stands knows s → AllKnow R.stands knows t }
+    ensures { (s t : SessionView R) (knows : ℕ → Knowledge) → IsAlike R.stands s t → AllKnow R.stands knows s
+        → AllKnow R.stands knows t }
 {}
 
 /// A request that may go on may do what it asks for, whatever another request of its session knows.
@@ -63,19 +65,25 @@ pub fn ready_requests_know_the_same<R: Request>()
 /// neither of the two is alone; and it lets it change an object only in its turn, when the other
 /// one knows nothing of that object.
 pub fn who_may_go_on_may_act<R: Request>()
-    ensures { (s : SessionView R) (slot other : ℕ) (r : Running R) (knows : ℕ → Knowledge) (site : Site) (why : Reason) (op : Op) (next : Answer → Plan)
+    ensures { (s : SessionView R) (slot other : ℕ) (r : Running R) (knows : ℕ → Knowledge) (site : Site) (why : Reason)
+        (op : Op) (next : Answer → Plan)
         → IsSoundSession R.stands s → AllKnow R.stands knows s → slot ≢ other
-        → running_at slot s ≡ Some r → waits slot (track_of r s.lines) ≡ false → (R.stands r.request).plan ≡ Ask site why op next
+        → running_at slot s ≡ Some r → waits slot (track_of r s.lines) ≡ false
+        → (R.stands r.request).plan ≡ Ask site why op next
         → (r : Records) (me you : Instance) → MayAct site r me you (knows slot) (knows other) op }
 {}
 
 /// What a request knows at its next operation is lawful for it to go by, and is as true, and as
 /// much beside what another knows, as it was before the waits.
 pub fn waits_change_little()
-    ensures lawful { (labels : Label → Plan) (known_at : Label → Knowledge) → ((label : Label) → IsLawful known_at (known_at label) (labels label))
-        → (k : Knowledge) (plan : Plan) → IsLawful known_at k plan → IsLawful known_at (known_at_operation k plan) (at_operation labels plan) }
-    ensures truth { (site : Site) (r : Records) (me : Instance) (k : Knowledge) (plan : Plan) → IsTrueAt site r me k → IsTrueAt site r me (known_at_operation k plan) }
-    ensures beside { (site : Site) (r : Records) (me you : Instance) (k j : Knowledge) (plan : Plan) → AreBeside site r me you k j → AreBeside site r me you (known_at_operation k plan) j }
+    ensures lawful { (labels : Label → Plan) (known_at : Label → Knowledge)
+        → ((label : Label) → IsLawful known_at (known_at label) (labels label))
+        → (k : Knowledge) (plan : Plan) → IsLawful known_at k plan
+        → IsLawful known_at (known_at_operation k plan) (at_operation labels plan) }
+    ensures truth { (site : Site) (r : Records) (me : Instance) (k : Knowledge) (plan : Plan) → IsTrueAt site r me k
+        → IsTrueAt site r me (known_at_operation k plan) }
+    ensures beside { (site : Site) (r : Records) (me you : Instance) (k j : Knowledge) (plan : Plan)
+        → AreBeside site r me you k j → AreBeside site r me you (known_at_operation k plan) j }
 {}
 
 /// A request that waits for nothing owns and removes nothing. So it goes beside each other request
@@ -84,16 +92,20 @@ pub fn waits_change_little()
 pub fn calm_requests_own_nothing()
     ensures first { OwnsNothing nothing_known }
     ensures fed { (labels : Label → Plan) (known_at : Label → Knowledge) (k : Knowledge) (plan : Plan) (f : Fed)
-        → IsCalmRequest (record { labels = labels; plan = plan }) → IsLawful known_at k plan → CanBeFed plan f → OwnsNothing k
+        → IsCalmRequest (record { labels = labels; plan = plan }) → IsLawful known_at k plan → CanBeFed plan f
+        → OwnsNothing k
         → OwnsNothing (known_behind k plan f) }
     ensures stays { (labels : Label → Plan) (plan : Plan) (f : Fed)
         → IsCalmRequest (record { labels = labels; plan = plan }) → CanBeFed plan f
         → IsCalmRequest (record { labels = labels; plan = at_operation labels (plan_after plan f) }) }
     ensures beside { (site : Site) (r : Records) (me you : Instance) (k j : Knowledge) → OwnsNothing k
         → ((image : ℕ) → is_drawn k.drawn site image ≡ true → is_drawn j.drawn site image ≡ false)
-        → ((image : ℕ) → is_gone j.gone site image ≡ true → is_drawn k.drawn site image ≡ false) → AreBeside site r me you k j }
-    ensures acts { (site : Site) (r : Records) (me you : Instance) (k j : Knowledge) (op : Op) → OwnsNothing k → MayAct site r me you k j op }
-    ensures acted_beside { (site : Site) (r : Records) (me you : Instance) (k j : Knowledge) (op : Op) → OwnsNothing j → MayAct site r me you k j op }
+        → ((image : ℕ) → is_gone j.gone site image ≡ true → is_drawn k.drawn site image ≡ false)
+        → AreBeside site r me you k j }
+    ensures acts { (site : Site) (r : Records) (me you : Instance) (k j : Knowledge) (op : Op) → OwnsNothing k
+        → MayAct site r me you k j op }
+    ensures acted_beside { (site : Site) (r : Records) (me you : Instance) (k j : Knowledge) (op : Op) → OwnsNothing j
+        → MayAct site r me you k j op }
 {}
 
 /// Who joins no line, by the row of its command, waits for nothing: neither for a lock, nor for a

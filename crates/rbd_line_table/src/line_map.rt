@@ -41,7 +41,7 @@ impl<T: Copy> LineMap<T> {
         self.get(line).is_some()
     }
 
-    /// Makes room for a line. Nothing that is known changes, also where memory is refused.
+    /// Makes room for a line. Nothing that is known changes. NoMemory where that room is refused.
     pub fn reserve(&mut self, line: u32) -> Result<(), NoMemory>
         ensures known { (other : ℕ) → known_at self.new other ≡ known_at self.old other }
         ensures room { OnOk result (HasRoom self.new line) }
@@ -59,7 +59,8 @@ impl<T: Copy> LineMap<T> {
         page[place_of(line)] = Some(value);
     }
 
-    /// This is known of a line from now on. Refused memory, nothing that is known changes.
+    /// This is known of a line from now on. NoMemory where room for it is refused; then nothing
+    /// that is known changes.
     pub fn insert(&mut self, line: u32, value: T) -> Result<(), NoMemory>
         ensures ok { OnOk result ((other : ℕ) → known_at self.new other ≡ (if line == other then Some value else known_at self.old other)) }
         ensures err { OnErr result ((other : ℕ) → known_at self.new other ≡ known_at self.old other) }

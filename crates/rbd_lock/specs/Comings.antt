@@ -1,4 +1,4 @@
--- What comes to a session, one thing after another, and what the session counts then.
+-- What comes to a client, one thing after another, and what it counts then.
 use Rattle.std.specs.Prelude.{ℕ, Bool, true, false, List, [], ◌∷◌, if◌then◌else◌}
 use Rattle.rbd_kinds.specs.declared.answer.Answer.{Answer}
 use Rattle.rbd_kinds.specs.declared.answer.Answer.TheVariants as answer
@@ -12,7 +12,7 @@ use Rattle.rbd_lock.specs.Locks.{changed_at, counted, heard}
 use Rattle.rbd_kinds.specs.Images.{is_at}
 use Rattle.rbd_lock.specs.States.{quieted, resumed}
 
--- an operation of the session was answered, a notice was heard, an image was quiesced, or a quiesce
+-- an operation of the client was answered, a notice was heard, an image was quiesced, or a quiesce
 -- ended
 pub data Coming : Type 0 where
   ByAnswer : (site : SiteId) (o : Op) (a : Answer) → Coming
@@ -54,7 +54,7 @@ is_end site image c = false
 
 -- ---- whether its lock counts as owned
 
--- whether the lock counts as owned after one more operation of the session on that image, whatever
+-- whether the lock counts as owned after one more operation of the client on that image, whatever
 -- else is counted
 abbrev pub owns_after : (owned : Bool) → Op → Answer → Bool
 owns_after owned (op.Header image header.LockTake) answer.Done = true

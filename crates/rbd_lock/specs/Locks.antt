@@ -1,4 +1,4 @@
--- What a session counts of the locks of its images, and what changes it.
+-- What a client counts of the locks of its images, and what changes it.
 use Rattle.std.specs.Prelude.{ℕ, ◌<◌, nat_eq, Bool, true, false, not, ◌&&◌, List, Option, None, Some, IfSome, IsFalse, IsTrue, if◌then◌else◌}
 use Rattle.std.specs.HashMap.{HashMap, get}
 use Rattle.std.specs.List.Sorted.{IsStrictlySortedBy}
@@ -44,7 +44,8 @@ with_asked asked n = record { owned = n.owned; watched = n.watched; asked = aske
 
 -- the state of an image at a site
 abbrev pub lock_state_at : SiteId → (image : ℕ) → LocksView → LockState
-lock_state_at site image l = with_asked (is_among site image l.asked) (noted_or (lookup (nat_eq (key_of site image)) l.entries))
+lock_state_at site image l = with_asked (is_among site image l.asked)
+    (noted_or (lookup (nat_eq (key_of site image)) l.entries))
 
 -- something is noted of each image that is in the table
 abbrev pub AreNoted : List (ℕ × Noted) → Type 0
@@ -54,10 +55,11 @@ AreNoted entries = (key : ℕ) → IfSome (lookup (nat_eq key) entries) (λ n. I
 abbrev pub AreImagesInOrder : List ImageAt → Type 0
 AreImagesInOrder places = IsStrictlySortedBy image_cmp places
 
--- Only a lock that the session counts as its own is asked for, and the images whose locks were
+-- Only a lock that the client counts as its own is asked for, and the images whose locks were
 -- asked for stand in order. No image is held of which nothing is noted.
 pub record IsSoundLocks (l : LocksView) : Type 0 where
-  pub owned : (site : SiteId) (image : ℕ) → IsTrue (is_among site image l.asked) → IsTrue (lock_state_at site image l).owned
+  pub owned : (site : SiteId) (image : ℕ) → IsTrue (is_among site image l.asked)
+      → IsTrue (lock_state_at site image l).owned
   pub order : AreImagesInOrder l.asked
   pub few : AreNoted l.entries
 
@@ -67,7 +69,7 @@ pub record IsSoundLocks (l : LocksView) : Type 0 where
 abbrev pub changed_at : SiteId → (image : ℕ) → (LockState → LockState) → SiteId → (other : ℕ) → LockState → LockState
 changed_at site image change there other s = if is_at site image there other then change s else s
 
--- an operation of the session at a site was answered
+-- an operation of the client at a site was answered
 abbrev pub counted : SiteId → Op → Answer → SiteId → (image : ℕ) → LockState → LockState
 counted site (op.Header on o) a = changed_at site on (answered o a)
 counted site o a = λ there image s. s

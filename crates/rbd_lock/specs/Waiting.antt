@@ -1,4 +1,4 @@
--- Which steps ask again, and whether a session counts a lock as its own.
+-- Which steps ask again, and whether a client counts a lock as its own.
 use Rattle.std.specs.Prelude.{Bool, true, false, List, [], ◌∷◌}
 use Rattle.rbd_kinds.specs.declared.answer.Answer.{Answer}
 use Rattle.rbd_kinds.specs.declared.answer.Answer.TheVariants as answer
@@ -24,9 +24,9 @@ abbrev pub asks_for_lock : Reason → OpKind → Answer → Bool
 asks_for_lock reason.Acquiring k a = asks_again k a
 asks_for_lock why k a = false
 
--- ---- what a session counts
+-- ---- what a client counts
 
--- whether a session counts a lock as its own after steps that are all of the lock's image
+-- whether a client counts a lock as its own after steps that are all of the lock's image
 abbrev pub owned_by : (owned : Bool) → List Answered → Bool
 owned_by owned [] = owned
 owned_by owned (s ∷ steps) = owned_by (owns_after owned s.op s.answer) steps

@@ -59,8 +59,8 @@ pub enum Stage {
 }
 
 impl Acquire {
-    /// The way to the lock of an image, for an instance that watches the image already or doesn't.
-    /// It takes no memory.
+    /// The way to the lock of an image, for an instance that watches the image already (`watched`)
+    /// or doesn't. It takes no memory.
     pub fn new(site: SiteId, image: ImageId, watched: bool) -> Self
         ensures way { result ≡ begun_way site image watched }
         ensures plan { (next : Plan) → rest_of_acquire result next ≡ acquire site image watched next }
@@ -87,7 +87,7 @@ impl Acquire {
         self.image
     }
 
-    /// What it wants.
+    /// What it wants: an operation, always.
     pub fn wants(&self) -> Want
         ensures { (next : Plan) → Wants (rest_of_acquire self.now next) result }
     {
@@ -126,7 +126,8 @@ impl Acquire {
         }
     }
 
-    /// Goes on with an answer. It has ended where it has the lock. It takes no memory.
+    /// Goes on with the answer to its operation. It has ended where that took the lock. Refused
+    /// with NoImage by the answer `none`, and with Fenced by `fenced`. It takes no memory.
     pub fn feed(&mut self, answer: &Answer) -> Progress<()>
         requires { CanGive (op_of self.old) answer.now }
         ensures goes { (labels : Label → Plan) (next : Plan) → labels Lock ≡ lock_of self.old next

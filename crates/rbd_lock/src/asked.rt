@@ -25,9 +25,11 @@ pub fn is_asked(asked: &BTreeSet<ImageAt>, at: &ImageAt) -> bool
     asked.contains(at)
 }
 
-/// An image is asked for. Refused memory, nothing changes.
+/// An image is asked for. NoMemory where memory is refused; then nothing changes.
 pub fn ask(asked: &mut BTreeSet<ImageAt>, at: &ImageAt) -> Result<(), NoMemory>
-    ensures ok { OnOk result ((site : SiteId) (image : ℕ) → is_among site image asked.new.keys ≡ if is_at at.now.site at.now.image site image then true else is_among site image asked.old.keys) }
+    ensures ok { OnOk result ((site : SiteId) (image : ℕ)
+        → is_among site image asked.new.keys ≡ if is_at at.now.site at.now.image site image then true
+        else is_among site image asked.old.keys) }
     ensures err { OnErr result (asked.new.keys ≡ asked.old.keys) }
     ensures order { AreImagesInOrder asked.new.keys }
 {
@@ -38,7 +40,9 @@ pub fn ask(asked: &mut BTreeSet<ImageAt>, at: &ImageAt) -> Result<(), NoMemory>
 /// An image that was asked for stays so, or isn't asked for from now on. It takes no memory.
 pub fn keep(asked: &mut BTreeSet<ImageAt>, at: &ImageAt, stays: bool)
     requires { IsTrue stays → IsTrue (is_among at.now.site at.now.image asked.old.keys) }
-    ensures among { (site : SiteId) (image : ℕ) → is_among site image asked.new.keys ≡ if is_at at.now.site at.now.image site image then stays else is_among site image asked.old.keys }
+    ensures among { (site : SiteId) (image : ℕ)
+        → is_among site image asked.new.keys ≡ if is_at at.now.site at.now.image site image then stays
+        else is_among site image asked.old.keys }
     ensures order { AreImagesInOrder asked.old.keys → AreImagesInOrder asked.new.keys }
 {
     if !stays {

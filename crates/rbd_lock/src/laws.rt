@@ -1,4 +1,4 @@
-//! What holds of what a session counts, whatever comes: laws, each the contract of a function that
+//! What holds of what a client counts, whatever comes: laws, each the contract of a function that
 //! does nothing.
 ghost use Rattle.std.specs.Prelude.{◌≡◌, ℕ, List, ◌∷◌, Option, None, Some, IsTrue, IsFalse};
 ghost use Rattle.std.specs.List.{list_any};
@@ -17,7 +17,7 @@ ghost use Rattle.rbd_lock.specs.Locks.{AreImagesInOrder};
 ghost use Rattle.rbd_kinds.specs.Images.{image_cmp};
 ghost use Rattle.rbd_lock.specs.Places.{is_among, is_behind, next_behind};
 
-/// A lock counts as owned by the operations of the session on that image alone: from a `lock-take`
+/// A lock counts as owned by the operations of the client on that image alone: from a `lock-take`
 /// that is done up to the next answer of a `lock-drop`, or the next `header-remove` that is done,
 /// whatever else comes in between, and from there on it doesn't count as owned until the next
 /// `lock-take` that is done.
@@ -26,7 +26,8 @@ pub fn locks_are_owned_from_take_to_end()
         → (after_all comings site image s).owned ≡ owned_since site image s.owned comings }
     ensures taken { (site : SiteId) (image : ℕ) (s : LockState) (between : List Coming)
         → IsFalse (list_any (is_end site image) between)
-        → IsTrue (after_all (ByAnswer site (op.Header image header.LockTake) answer.Done ∷ between) site image s).owned }
+        → IsTrue (after_all (ByAnswer site (op.Header image header.LockTake) answer.Done ∷ between) site image
+        s).owned }
     ensures dropped { (site : SiteId) (image : ℕ) (s : LockState) (a : Answer) (between : List Coming)
         → IsFalse (list_any (is_take site image) between)
         → IsFalse (after_all (ByAnswer site (op.Header image header.LockDrop) a ∷ between) site image s).owned }
@@ -42,7 +43,7 @@ pub fn asked_locks_are_owned()
         → IsTrue (after_all comings site image s).asked → IsTrue (after_all comings site image s).owned }
 {}
 
-/// A request by another session for a lock that counts as owned is remembered until the lock ends,
+/// A request by another client for a lock that counts as owned is remembered until the lock ends,
 /// unless the lock is taken anew before. A request for a lock that doesn't count as owned is passed
 /// over for good.
 pub fn askings_stay_until_the_end()
@@ -75,7 +76,7 @@ pub fn the_next_is_the_least()
         → IsTrue (is_among other.site other.image places) → IsFalse (is_behind behind other) }
 {}
 
-/// Two lists in order that have the same images are equal. So what a session counts of all images
+/// Two lists in order that have the same images are equal. So what a client counts of all images
 /// says which were asked for, and in which order: when each was asked for doesn't matter.
 pub fn asked_lists_are_one()
     ensures { (asked other : List ImageAt) → AreImagesInOrder asked → AreImagesInOrder other

@@ -1,175 +1,133 @@
-//! How an image's exclusive lock is taken and let go, and what a session counts of the locks of its
-//! images (Ceph: the exclusive lock of RBD images, by librbd's `ExclusiveLock`, `AcquireRequest`,
-//! `BreakRequest` and `ReleaseRequest`; what is counted is own).
+//! How an image's exclusive lock is taken and let go, and what a client counts of the locks of its
+//! images (Ceph: librbd's `ExclusiveLock`, with its `AcquireRequest`, `BreakRequest` and
+//! `ReleaseRequest`; what is counted is own).
 //!
 //! ```text
-//! let mut way = Acquire::new(SiteId::A, image, false);   // the instance doesn't watch it yet
-//! way.next()             // watch
-//! way.feed(&done)        // More
-//! way.next()             // lock-take
-//! way.feed(&held)        // More: the answer was `held c2`
-//! way.next()             // watchers-get
-//! way.feed(&watchers)    // More: c2 is among them
-//! way.next()             // notify RequestLock
-//! way.feed(&done)        // More
-//! way.next()             // lock-take once more
-//! way.feed(&done)        // Ended: the lock is taken, and the request goes on
+//! let mut way = Acquire::new(SiteId::A, image, false);     // the instance doesn't watch it yet
+//! loop {
+//!     let op = way.next();                                 // watch, then lock-take, ..
+//!     match way.feed(&ask_site(&op)) {
+//!         Progress::More => {}
+//!         Progress::Ended(()) => break,                    // the lock is taken
+//!         Progress::Refused(refusal) => return Ok(refusal),
+//!     }
+//! }
 //!
 //! let mut locks = Locks::new(alloc);
 //! locks.reserve()?;
-//! locks.count(SiteId::A, &watch, &Answer::Done);       // the image is watched
-//! locks.reserve()?;
-//! locks.count(SiteId::A, &lock_take, &Answer::Done);   // its lock counts as owned
-//! locks.hear(&request_lock)?;                          // another one wants it
-//! locks.state(&at)                                     // owned, watched, asked
-//! locks.next_asked(None)                               // Some(at): its lock is to be let go
-//!
-//! let mut release = Release::new(SiteId::A, image);
-//! release.next(alloc)?   // lock-drop
-//! locks.count(SiteId::A, &lock_drop, &Answer::Done);   // watched, and no more
-//! release.feed(&done)    // More
-//! release.next(alloc)?   // notify ReleasedLock
-//! release.feed(&none)    // Done, whatever the answer
+//! locks.count(SiteId::A, &lock_take, &Answer::Done);       // the lock counts as owned
+//! locks.hear(&request_lock)?;                              // another client wants it
+//! let asked = locks.next_asked(None);                      // Some(at): it is to be let go
+//! let release = Release::new(SiteId::A, image);
+//! let op = release.next();                                 // lock-drop
+//! let rest = release.answered(&Answer::Done);              // Some: the watchers are told next
 //! ```
+//!
+//! | type or call | what it is |
+//! |---|---|
+//! | [`Acquire`] | the way to a lock: a part of a request, or a machine by itself |
+//! | [`Stage`] | a step of that way |
+//! | [`Release`] | the release of a lock: a machine by itself, which no request waits for |
+//! | [`Locks`] | what a client counts of the locks of all its images, at both sites |
+//! | [`LockState`] | the same of one image |
+//! | [`owns_lock_after`] | whether a lock counts as owned behind one more operation |
+//! | [`is_waiting`] | whether a step on the way to a lock asks again |
 //!
 //! # Rules
 //!
-//! Taking a lock ([`Acquire`]):
-//!
-//! ```text
-//! watch ──▶ lock-take ◀──────────────────────────────────────────────────┐
-//!              │ done: what comes next, with the lock                    │
-//!              │ held o                                                  │
-//!              ▼                                                         │
-//!           watchers-get ──o is among them──▶ notify RequestLock ────────┤
-//!              │ o isn't                                                 │
-//!              ▼                                                         │
-//!           block-add o ──▶ lock-break o ──done, changed─────────────────┘
-//! ```
+//! Taking a lock ([`Acquire`] draws the steps):
 //!
 //! - An instance watches an image once, before it first asks for its lock, so that it hears who
-//!   wants the lock later. `watched` tells that it does so already, and then this step is left out.
+//!   wants the lock later. `watched` tells that it does so already; then this step is left out.
 //! - An owner that is among the watchers is asked, and never fenced: it may still be alive, and
-//!   lets go in its own time. Whether it watches is looked up anew in each round, since a watch may
+//!   lets go in its own time. Each round looks up anew whether it watches, since a watch may
 //!   expire.
-//! - An owner that isn't among the watchers loses the lock, but first its instance is put into the
-//!   site's blocklist: what it may still send can't change the image any more (Ceph). Where the
-//!   lock isn't that owner's any more (`changed`), somebody else was faster, and the lock is asked
-//!   for again.
-//! - The answer `none` ends the request with NoImage, and `fenced` with Fenced, at each step.
-//! - There is no end as long as an owner watches and keeps the lock. A step that asks again is
-//!   marked as *waiting* ([`is_waiting`]): a `lock-take` that was told who has the lock, a
-//!   `watchers-get` that was told who watches, a `notify` that was posted (own).
+//! - An owner that isn't among the watchers loses the lock. First its instance goes into the site's
+//!   blocklist: what it may still send can't change the image any more (Ceph). Where the break is
+//!   answered `changed`, somebody else was faster.
+//! - After either the lock is asked for again. So there is no end as long as an owner watches and
+//!   keeps the lock. What asks again is *waiting* ([`is_waiting`]): a `lock-take` that was told who
+//!   has the lock, a `watchers-get` that was told who watches, a `notify` that was posted (own).
+//! - At each step the answer `none` ends the request with NoImage, and `fenced` with Fenced.
 //!
-//! Letting it go ([`Release`]):
+//! Letting it go ([`Release`]): a `lock-drop`, and where that is `done`, a `notify` ReleasedLock.
+//! Whatever they are answered, a release ends with Done. When a client may begin one is said in
+//! `rbd_client`.
 //!
-//! ```text
-//! lock-drop ──done──▶ notify ReleasedLock ──any answer──▶ the end
-//!    └──changed, none, fenced──▶ the end
-//! ```
-//!
-//! - Whatever its `lock-drop` is answered, the session doesn't count the lock as its own any more
-//!   ([`owns_lock_after`]): it was dropped, or is another's, or the image is gone, or nothing of
-//!   this instance counts there. Only a drop that was done is told of.
-//! - When a session may let go is its own rule: it was asked, and none of its requests of this
-//!   image is on its way. What a new owner does of the journal's events comes behind this way, and
-//!   is no part of it.
-//!
-//! A session counts four things of each image at each site ([`Locks`]). Nothing is known at first.
+//! A client counts four things of each image at each site. At first none is so.
 //!
 //! | | from | up to |
 //! |---|---|---|
-//! | *owned* | a `lock-take` that is done | the answer of a `lock-drop`, or a `header-remove` done |
-//! | *watched* | a `watch` that is done | the answer of an `unwatch` |
-//! | *asked* | a RequestLock that is heard while owned | a `lock-take` done, or the end of *owned* |
-//! | *quiesced* | the look under the lock of a `quiesce` | the look-up of a `resume`, or the end of *owned* |
+//! | *watched* | a `watch` done | the answer of an `unwatch` |
+//! | *owned* | a `lock-take` done | the answer of a `lock-drop`, or a `header-remove` done |
+//! | *asked* | a RequestLock heard while owned | a `lock-take` done, or the end of *owned* |
+//! | *quiesced* | a `quiesce`'s look under the lock | a `resume`'s look-up, or the end of *owned* |
 //!
-//! - *Owned* is that the lock is its own, and *asked* that another one wants it.
-//! - The answer of a `lock-drop` or an `unwatch` ends something whatever it is: `done`, `changed`,
-//!   `none` or `fenced`. Whichever it is, the session may not count on the lock, or on its watch,
-//!   any more.
-//! - A header that the session removed takes the lock with it. One that it couldn't remove leaves
-//!   the lock as it was.
-//! - A RequestLock that is heard without the lock is passed over for good, also where the session
-//!   takes the lock later. Who still wants it then asks again.
-//! - Other operations, other answers and other notices change nothing. That another one broke the
-//!   lock, or that the watch expired, isn't told to the session, and it doesn't count it. The lock
-//!   that counts as owned may be another's, then: what the session still sends is refused by the
-//!   fence.
-//! - Images are independent of each other, and so are both sites: an id means another image there.
+//! - *Owned* is that the lock is the client's, and *asked* that another client wants it.
+//! - Any answer of a `lock-drop` or an `unwatch` ends what it is for: `done`, `changed`, `none` or
+//!   `fenced`. The client may count on the lock, or on the watch, no longer.
+//! - A header that is removed takes the lock along.
+//! - A RequestLock that is heard without the lock is passed over for good, also where the lock is
+//!   taken later. Who still wants it asks again.
+//! - Nothing else changes what is counted. Nobody tells the client that its lock was broken or its
+//!   watch expired. A lock that counts as owned may be another's, then: the fence refuses what the
+//!   client still sends.
+//! - Images don't touch each other, nor do both sites: an id means another image there.
 //!
 //! # Contracts
 //!
-//! [`Acquire`] is a part of a request: its clauses hold for every plan that comes next, and a step
-//! tells a [`Progress`](rbd_machine::Progress). So the plan of a request that waits for a lock is
-//! one plan with the way to the lock in it. The way goes back to the label `Lock`, so the clauses
-//! of its `feed` also hold for every meaning of the labels at which `Lock` stands at this lock's
-//! `lock-take`. It is a request of its own, too, which ends with Done
-//! ([`Machine`](rbd_machine::Machine)); [`way_laws`] calls its walks *ways*. Each of its operations
-//! is told with the reason `Acquiring`.
-//!
-//! Contracts see [`Locks`] as a `LocksView`, and read it by `lock_state_at`: what is counted of an
-//! image at a site. Each call is one equation on the states of all images (`count`: `counted` by
-//! the operation and its answer; `hear`: `heard` by the notice, or all as they were; `quiesce`,
-//! `resume`: `quieted`, `resumed` at the image; `reserve`: as they were). The images that were
-//! asked for are a list (`asked`), by site and then by id: in which order they were asked for
-//! doesn't matter. That it is in order, and that each of its images is owned, is told by each
-//! call's clause `sound` (`IsSoundLocks`).
+//! - An [`Acquire`] keeps to its plan with *any* plan behind it, so a request that takes a lock on
+//!   its way has one plan for both. It ends with the lock and nowhere else. It goes back to the
+//!   label `Lock`, which stands at its `lock-take`. Each of its operations has the reason
+//!   `Acquiring`.
+//! - A [`Release`] keeps to its plan, and is never refused.
+//! - Contracts read [`Locks`] by `lock_state_at`: what is counted of an image at a site. Each call
+//!   is one equation on that, for all images. Those that were asked for (`asked`) are a list by
+//!   site and then by id: in which order they were asked for doesn't matter. `IsSoundLocks` says
+//!   that it is in order, and that each of its images is owned; each call has it as a clause.
+//! - [`way_laws`]: a way that ends well ends with the lock. Each step stands where it may: an owner
+//!   is fenced only behind a look that didn't show it among the watchers, and a lock is broken only
+//!   directly behind that fence. Beside the steps that ask again there are few, and how many is
+//!   said. All this holds of the steps up to the lock of any request. A way and a release do only
+//!   what they may by what is known (`rbd_machine`).
+//! - [`laws`]: whatever comes to a client, a lock counts as owned by the client's own operations on
+//!   that image alone, and only such a lock is asked for. How long an asking stays. What is counted
+//!   of all images says which were asked for, and `next_asked` tells the least behind another.
 //!
 //! The definitions are read after those of `rbd_machine`, in this order.
 //!
 //! | file | what it says |
 //! |---|---|
 //! | `specs/Steps.antt` | the operations, and who is among the watchers |
-//! | `specs/Acquire.antt` | `acquire`: the way to the lock, with what comes next. `rest_of_acquire`: what is left of one. `Acquires`: what comes of a step. `IsWay`: a walk of one alone |
-//! | `specs/Release.antt` | `release`: the plan. `LetsGo`: what one did |
-//! | `specs/Waiting.antt` | which steps ask again, and when a session counts a lock as its own |
-//! | `specs/Order.antt` | where each step may stand (`AreStepsInOrder`), and how a way ends (`EndsBy`) |
+//! | `specs/Acquire.antt` | the plan (`acquire`), what is left of it, and a walk of one (`IsWay`) |
+//! | `specs/Release.antt` | `release` is the plan of a release; `LetsGo` says what one did |
+//! | `specs/Waiting.antt` | which steps ask again, and whether a lock is owned behind some steps |
+//! | `specs/Order.antt` | where each step may stand, and how a way ends (`EndsBy`) |
 //! | `specs/Counts.antt` | how many steps of which kind there are |
 //! | `specs/Past.antt` | the steps up to the lock, and those of what comes next |
 //! | `specs/Places.antt` | which images are among some, and which comes next |
 //! | `specs/States.antt` | what changes the state of one image |
-//! | `specs/Locks.antt` | the view of what is counted, its states, and what changes them |
-//! | `specs/Comings.antt` | whatever comes, one after another |
-//!
-//! [`way_laws`] says that a way which ends well ends with the lock, that each step stands where it
-//! may, that a lock is broken only directly behind the fence of its owner and an owner is fenced
-//! only behind a look that didn't show it among the watchers, how many steps there are beside those
-//! that ask again, that all this holds of the steps up to the lock of any request that takes one on
-//! its way, and what a release does. Both do only what they may by what is known (`rbd_machine`),
-//! the way from anything known, with what comes next.
-//!
-//! [`laws`] says, of whatever comes to a session: that a lock counts as owned exactly from a
-//! `lock-take` that is done to the next answer of a `lock-drop` or `header-remove` that is done, by
-//! the operations of the session on that image alone (`owns_after`; in code [`owns_lock_after`]);
-//! that only a lock that counts as owned is asked for; how long an asking stays; and that other
-//! images stay as they were. That `next_asked` tells the least. And that two lists in order with
-//! the same images are one, so that the states of all images say which were asked for, and in which
-//! order.
+//! | `specs/Locks.antt` | what contracts see of [`Locks`], and what changes it |
+//! | `specs/Comings.antt` | whatever comes to a client, one after another |
 //!
 //! # Cost
 //!
-//! No call of a way or a release takes memory, and each is a few words. A look at the watchers goes
-//! through their list once. A free lock costs two operations, or one where the instance watches; a
-//! round with an owner that is asked three more, and one with an owner that is fenced four.
+//! A free lock costs two operations, or one where the instance watches. A round with an owner that
+//! is asked costs three more, and one with an owner that is fenced four. The calls of a way and of
+//! a release take no memory; a look at the watchers goes through their list once.
 //!
-//! `state` is a look-up by hash, and one by order among the images that were asked for, which are
-//! few. A call that changes something is that, and as much again; `count` of an operation that
-//! changes nothing looks nothing up. Nothing goes through all images. `next_asked` finds its place
-//! by order, so to go over all that were asked for takes no list of them. `reserve` and `hear` take
-//! memory, and no other call does. What is held are the images of which something is counted: one
-//! whose state is blank again is forgotten.
+//! `state` is a look-up by hash, and one by order among the few images that were asked for. A call
+//! that changes something costs as much again; `count` of an operation that changes nothing looks
+//! nothing up. `next_asked` finds its place by order. No call goes through all images. `reserve`
+//! and `hear` take memory, and no other call does. An image of which nothing is counted any more is
+//! forgotten.
 //!
 //! # How it works
 //!
-//! A machine has the step at which it stands, with the owner that was told last, as long as it is
-//! needed: behind `held o` up to `lock-break o`. An owner that is asked needn't be remembered,
-//! since the next `lock-take` tells who has the lock then. Both are made so that a
-//! session can hold them: an [`Acquire`] beside the request that waits for the lock, and a
-//! [`Release`] in a slot of its own.
-//!
-//! A table by key has what is noted of each image, and an ordered set the images that were asked
-//! for. Nothing stands in both, so that they can't disagree.
+//! A way has the step at which it stands, and the owner only from `held o` up to `lock-break o`:
+//! the next `lock-take` tells who has the lock then. A hash table by key has what is noted of each
+//! image, and an ordered set the images that were asked for. Nothing stands in both, so they can't
+//! disagree.
 #![tactic(auto)]
 
 mod acquire;

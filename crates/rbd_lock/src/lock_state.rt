@@ -1,20 +1,20 @@
-//! What a session counts of the lock of one image.
+//! What a client counts of the lock of one image.
 ghost use Rattle.std.specs.Prelude.{◌≡◌};
 ghost use Rattle.rbd_lock.specs.Comings.{owns_after};
 ghost use Rattle.rbd_lock.specs.States.{answered, blank_state, may_change_lock as counts, let_go, quieted, resumed};
 
 use rbd_kinds::{Answer, HeaderOp, Op};
 
-/// What a session counts of the lock of an image at a site.
+/// What a client counts of the lock of an image at a site.
 #[derive(Clone, Copy, PartialEq, Eq)]
 pub struct LockState {
-    /// The lock is its own.
+    /// The lock counts as the client's own.
     pub owned: bool,
-    /// It watches the image.
+    /// The client's instance watches the image.
     pub watched: bool,
-    /// Another one wants the lock.
+    /// Another client wants the lock.
     pub asked: bool,
-    /// The image is quiesced.
+    /// A `quiesce` of this client holds changes of the image back.
     pub quiesced: bool,
 }
 
@@ -32,9 +32,9 @@ pub fn is_counted(op: &HeaderOp) -> bool
     }
 }
 
-/// Whether a session counts the lock of an image as its own behind one more operation of its own on
-/// that image: from a `lock-take` that is done up to the next answer of a `lock-drop`, whatever
-/// that is, or up to a `header-remove` that is done, with which the lock goes (own).
+/// Whether a client counts the lock of an image as its own behind one more operation of its own on
+/// that image. It does so from a `lock-take` that is done up to the next answer of a `lock-drop`,
+/// whatever that is, or up to a `header-remove` that is done, with which the lock goes (own).
 pub fn owns_lock_after(owned: bool, op: &Op, answer: &Answer) -> bool
     ensures { result ≡ owns_after owned op.now answer.now }
 {
@@ -50,7 +50,7 @@ pub fn owns_lock_after(owned: bool, op: &Op, answer: &Answer) -> bool
 }
 
 impl LockState {
-    /// Of an image of which nothing is known.
+    /// What is counted of an image of which nothing is known.
     pub fn blank() -> Self
         ensures { result ≡ blank_state }
     {
@@ -62,7 +62,7 @@ impl LockState {
         }
     }
 
-    /// Behind an operation of the session on the header, by its answer.
+    /// Behind an operation of the client on the header, by its answer.
     pub(crate) fn answered(&self, op: &HeaderOp, answer: &Answer) -> Self
         ensures { result ≡ answered op.now answer.now self.now }
     {

@@ -1,4 +1,4 @@
-//! What a session counts of the locks of all its images.
+//! What a client counts of the locks of all its images.
 ghost use Rattle.std.specs.Prelude.{◌≡◌, ℕ, ◌<◌, ◌≤◌, [], IsTrue, IsFalse, OnOk, OnErr};
 ghost use Rattle.rbd_kinds.specs.declared.id.SiteId.{SiteId as Site};
 ghost use Rattle.rbd_kinds.specs.declared.operation.Op.TheVariants as of_op;
@@ -15,13 +15,13 @@ use std::alloc::Global;
 use std::collections::{BTreeSet, HashMap};
 use std::marker::Model;
 
-/// What a session counts of the locks of its images, at both sites (Ceph: librbd's
+/// What a client counts of the locks of its images, at both sites (Ceph: librbd's
 /// `ExclusiveLock`).
 #[derive(Drop)]
 pub struct Locks {
     /// By key. An image of which nothing has to be noted isn't there.
     noted: HashMap<u64, Noted>,
-    /// The images whose lock another one wants.
+    /// The images whose lock another client wants.
     asked: BTreeSet<ImageAt>,
 }
 
@@ -33,7 +33,8 @@ impl Model for Locks {
 
     ghost view = { λ l. record { entries = l.noted.entries; asked = l.asked.keys; room = spare l.noted } };
 
-    ghost invariant = { λ l. IsSoundLocks (record { entries = l.noted.entries; asked = l.asked.keys; room = spare l.noted }) };
+    ghost invariant = { λ l. IsSoundLocks
+        (record { entries = l.noted.entries; asked = l.asked.keys; room = spare l.noted }) };
 }
 
 impl Locks {
@@ -64,9 +65,10 @@ impl Locks {
     }
 
     /// Takes all memory that is needed to count one more answer, or to quiesce one more image.
-    /// Nothing else changes.
+    /// Nothing that is counted changes. NoMemory where that memory is refused.
     pub fn reserve(&mut self) -> Result<(), NoMemory>
-        ensures states { (site : Site) (image : ℕ) → lock_state_at site image self.new ≡ lock_state_at site image self.old }
+        ensures states { (site : Site) (image : ℕ)
+            → lock_state_at site image self.new ≡ lock_state_at site image self.old }
         ensures asked { self.new.asked ≡ self.old.asked }
         ensures room { OnOk result (0 < self.new.room) }
         ensures sound { IsSoundLocks self.new }
@@ -74,10 +76,12 @@ impl Locks {
         make_room(&mut self.noted)
     }
 
-    /// An operation of the session at a site was answered. It takes no memory.
+    /// An operation of the client at a site was answered. It takes no memory.
     pub fn count(&mut self, site: SiteId, op: &Op, answer: &Answer)
         requires { IsTrue (begins op.now answer.now) → 0 < self.old.room }
-        ensures states { (there : Site) (image : ℕ) → lock_state_at there image self.new ≡ counted site op.now answer.now there image (lock_state_at there image self.old) }
+        ensures states { (there : Site) (image : ℕ)
+            → lock_state_at there image self.new ≡ counted site op.now answer.now there image
+            (lock_state_at there image self.old) }
         ensures room { IsFalse (begins op.now answer.now) → self.old.room ≤ self.new.room }
         ensures sound { IsSoundLocks self.new }
     {
@@ -95,9 +99,11 @@ impl Locks {
         }
     }
 
-    /// A notice to the session is heard. Refused memory, nothing changes.
+    /// The client hears a notice. A RequestLock of a lock that counts as owned is noted; all else
+    /// is passed over. NoMemory where the memory to note it is refused; then nothing changes.
     pub fn hear(&mut self, notice: &Notice) -> Result<(), NoMemory>
-        ensures ok { OnOk result ((site : Site) (image : ℕ) → lock_state_at site image self.new ≡ heard notice.now site image (lock_state_at site image self.old)) }
+        ensures ok { OnOk result ((site : Site) (image : ℕ)
+            → lock_state_at site image self.new ≡ heard notice.now site image (lock_state_at site image self.old)) }
         ensures err { OnErr result (self.new ≡ self.old) }
         ensures room { self.new.room ≡ self.old.room }
         ensures sound { IsSoundLocks self.new }
@@ -116,7 +122,9 @@ impl Locks {
     /// The look under the lock of a `quiesce` found the image's header. It takes no memory.
     pub fn quiesce(&mut self, at: &ImageAt)
         requires { 0 < self.old.room }
-        ensures states { (site : Site) (image : ℕ) → lock_state_at site image self.new ≡ changed_at at.now.site at.now.image quieted site image (lock_state_at site image self.old) }
+        ensures states { (site : Site) (image : ℕ)
+            → lock_state_at site image self.new ≡ changed_at at.now.site at.now.image quieted site image
+            (lock_state_at site image self.old) }
         ensures sound { IsSoundLocks self.new }
     {
         let state = self.state(at).quieted();
@@ -125,7 +133,9 @@ impl Locks {
 
     /// The `dir-find` of a `resume` found the image. It takes no memory.
     pub fn resume(&mut self, at: &ImageAt)
-        ensures states { (site : Site) (image : ℕ) → lock_state_at site image self.new ≡ changed_at at.now.site at.now.image resumed site image (lock_state_at site image self.old) }
+        ensures states { (site : Site) (image : ℕ)
+            → lock_state_at site image self.new ≡ changed_at at.now.site at.now.image resumed site image
+            (lock_state_at site image self.old) }
         ensures room { self.old.room ≤ self.new.room }
         ensures sound { IsSoundLocks self.new }
     {
@@ -158,8 +168,11 @@ impl Locks {
 
     fn answered(&mut self, at: &ImageAt, op: &HeaderOp, answer: &Answer)
         requires { (image : ℕ) → IsTrue (begins (of_op.Header image op.now) answer.now) → 0 < self.old.room }
-        ensures states { (site : Site) (image : ℕ) → lock_state_at site image self.new ≡ changed_at at.now.site at.now.image (answered op.now answer.now) site image (lock_state_at site image self.old) }
-        ensures room { (image : ℕ) → IsFalse (begins (of_op.Header image op.now) answer.now) → self.old.room ≤ self.new.room }
+        ensures states { (site : Site) (image : ℕ)
+            → lock_state_at site image self.new ≡ changed_at at.now.site at.now.image
+            (answered op.now answer.now) site image (lock_state_at site image self.old) }
+        ensures room { (image : ℕ) → IsFalse (begins (of_op.Header image op.now) answer.now)
+            → self.old.room ≤ self.new.room }
         ensures sound { IsSoundLocks self.new }
     {
         let state = self.state(at).answered(op, answer);
@@ -170,8 +183,11 @@ impl Locks {
     fn set(&mut self, at: &ImageAt, state: &LockState)
         requires asked { StaysAsked (lock_state_at at.now.site at.now.image self.old) state.now }
         requires room { IsRoomForState (lock_state_at at.now.site at.now.image self.old) state.now self.old.room }
-        ensures states { (site : Site) (image : ℕ) → lock_state_at site image self.new ≡ changed_at at.now.site at.now.image (λ before. state.now) site image (lock_state_at site image self.old) }
-        ensures room { StaysBlank (lock_state_at at.now.site at.now.image self.old) state.now → self.old.room ≤ self.new.room }
+        ensures states { (site : Site) (image : ℕ)
+            → lock_state_at site image self.new ≡ changed_at at.now.site at.now.image (λ before. state.now) site image
+            (lock_state_at site image self.old) }
+        ensures room { StaysBlank (lock_state_at at.now.site at.now.image self.old) state.now
+            → self.old.room ≤ self.new.room }
         ensures sound { IsSoundLocks self.new }
     {
         let noted = Noted {
@@ -183,9 +199,12 @@ impl Locks {
         keep(&mut self.asked, at, state.asked);
     }
 
-    /// Another one wants the lock of an image. Refused memory, nothing changes.
+    /// Another client wants the lock of an image. NoMemory where memory is refused; then nothing
+    /// changes.
     fn ask(&mut self, at: &ImageAt) -> Result<(), NoMemory>
-        ensures ok { OnOk result ((site : Site) (image : ℕ) → lock_state_at site image self.new ≡ changed_at at.now.site at.now.image (told_state notice_kind.RequestLock) site image (lock_state_at site image self.old)) }
+        ensures ok { OnOk result ((site : Site) (image : ℕ)
+            → lock_state_at site image self.new ≡ changed_at at.now.site at.now.image
+            (told_state notice_kind.RequestLock) site image (lock_state_at site image self.old)) }
         ensures err { OnErr result (self.new ≡ self.old) }
         ensures room { self.new.room ≡ self.old.room }
         ensures sound { IsSoundLocks self.new }

@@ -43,7 +43,8 @@ pub fn note(table: &mut HashMap<u64, Noted>, key: u64, noted: &Noted)
     requires { IsTrue (is_blank (noted_in table.old key)) → IsFalse (is_blank noted.now) → 0 < spare table.old }
     ensures noted { (k : ℕ) → noted_in table.new k ≡ cond (nat_eq key k) noted.now (noted_in table.old k) }
     ensures few { AreNoted table.old.entries → AreNoted table.new.entries }
-    ensures room { (IsTrue (is_blank (noted_in table.old key)) → IsTrue (is_blank noted.now)) → spare table.old ≤ spare table.new }
+    ensures room { (IsTrue (is_blank (noted_in table.old key)) → IsTrue (is_blank noted.now))
+        → spare table.old ≤ spare table.new }
 {
     if noted.is_blank() {
         forget(table, key);
@@ -63,7 +64,8 @@ fn forget(table: &mut HashMap<u64, Noted>, key: u64)
 
 /// Whether the image was in the table.
 fn overwrite(table: &mut HashMap<u64, Noted>, key: u64, noted: &Noted) -> bool
-    ensures found { IsTrue result → (k : ℕ) → get nat_eq table.new k ≡ cond (nat_eq key k) (Some noted.now) (get nat_eq table.old k) }
+    ensures found { IsTrue result → (k : ℕ) → get nat_eq table.new k ≡ cond (nat_eq key k) (Some noted.now)
+        (get nat_eq table.old k) }
     ensures missing { IsFalse result → (k : ℕ) → get nat_eq table.new k ≡ get nat_eq table.old k }
     ensures absent { IsFalse result → get nat_eq table.old key ≡ None }
     ensures room { spare table.new ≡ spare table.old }

@@ -22,9 +22,9 @@ use std::alloc::Global;
 /// the end
 /// ```
 ///
-/// It isn't refused: whatever its `lock-drop` is answered, the session counts the lock as let go,
-/// and so it ends with Done. No request waits for it and none goes on behind it. So it is a machine
-/// by itself, which a session holds beside its requests and treats as one of them, and no part.
+/// It isn't refused: whatever its `lock-drop` is answered, the client counts the lock as let go,
+/// and so it ends with Done. No request waits for it, and none goes on behind it. So it is a
+/// machine by itself, and no part of a request: a client holds it in slot 0, beside its requests.
 #[derive(Clone, Copy)]
 pub struct Release {
     site: SiteId,

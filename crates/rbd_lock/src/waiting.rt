@@ -5,9 +5,9 @@ ghost use Rattle.rbd_lock.specs.Waiting.{asks_again, asks_for_lock as waits};
 use rbd_kinds::{Answer, OpKind};
 use rbd_machine::Reason;
 
-/// Whether a step is marked as waiting: on its way to a lock a request was told that the lock is
-/// held, or who watches, or its notification was posted. How often this happens has no bound; an
-/// answer that ends the request isn't waiting (own).
+/// Whether a step on the way to a lock asks again: the `lock-take` was told that the lock is held,
+/// the `watchers-get` who watches, or the `notify` was posted. How often this happens has no bound.
+/// An answer that ends the request isn't among these (own).
 pub fn is_waiting(reason: Reason, kind: OpKind, answer: &Answer) -> bool
     ensures { result ≡ waits reason kind answer.now }
 {

@@ -26,7 +26,7 @@ ghost use Rattle.rbd_lock.specs.Steps.{block_add, fenced, lock_held, is_instance
 ghost use Rattle.rbd_lock.specs.Waiting.{owned_by};
 
 /// A way that ends well ends with the lock: its last operation is a `lock-take` of the image at the
-/// site, answered `done`, and the session counts the lock as its own. Any other end is a refusal by
+/// site, answered `done`, and the client counts the lock as its own. Any other end is a refusal by
 /// the last answer, NoImage by `none` and Fenced by `fenced`.
 pub fn ways_end_with_the_lock()
     ensures ends { (site : SiteId) (image : ℕ) (watched : Bool) (feds : List Fed) (steps : List Answered)
@@ -141,7 +141,7 @@ pub fn releases_are_lawful()
         → HoldsUnlooked k site image → IsLawful known_at k (release site image) }
 {}
 
-/// A release drops the lock, and from then on the session counts the lock as let go, whatever the
+/// A release drops the lock, and from then on the client counts the lock as let go, whatever the
 /// drop was answered. The watchers are told exactly where the drop was done. A release is never
 /// refused.
 pub fn releases_let_go()

@@ -44,7 +44,8 @@ CanBeFedAt (stage.UnderLock image) name (fed.Answer a) = CanGive (op.Header imag
 CanBeFedAt _ name f = ⊥
 
 -- The change is at its look under the lock, and was told a header that refuses nothing.
-pub record IsAllowedUnderLock (refuses : HeaderView → Option Refusal) (act : ℕ → HeaderView → Plan) (image : ℕ) (h : HeaderView)
+pub record IsAllowedUnderLock (refuses : HeaderView → Option Refusal) (act : ℕ → HeaderView → Plan) (image : ℕ)
+    (h : HeaderView)
     (to : Plan) (old : Approach) : Type 0 where
   pub stage : old.stage ≡ stage.UnderLock image
   pub may : refuses h ≡ None

@@ -122,7 +122,8 @@ untouched = record { absent = []; blank = [] }
 
 abbrev pub objects_known_of : List ImageObjects → SiteId → (image : ℕ) → ObjectsKnown
 objects_known_of [] site image = untouched
-objects_known_of (o ∷ objects) site image = if is_at site image o.site o.image then o.known else objects_known_of objects site image
+objects_known_of (o ∷ objects) site image = if is_at site image o.site o.image then o.known
+    else objects_known_of objects site image
 
 -- whether the request removed the image's header
 abbrev pub is_gone : List ImagePlace → SiteId → (image : ℕ) → Bool
@@ -335,7 +336,8 @@ learned k site _ a = k
 
 -- A request forgets, when it has the lock, what it knew of the image before.
 abbrev pub owns_when_held : Knowledge → SiteId → (image : ℕ) → List Own
-owns_when_held k site image = record { site = site; image = image; alone = k.alone; header = None } ∷ owns_without site image k.owns
+owns_when_held k site image = record { site = site; image = image; alone = k.alone; header = None }
+    ∷ owns_without site image k.owns
 
 -- What is known once the request may go on. A turn lasts up to the next one, or up to the end of
 -- the request's event. What the request knows of an object by its own changes lasts as long, since

@@ -44,5 +44,6 @@ jumps labels plan [] = 0
 jumps labels (Ask site why op next) (fed.Answer answer ∷ more) =
     jumps_at (next answer) + jumps labels (past_label labels (next answer)) more
 jumps labels (Await wait next) (fed.Passed ∷ more) = jumps_at next + jumps labels (past_label labels next) more
-jumps labels (Note site image event next) (fed.Passed ∷ more) = jumps_at next + jumps labels (past_label labels next) more
+jumps labels (Note site image event next) (fed.Passed ∷ more) =
+    jumps_at next + jumps labels (past_label labels next) more
 jumps labels plan (f ∷ more) = 0

@@ -221,7 +221,8 @@ PermitsOnHeader k site image (header.Create view) = MayMake k site image view
 PermitsOnHeader k site image (header.SetSize to) =
     OwnsAlone k site image (MaySize (maps_of k.maps site image) (objects_known_of k.objects site image) to)
 PermitsOnHeader k site image header.Remove = OwnsAlone k site image (λ h. h.snaps ≡ [])
-PermitsOnHeader k site image (header.SnapAdd name) = OwnsAlone k site image (MayTakeSnap (maps_of k.maps site image) name)
+PermitsOnHeader k site image (header.SnapAdd name) =
+    OwnsAlone k site image (MayTakeSnap (maps_of k.maps site image) name)
 PermitsOnHeader k site image (header.SnapRemove snap) = OwnsAlone k site image (MayRemove snap)
 PermitsOnHeader k site image header.LockTake = Unit {0}
 PermitsOnHeader k site image header.LockDrop = HoldsUnlooked k site image

@@ -98,7 +98,7 @@ look site image next = own site (op.Header image header.Get) (on_header next)
 --
 -- It finds its image and joins the line of the image's requests, looks at the header, and waits for
 -- the lock. Then it looks again, since the header may have changed meanwhile, and what it sees now
--- can't change as long as the lock is its session's. Its refusals are tested at both looks.
+-- can't change as long as the lock is its client's. Its refusals are tested at both looks.
 
 abbrev pub owned : (HeaderView → Option Refusal) → (act : ℕ → HeaderView → Plan) → (image : ℕ) → HeaderView → Plan
 owned refuses act image h = unless (refuses h) (act image h)

@@ -23,7 +23,7 @@ pub trait Refuses {
         ensures { result ≡ refuses self.now header.now };
 }
 
-/// Where a change of an image is on its way to its look under the lock.
+/// Where a change of an image is on its way to its look under the lock. It is a part of a request.
 ///
 /// ```text
 /// Finding   dir-find     ──none──▶ NoImage
@@ -34,7 +34,7 @@ pub trait Refuses {
 ///    │ header
 /// Holding   the lock
 ///    │
-/// UnderLock    header-get   ──none──▶ NoImage, or a refusal by this header
+/// UnderLock header-get   ──none──▶ NoImage, or a refusal by this header
 ///    │ header
 ///    ▼
 /// what the change does
@@ -105,7 +105,7 @@ impl Approach {
         }
     }
 
-    /// The operation that it wants.
+    /// The operation that it wants. NoMemory where the memory for the name is refused.
     pub fn next(&self) -> Result<Op, NoMemory>
         requires { IsAskingAt self.now.stage }
         ensures { (refuses : HeaderView → Option Refusal) (act : ℕ → HeaderView → Plan)
@@ -120,7 +120,7 @@ impl Approach {
         }
     }
 
-    /// The image, where it is at its look under the lock.
+    /// The image, where its look under the lock is what it wants.
     pub fn under_lock(&self) -> Option<ImageId>
         ensures { result ≡ under_lock_at self.now.stage }
     {
@@ -130,8 +130,9 @@ impl Approach {
         }
     }
 
-    /// Goes on with what it is fed, by the refusals of a rule. It has ended with the image where
-    /// its look under the lock told a header that refuses nothing. It takes no memory.
+    /// Goes on with what it is fed. It has ended with the image where its look under the lock told
+    /// a header by which the rule refuses nothing. Refused with what the rule refuses at either
+    /// look, with NoImage by the answer `none`, and with Fenced by `fenced`. It takes no memory.
     pub fn feed<R: Refuses>(&mut self, rule: &R, fed: &Fed) -> Progress<ImageId>
         requires { CanBeFedAt self.old.stage self.old.name fed.now }
         ensures { (act : ℕ → HeaderView → Plan)

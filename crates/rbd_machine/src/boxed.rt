@@ -21,7 +21,8 @@ impl<M> Model for Boxed<M> {
 }
 
 impl<M: Machine + Drop> Boxed<M> {
-    /// The machine, moved into memory of its own. Refused memory, it is let go.
+    /// The machine, moved into memory of its own. NoMemory where that is refused; then the machine
+    /// is let go.
     pub fn new(alloc: Global, machine: M) -> Result<Self, NoMemory>
         ensures { IfOk result (λ boxed. boxed ≡ machine) }
     {

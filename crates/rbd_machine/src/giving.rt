@@ -5,9 +5,9 @@ ghost use Rattle.rbd_machine.specs.Answers as of_answers;
 
 use rbd_kinds::{Answer, ChildrenOp, DataOp, DirectoryOp, HeaderOp, JournalOp, MapOp, Op};
 
-/// Whether an operation can give this answer, whose header, if it shows one, is in form. For a
-/// caller who isn't the site itself: bytes, bits, frames and spans aren't judged, and an answer
-/// with one of them is declined.
+/// Whether an operation can give this answer, whose header, if it shows one, is in form. It is for
+/// a caller who isn't the site itself. Bytes, bits, frames and spans aren't judged: an answer with
+/// one of them is declined.
 #[tactic(auto, using(crate::proofs::Fed::plain_in_form))]
 pub fn can_give(op: &Op, answer: &Answer) -> bool
     requires { IsHeaderToldInForm answer.now }

@@ -6,7 +6,7 @@ ghost use Rattle.rbd_kinds.specs.declared.operation.Op.TheVariants.{Directory, H
 
 use rbd_kinds::{DirectoryOp, HeaderOp, ImageId, Name, NoMemory, Op, TryClone};
 
-/// Looks an image up by its name.
+/// Looks an image up by its name, which is copied. NoMemory where the memory for it is refused.
 pub fn dir_find(name: &Name) -> Result<Op, NoMemory>
     ensures { IfOk result (λ op. op ≡ Directory (Find name.now)) }
 {

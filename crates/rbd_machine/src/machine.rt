@@ -14,17 +14,16 @@ use std::alloc::Global;
 /// (etcd's raft is a core of this kind).
 ///
 /// ```text
-///        ┌──────────────────────────────────────────────────────────────┐
-///        ▼                                                              │
-///      wants ──Op──────▶ next ──▶ the operation is done ──answer──▶ ready, feed ──More──┐
-///        │                                                              ▲              │
-///        ├──Note───────▶ it is noted ───────────────────────────────────┤              │
-///        └──Join, Hold, Flow, Applied, Leave ──▶ it may go on ──Passed──┘     ┌─Done───┴──▶ its reply
+///   ┌───────────────────────────────────────────────────────────────┐
+///   ▼                                                               │ More
+/// wants ──Op──▶ next ──▶ its answer ──▶ ready ──▶ it is done ──▶ feed ──Done──▶ its reply
+///   │                                                               ▲
+///   └──Note, Join, Hold, Turn, Applied, Leave──▶ it may go on ──────┘ Passed
 /// ```
 ///
 /// Contracts see where it stands: the plan that is left. What it wants stays the same until it is
-/// fed. Once it is done it has no plan left, and nothing is said of it. So it isn't asked before
-/// what it wants, and a request that may be refused before any operation has a call that tells so.
+/// fed. Of a request that is done nothing is said: it may be asked for nothing any more. So a
+/// request that may be refused before any operation has a call of its own that tells so.
 pub trait Machine {
     /// What is left of the request.
     ghost stands: { Self → Standing };
@@ -37,7 +36,8 @@ pub trait Machine {
         requires { IsLive (stands self.now).plan }
         ensures { Wants (stands self.now).plan result };
 
-    /// The operation that it wants.
+    /// The operation that it wants. NoMemory where the memory for its names or bytes is refused;
+    /// it may be asked for again.
     fn next(&self, alloc: Global) -> Result<Op, NoMemory>
         requires { IsAsking (stands self.now).plan }
         ensures { IfOk result (Asks (stands self.now).plan) };
@@ -48,7 +48,8 @@ pub trait Machine {
         requires { IsAsking (stands self.now).plan }
         ensures { AsksBy (stands self.now).plan result };
 
-    /// Takes the memory for a feeding, and changes nothing else, also where it is refused.
+    /// Takes the memory for a feeding. What it wants stays the same. NoMemory where that memory is
+    /// refused; it may be called again.
     fn ready(&mut self, alloc: Global, fed: &Fed) -> Result<(), NoMemory>
         requires { CanBeFed (stands self.old).plan fed.now }
         ensures stands { stands self.new ≡ stands self.old }

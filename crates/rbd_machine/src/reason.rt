@@ -1,7 +1,6 @@
 //! Why a request asks for an operation.
 
-/// Why a request asks for an operation: what is told of the operation later, its cause among it,
-/// depends on this.
+/// Why a request asks for an operation. What the history tells of the operation depends on this.
 #[derive(Clone, Copy, PartialEq, Eq)]
 pub enum Reason {
     /// It is a step of the request's own.

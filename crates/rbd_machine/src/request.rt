@@ -46,12 +46,12 @@ pub trait Request: Machine + Drop {
     /// What its reply means, behind the operations that were done for it.
     ghost means: { Seat → Self.Work → List Answered → Reply → Type 0 };
 
-    /// The request of a session.
+    /// Makes the request of a work for a session. NoMemory where memory for it is refused.
     fn begin(alloc: Global, seat: &Seat, work: Self::Work) -> Result<Begun<Self>, NoMemory>
         requires { serves work }
         ensures { IfOk result (IsBegun (stands_for seat.now work) Self.stands) };
 
-    /// The extent that a work changes piece by piece. It takes no memory.
+    /// The extent that a work changes piece by piece, beside others. It takes no memory.
     fn extent(work: &Self::Work) -> Option<Extent>
         ensures { result ≡ extent_for work.now };
 

@@ -7,7 +7,8 @@ ghost use Rattle.rbd_kinds.specs.declared.answer.Answer.TheVariants.{Header};
 
 use rbd_kinds::{Answer, HeaderView, ImageId, Refusal, Role};
 
-/// The image that a name has, or why the request ends: it is fenced, or there is no such name.
+/// The image that a name has, or why the request ends: Fenced, or NoImage where there is no such
+/// name.
 pub fn told_image(answer: &Answer) -> Result<ImageId, Refusal>
     requires { TellsImage answer.now }
     ensures { (next : ℕ → Plan) → on_id next answer.now ≡ going next result }
@@ -18,7 +19,7 @@ pub fn told_image(answer: &Answer) -> Result<ImageId, Refusal>
     }
 }
 
-/// The header that an image has, or why the request ends: it is fenced, or there is no such image.
+/// The header that an image has, or why the request ends: Fenced, or NoImage where it has none.
 pub fn told_header(answer: &Answer) -> Result<&HeaderView, Refusal>
     requires { TellsHeader answer.now }
     ensures plan { (next : HeaderView → Plan) → on_header next answer.now ≡ going (λ h. next h.now) result }
@@ -30,7 +31,8 @@ pub fn told_header(answer: &Answer) -> Result<&HeaderView, Refusal>
     }
 }
 
-/// That a change was done, or why the request ends: it is fenced, or what it changes isn't there.
+/// That a change was done, or why the request ends: Fenced, or NoImage where what it changes isn't
+/// there.
 pub fn told_done(answer: &Answer) -> Result<(), Refusal>
     requires { TellsDone answer.now }
     ensures { (next : Plan) → on_done next answer.now ≡ going (λ done. next) result }
@@ -41,7 +43,7 @@ pub fn told_done(answer: &Answer) -> Result<(), Refusal>
     }
 }
 
-/// Why an answer ends a request: it is fenced, or what it looked for isn't there.
+/// Why an answer ends a request: Fenced by `fenced`, and NoImage by `none`.
 pub fn refusal_of(answer: &Answer) -> Refusal
     requires { EndsIt answer.now }
     ensures { not_there answer.now ≡ refused result }

@@ -10,7 +10,8 @@ ghost use Rattle.rbd_map.specs.Covers.{Covers};
 pub fn bits_and_states()
     ensures back { (states : List ℕ) → AreStates states → states_of (bits_of states) (length states) ≡ states }
 
-    ensures each { (states : List ℕ) (object : ℕ) → AreStates states → state_at (bits_of states) object ≡ slice_index states object }
+    ensures each { (states : List ℕ) (object : ℕ) → AreStates states
+        → state_at (bits_of states) object ≡ slice_index states object }
 
     ensures bytes { (states : List ℕ) → length (bits_of states) ≡ (length states + 3) / 4 }
 

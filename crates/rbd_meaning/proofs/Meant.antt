@@ -1,5 +1,5 @@
 -- What holds of every reply that is meant, command by command.
-use Rattle.std.proofs.Common.{◌≡◌, inl, inr, ℕ, List, [], ◌∷◌, ◌++◌, replicate, true, Option, Some, refl, ap, sym, subst, ◌∙◌}
+use Rattle.std.proofs.Common.{◌≡◌, inl, inr, ℕ, List, [], ◌∷◌, ◌++◌, replicate, ◌&&◌, true, Option, Some, None, is_some, refl, ap, sym, subst, ◌∙◌}
 use Rattle.rbd_kinds.specs.declared.answer.Answer.{Answer}
 use Rattle.rbd_kinds.specs.declared.answer.Answer.TheVariants as answer
 use Rattle.rbd_commands.specs.declared.command.Command.{Command}
@@ -20,7 +20,7 @@ use Rattle.rbd_machine.specs.Path.{Answered, looked_at}
 use Rattle.rbd_machine.specs.declared.seat.Seat.{Seat}
 use Rattle.rbd_machine.specs.Refused.{refusal_by, never, by_fence, IsRefusedBy, IsRefused}
 use Rattle.rbd_machine.specs.Steps.{or_else, non_primary}
-use Rattle.rbd_meaning.specs.Closes.{CloseMeans, QuiesceMeans, ResumeMeans, TellMeans}
+use Rattle.rbd_meaning.specs.Closes.{CloseMeans, QuiesceMeans}
 use Rattle.rbd_meaning.specs.Creates.{CreateMeans}
 use Rattle.rbd_meaning.specs.Discards.{DiscardMeans}
 use Rattle.rbd_meaning.specs.Listings.{ListMeans, InfoMeans, RenameMeans, SnapListMeans, UsedMeans}
@@ -33,6 +33,7 @@ use Rattle.rbd_meaning.specs.Replies.{may_answer}
 use Rattle.rbd_meaning.specs.Resizes.{resize_refuses, ResizeMeans}
 use Rattle.rbd_meaning.specs.Rollbacks.{rollback_refuses, RollbackMeans}
 use Rattle.rbd_meaning.specs.Snaps.{create_refuses, remove_refuses, SnapCreateMeans, SnapRemoveMeans}
+use Rattle.rbd_meaning.specs.Straight.{MeansStraight, Straight, name_of, straight_of}
 use Rattle.rbd_meaning.specs.Writes.{write_refuses, WriteMeans}
 use Rattle.rbd_meaning.proofs.Ends.{same_last}
 
@@ -123,15 +124,9 @@ quiesce_kind site name steps reply.Done meant = refl
 quiesce_kind site name steps (reply.Refused x) meant = refl
 quiesce_kind site name steps _ meant = absurd meant
 
-resume_kind : (site : SiteId) (name : List ℕ) (steps : List Answered) (r : Reply) → ResumeMeans site name steps r → may_answer (command.Resume name) r ≡ true
-resume_kind site name steps reply.Done meant = refl
-resume_kind site name steps (reply.Refused x) meant = refl
-resume_kind site name steps _ meant = absurd meant
-
-tell_kind : (site : SiteId) (name bytes : List ℕ) (steps : List Answered) (r : Reply) → TellMeans site name bytes steps r → may_answer (command.Tell name bytes) r ≡ true
-tell_kind site name bytes steps reply.Done meant = refl
-tell_kind site name bytes steps (reply.Refused x) meant = refl
-tell_kind site name bytes steps _ meant = absurd meant
+straight_kind : (site : SiteId) (o : Option Straight) (steps : List Answered) → MeansStraight site o steps reply.Done → (is_some o && true) ≡ true
+straight_kind site None steps meant = absurd meant
+straight_kind site (Some s) steps meant = refl
 
 pub meant_kind : (seat : Seat) (c : Command) (steps : List Answered) (r : Reply) → IsMeantBy seat c steps r → may_answer c r ≡ true
 meant_kind seat (command.Create name size shape) steps r meant = create_kind seat.home name size shape steps r meant.1
@@ -151,9 +146,9 @@ meant_kind seat (command.SnapRemove name snap) steps r meant = snap_remove_kind 
 meant_kind seat (command.SnapRollback name snap) steps r meant = rollback_kind seat.home name snap steps r meant
 meant_kind seat (command.Close name) steps r meant = close_kind seat.home name steps r meant
 meant_kind seat (command.Quiesce name) steps r meant = quiesce_kind seat.home name steps r meant
-meant_kind seat (command.Resume name) steps r meant = resume_kind seat.home name steps r meant
-meant_kind seat (command.Tell name bytes) steps r meant = tell_kind seat.home name bytes steps r meant
-meant_kind seat _ steps r meant = absurd meant
+meant_kind seat c steps reply.Done meant = straight_kind seat.home (straight_of c) steps meant
+meant_kind seat c steps (reply.Refused x) meant = refl
+meant_kind seat _ steps _ meant = absurd meant
 
 -- ---- behind no operation
 
@@ -250,15 +245,11 @@ quiesce_for_nothing site name reply.Done meant = let are = meant.are in cc
 quiesce_for_nothing site name (reply.Refused x) by = absurd (refused_by_one _ _ [] x refl by.by)
 quiesce_for_nothing site name _ meant = absurd meant
 
-resume_for_nothing : (site : SiteId) (name : List ℕ) (r : Reply) → ResumeMeans site name [] r → r ≡ reply.Refused refusal.BadShape
-resume_for_nothing site name reply.Done meant = let are = meant.are in cc
-resume_for_nothing site name (reply.Refused x) by = absurd (refused_by_one _ _ [] x refl by.by)
-resume_for_nothing site name _ meant = absurd meant
-
-tell_for_nothing : (site : SiteId) (name bytes : List ℕ) (r : Reply) → TellMeans site name bytes [] r → r ≡ reply.Refused refusal.BadShape
-tell_for_nothing site name bytes reply.Done meant = let are = meant.are in cc
-tell_for_nothing site name bytes (reply.Refused x) by = absurd (refused_by_one _ _ [] x refl by.by)
-tell_for_nothing site name bytes _ meant = absurd meant
+straight_for_nothing : (site : SiteId) (o : Option Straight) (r : Reply) → MeansStraight site o [] r → r ≡ reply.Refused refusal.BadShape
+straight_for_nothing site None r meant = absurd meant
+straight_for_nothing site (Some s) reply.Done meant = let are = meant.are in cc
+straight_for_nothing site (Some s) (reply.Refused x) by = absurd (refused_by_one _ _ [] x refl by.by)
+straight_for_nothing site (Some s) _ meant = absurd meant
 
 pub meant_for_nothing : (seat : Seat) (c : Command) (r : Reply) → IsMeantBy seat c [] r → r ≡ reply.Refused refusal.BadShape
 meant_for_nothing seat (command.Create name size shape) r meant = create_for_nothing seat.home name size shape r meant.1
@@ -278,9 +269,7 @@ meant_for_nothing seat (command.SnapRemove name snap) r meant = snap_remove_for_
 meant_for_nothing seat (command.SnapRollback name snap) r meant = rollback_for_nothing seat.home name snap r meant
 meant_for_nothing seat (command.Close name) r meant = close_for_nothing seat.home name r meant
 meant_for_nothing seat (command.Quiesce name) r meant = quiesce_for_nothing seat.home name r meant
-meant_for_nothing seat (command.Resume name) r meant = resume_for_nothing seat.home name r meant
-meant_for_nothing seat (command.Tell name bytes) r meant = tell_for_nothing seat.home name bytes r meant
-meant_for_nothing seat _ r meant = absurd meant
+meant_for_nothing seat c r meant = straight_for_nothing seat.home (straight_of c) r meant
 
 -- ---- a name that isn't there
 
@@ -324,6 +313,11 @@ one_pass site name snap e [] pass step see are = are
 one_pass site name snap e (p ∷ passes) pass step (sees, see) are =
     let longer = are ∙ ap (λ q. (q ++ steps_of_passes passes) ++ pass) sees.pass.are in cc
 
+straight_unknown : (site : SiteId) (o : Option Straight) (name : List ℕ) (step : Answered) → name_of o ≡ Some name → MeansStraight site o (step ∷ []) (reply.Refused refusal.NoImage)
+    → Unknown site step name
+straight_unknown site None name step is refused = absurd refused
+straight_unknown site (Some s) name step is refused = subst (Unknown site step) (named s.name name is) (unknown_name site s.name _ _ step refused)
+
 pub unknown_image : (seat : Seat) (c : Command) (name : List ℕ) (step : Answered) → looks_up c ≡ Some name → IsMeantBy seat c (step ∷ []) (reply.Refused refusal.NoImage)
     → step ≡ record { site = seat.home; op = look_up name; answer = answer.Absent }
 unknown_image seat (command.Write image at bytes) name step is refuses = subst (Unknown seat.home step) (named image name is) (unknown_name seat.home image _ _ step refuses.refused)
@@ -342,9 +336,10 @@ unknown_image seat (command.SnapRemove image snap) name step is refuses = subst 
 unknown_image seat (command.SnapRollback image snap) name step is refuses = subst (Unknown seat.home step) (named image name is) (unknown_name seat.home image _ _ step refuses.refused)
 unknown_image seat (command.Close image) name step is refused = subst (Unknown seat.home step) (named image name is) (unknown_name seat.home image _ _ step refused)
 unknown_image seat (command.Quiesce image) name step is refused = subst (Unknown seat.home step) (named image name is) (unknown_name seat.home image _ _ step refused)
-unknown_image seat (command.Resume image) name step is refused = subst (Unknown seat.home step) (named image name is) (unknown_name seat.home image _ _ step refused)
-unknown_image seat (command.Tell image bytes) name step is refused = subst (Unknown seat.home step) (named image name is) (unknown_name seat.home image _ _ step refused)
-unknown_image seat _ name step is refused = cc
+unknown_image seat (command.Create image size shape) name step is refused = cc
+unknown_image seat (command.Rename from to) name step is refused = cc
+unknown_image seat command.List name step is refused = cc
+unknown_image seat c name step is refused = straight_unknown seat.home (straight_of c) name step is refused
 
 -- ---- which refusal a look is refused by
 

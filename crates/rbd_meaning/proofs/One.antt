@@ -28,7 +28,7 @@ use Rattle.rbd_machine.specs.Path.{Answered, found, looked_at}
 use Rattle.rbd_machine.specs.declared.seat.Seat.{Seat}
 use Rattle.rbd_machine.specs.Refused.{refusal_by, AreAllowed, refuses_none, never, by_fence, IsRefusedBy, IsRefused}
 use Rattle.rbd_meaning.specs.Arrange.{bytes_of_extent}
-use Rattle.rbd_meaning.specs.Closes.{lock_dropped, release_told, watch_ended, bytes_told, ClosesBy, Closes, LooksTwice, Finds, Says, gone_or_fenced, CloseMeans, QuiesceMeans, ResumeMeans, TellMeans}
+use Rattle.rbd_meaning.specs.Closes.{lock_dropped, release_told, watch_ended, ClosesBy, Closes, LooksTwice, gone_or_fenced, CloseMeans, QuiesceMeans}
 use Rattle.rbd_meaning.specs.Creates.{CreateMeans, Makes, IsOutsideLimits, IsNotMade}
 use Rattle.rbd_meaning.specs.Discards.{DiscardMeans, DiscardsWhole, RefusesDiscard}
 use Rattle.rbd_meaning.specs.Listings.{names_told, renamed_to, shown_snaps, used_among, ListMeans, InfoMeans, RenameMeans, SnapListMeans, ShowsHeader, ShowsUsed, UsedMeans}
@@ -39,6 +39,7 @@ use Rattle.rbd_meaning.specs.Removals.{removal_refusal_by, RefusesRemovalOf, Rem
 use Rattle.rbd_meaning.specs.Resizes.{resize_refuses, RefusesResize, ResizeMeans, ResizesWhole}
 use Rattle.rbd_meaning.specs.Rollbacks.{rollback_refuses, RefusesRollback, RollbackMeans, RollsBack}
 use Rattle.rbd_meaning.specs.Snaps.{map_told, create_refuses, remove_refuses, map_removed, IsGone, TakesOne, RemovesOne, RefusesRemoval, SnapCreateMeans, SnapRemoveMeans}
+use Rattle.rbd_meaning.specs.Straight.{all_told, bytes_told, GoesStraight, MeansStraight, Straight, straight_of, StraightMeans}
 use Rattle.rbd_meaning.specs.Writes.{write_refuses, state_raised, piece_written, pieces_written, WritesWhole, RefusesWrite, WriteMeans}
 use Rattle.rbd_meaning.proofs.Counts.{one_count}
 use Rattle.rbd_meaning.proofs.Ends.{same_last, same_front}
@@ -362,7 +363,7 @@ module _ (site : SiteId) (name snap : List ℕ) (steps : List Answered) where
   one_remove : (r s : Reply) → SnapRemoveMeans site name snap steps r → SnapRemoveMeans site name snap steps s → r ≡ s
   one_remove r s one other = one_of _ _ (done_once _) remove_apart (λ x y a b. refused_alike (remove_refuses snap) by_fence steps x y a.refused.by b.refused.by) r s (remove_is r one) (remove_is s other)
 
--- ---- close, quiesce, resume, tell
+-- ---- close, quiesce
 
 -- the last step is one that refuses nothing
 record EndsUnrefused (steps : List Answered) : Type 0 where
@@ -421,28 +422,25 @@ module _ (site : SiteId) (name : List ℕ) (steps : List Answered) where
   one_quiesce : (r s : Reply) → QuiesceMeans site name steps r → QuiesceMeans site name steps s → r ≡ s
   one_quiesce r s one other = one_done site name never steps (LooksTwice site name steps) looks_unrefused r s (quiesce_is r one) (quiesce_is s other)
 
-  resume_is : (r : Reply) → ResumeMeans site name steps r → Is (DoneBy (Finds site name steps)) (IsRefused site (look_up name) refuses_none never steps) r
-  resume_is reply.Done meant = inl meant
-  resume_is (reply.Refused x) refused = inr (x, refl, refused)
-  resume_is _ meant = absurd meant
+-- ---- straight commands
 
-  find_unrefused : Finds site name steps → EndsUnrefused steps
-  find_unrefused f = record { front = []; last = found site name f.image; are = f.are; none = refl }
+module _ (site : SiteId) (s : Straight) (steps : List Answered) where
+  straight_is : (r : Reply) → StraightMeans site s steps r → Is (DoneBy (GoesStraight site s steps)) (IsRefused site (look_up s.name) refuses_none never steps) r
+  straight_is reply.Done meant = inl meant
+  straight_is (reply.Refused x) refused = inr (x, refl, refused)
+  straight_is _ meant = absurd meant
 
-  one_resume : (r s : Reply) → ResumeMeans site name steps r → ResumeMeans site name steps s → r ≡ s
-  one_resume r s one other = one_done site name never steps (Finds site name steps) find_unrefused r s (resume_is r one) (resume_is s other)
+  straight_unrefused : GoesStraight site s steps → EndsUnrefused steps
+  straight_unrefused goes = by s.tells goes.are
+    where
+      by : (o : Option (List ℕ)) → steps ≡ found site s.name goes.image ∷ all_told site goes.image o → EndsUnrefused steps
+      by None are = record { front = []; last = found site s.name goes.image; are = are; none = refl }
+      by (Some bytes) are = record { front = found site s.name goes.image ∷ []; last = bytes_told site goes.image bytes; are = are; none = refl }
 
-  module _ (bytes : List ℕ) where
-    tell_is : (r : Reply) → TellMeans site name bytes steps r → Is (DoneBy (Says site name bytes steps)) (IsRefused site (look_up name) refuses_none never steps) r
-    tell_is reply.Done meant = inl meant
-    tell_is (reply.Refused x) refused = inr (x, refl, refused)
-    tell_is _ meant = absurd meant
-
-    notice_unrefused : Says site name bytes steps → EndsUnrefused steps
-    notice_unrefused s = record { front = _ ∷ []; last = bytes_told site s.image bytes; are = s.are; none = refl }
-
-    one_tell : (r s : Reply) → TellMeans site name bytes steps r → TellMeans site name bytes steps s → r ≡ s
-    one_tell r s one other = one_done site name never steps (Says site name bytes steps) notice_unrefused r s (tell_is r one) (tell_is s other)
+one_straight : (site : SiteId) (o : Option Straight) (steps : List Answered) (r t : Reply) → MeansStraight site o steps r → MeansStraight site o steps t → r ≡ t
+one_straight site None steps r t one other = absurd one
+one_straight site (Some s) steps r t one other =
+    one_done site s.name never steps (GoesStraight site s steps) (straight_unrefused site s steps) r t (straight_is site s steps r one) (straight_is site s steps t other)
 
 -- ---- read: where its last pass begins
 
@@ -604,6 +602,4 @@ one_reply seat (command.SnapRemove name snap) steps r s one other = one_remove s
 one_reply seat (command.SnapRollback name snap) steps r s one other = one_rollback seat.home name steps snap r s one other
 one_reply seat (command.Close name) steps r s one other = one_close seat.home name steps r s one other
 one_reply seat (command.Quiesce name) steps r s one other = one_quiesce seat.home name steps r s one other
-one_reply seat (command.Resume name) steps r s one other = one_resume seat.home name steps r s one other
-one_reply seat (command.Tell name bytes) steps r s one other = one_tell seat.home name steps bytes r s one other
-one_reply seat _ steps r s one other = absurd one
+one_reply seat c steps r s one other = one_straight seat.home (straight_of c) steps r s one other

@@ -1,5 +1,5 @@
 -- Refusals change nothing.
-use Rattle.std.proofs.Common.{◌≡◌, ◌⊎◌, inl, inr, ℕ, List, [], ◌∷◌, ◌++◌, true, false, Option, Some, refl, ap, sym, subst}
+use Rattle.std.proofs.Common.{◌≡◌, ◌⊎◌, inl, inr, ℕ, List, [], ◌∷◌, ◌++◌, true, false, Option, Some, None, refl, ap, sym, subst}
 use Rattle.rbd_kinds.specs.declared.answer.Answer.{Answer}
 use Rattle.rbd_kinds.specs.declared.answer.Answer.TheVariants as answer
 use Rattle.rbd_commands.specs.declared.command.Command.{Command}
@@ -24,6 +24,7 @@ use Rattle.rbd_machine.specs.Refused.{by_fence, refusal_by, only_looks, AreLooks
 use Rattle.rbd_meaning.specs.Meant.{IsMeantBy}
 use Rattle.rbd_meaning.specs.Reads.{AreRead, IsPassTo, SeeOthers, RefusedAtLast}
 use Rattle.rbd_meaning.specs.Removals.{image_removal_refuses, removal_refusal_by, RefusesRemovalOf}
+use Rattle.rbd_meaning.specs.Straight.{MeansStraight, Straight, straight_of}
 use Rattle.rbd_meaning.specs.Undone.{ComesLate, lets_go, tells_undone, ChangeNothing}
 
 -- those of two stretches
@@ -125,6 +126,12 @@ removal_changes_nothing site session image steps x refuses not_late =
     subst ChangeNothing (sym refuses.are)
     (nothing_after refuses.before (refuses.last ∷ []) (looks_change_nothing refuses.before (refuses.unchanged not_late)) (removal_undone session x refuses.last.op refuses.last.answer refuses.refused, tt))
 
+-- ---- straight commands
+
+straight_changes_nothing : (site : SiteId) (o : Option Straight) (steps : List Answered) (x : Refusal) → MeansStraight site o steps (reply.Refused x) → ChangeNothing steps
+straight_changes_nothing site None steps x meant = absurd meant
+straight_changes_nothing site (Some s) steps x refused = refused_changes_nothing _ _ x steps refused.by (λ late. late)
+
 -- ---- all commands
 
 pub meant_changes_nothing : (seat : Seat) (c : Command) (steps : List Answered) (x : Refusal) → IsMeantBy seat c steps (reply.Refused x) → (ComesLate c x → ⊥) → ChangeNothing steps
@@ -146,9 +153,7 @@ meant_changes_nothing seat (command.SnapRemove image snap) steps x refuses not_l
 meant_changes_nothing seat (command.SnapRollback image snap) steps x refuses not_late = refused_changes_nothing _ _ x steps refuses.refused.by not_late
 meant_changes_nothing seat (command.Close image) steps x by not_late = refused_changes_nothing _ _ x steps by.by not_late
 meant_changes_nothing seat (command.Quiesce image) steps x by not_late = refused_changes_nothing _ _ x steps by.by not_late
-meant_changes_nothing seat (command.Resume image) steps x by not_late = refused_changes_nothing _ _ x steps by.by not_late
-meant_changes_nothing seat (command.Tell image bytes) steps x by not_late = refused_changes_nothing _ _ x steps by.by not_late
-meant_changes_nothing seat _ steps x meant not_late = absurd meant
+meant_changes_nothing seat c steps x meant not_late = straight_changes_nothing seat.home (straight_of c) steps x meant
 
 -- but for the fence, whatever the command is that drops no lock
 pub meant_unless_fenced : (seat : Seat) (c : Command) (steps : List Answered) (x : Refusal) → lets_go c ≡ false → IsMeantBy seat c steps (reply.Refused x) → (x ≡ refusal.Fenced → ⊥) → ChangeNothing steps

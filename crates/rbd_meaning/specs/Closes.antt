@@ -1,5 +1,4 @@
--- `close`, `quiesce`, `resume` and `tell`: what has been done when one is done, and what their
--- replies mean.
+-- `close` and `quiesce`: what has been done when one is done, and what their replies mean.
 use Rattle.std.specs.Prelude.{◌≡◌, ℕ, List, [], ◌∷◌}
 use Rattle.rbd_kinds.specs.declared.answer.Answer.{Answer}
 use Rattle.rbd_kinds.specs.declared.answer.Answer.TheVariants as answer
@@ -30,10 +29,6 @@ release_told site image = record { site = site; op = op.Header image (header.Not
 abbrev pub watch_ended : SiteId → (image : ℕ) → Answered
 watch_ended site image = record { site = site; op = op.Header image header.Unwatch; answer = answer.Done }
 
--- the watchers were told what a client has to tell
-abbrev pub bytes_told : SiteId → (image : ℕ) → (bytes : List ℕ) → Answered
-bytes_told site image bytes = record { site = site; op = op.Header image (header.Notify (notice.Custom bytes)); answer = answer.Done }
-
 -- ---- what has been done when they are done
 
 -- The lock was dropped and told of, or wasn't its own; and then the watch was let go.
@@ -56,14 +51,6 @@ pub record LooksTwice (site : SiteId) (name : List ℕ) (steps : List Answered) 
   pub own : HeaderView
   pub are : steps ≡ found site name image ∷ looked_at site image first ∷ looked_at site image own ∷ []
 
-pub record Finds (site : SiteId) (name : List ℕ) (steps : List Answered) : Type 0 where
-  pub image : ℕ
-  pub are : steps ≡ found site name image ∷ []
-
-pub record Says (site : SiteId) (name bytes : List ℕ) (steps : List Answered) : Type 0 where
-  pub image : ℕ
-  pub are : steps ≡ found site name image ∷ bytes_told site image bytes ∷ []
-
 -- ---- what their replies mean
 
 -- Behind its drop a close may still find the image gone, or be fenced.
@@ -81,13 +68,3 @@ abbrev pub QuiesceMeans : SiteId → (image : List ℕ) → List Answered → Re
 QuiesceMeans site image steps reply.Done = LooksTwice site image steps
 QuiesceMeans site image steps (reply.Refused x) = IsRefused site (look_up image) refuses_none never steps x
 QuiesceMeans site image steps _ = ⊥
-
-abbrev pub ResumeMeans : SiteId → (image : List ℕ) → List Answered → Reply → Type 0
-ResumeMeans site image steps reply.Done = Finds site image steps
-ResumeMeans site image steps (reply.Refused x) = IsRefused site (look_up image) refuses_none never steps x
-ResumeMeans site image steps _ = ⊥
-
-abbrev pub TellMeans : SiteId → (image bytes : List ℕ) → List Answered → Reply → Type 0
-TellMeans site image bytes steps reply.Done = Says site image bytes steps
-TellMeans site image bytes steps (reply.Refused x) = IsRefused site (look_up image) refuses_none never steps x
-TellMeans site image bytes steps _ = ⊥

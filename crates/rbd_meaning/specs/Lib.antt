@@ -17,3 +17,4 @@ pub mod Discards
 pub mod Resizes
 pub mod Rollbacks
 pub mod Removals
+pub mod Straight

@@ -1,7 +1,8 @@
 -- The name that a command looks up.
-use Rattle.std.specs.Prelude.{ℕ, List, Option, Some, None}
+use Rattle.std.specs.Prelude.{ℕ, List, Option, Some}
 use Rattle.rbd_commands.specs.declared.command.Command.{Command}
 use Rattle.rbd_commands.specs.declared.command.Command.TheVariants as command
+use Rattle.rbd_meaning.specs.Straight.{name_of, straight_of}
 
 abbrev pub looks_up : Command → Option (List ℕ)
 looks_up (command.Write image at bytes) = Some image
@@ -18,6 +19,4 @@ looks_up (command.SnapRemove image snap) = Some image
 looks_up (command.SnapRollback image snap) = Some image
 looks_up (command.Close image) = Some image
 looks_up (command.Quiesce image) = Some image
-looks_up (command.Resume image) = Some image
-looks_up (command.Tell image bytes) = Some image
-looks_up _ = None
+looks_up c = name_of (straight_of c)

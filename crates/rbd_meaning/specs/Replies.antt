@@ -1,9 +1,10 @@
 -- The kinds of reply that a command may have.
-use Rattle.std.specs.Prelude.{Bool, true, false}
+use Rattle.std.specs.Prelude.{◌&&◌, Bool, true, false, is_some}
 use Rattle.rbd_commands.specs.declared.command.Command.{Command}
 use Rattle.rbd_commands.specs.declared.command.Command.TheVariants as command
 use Rattle.rbd_kinds.specs.declared.reply.Reply.{Reply}
 use Rattle.rbd_kinds.specs.declared.reply.Reply.TheVariants as reply
+use Rattle.rbd_meaning.specs.Straight.{straight_of}
 
 abbrev pub is_done : Reply → Bool
 is_done reply.Done = true
@@ -28,9 +29,7 @@ grants (command.SnapRemove image snap) r = is_done r
 grants (command.SnapRollback image snap) r = is_done r
 grants (command.Close image) r = is_done r
 grants (command.Quiesce image) r = is_done r
-grants (command.Resume image) r = is_done r
-grants (command.Tell image bytes) r = is_done r
-grants _ _ = false
+grants c r = is_some (straight_of c) && is_done r
 
 -- any command may be refused
 abbrev pub may_answer : Command → Reply → Bool

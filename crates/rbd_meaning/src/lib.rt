@@ -43,8 +43,7 @@
 //! | `snap rollback` | Done: two looks, the size was set to that of the snapshot which the second lists under the name, and each object of the head became what it was at the snapshot |
 //! | `close` | Done: the image's lock was dropped and its watchers were told so, or it wasn't the client's; then its watch was let go |
 //! | `quiesce` | Done: two looks, the second under the lock |
-//! | `resume` | Done: the image was found |
-//! | `tell` | Done: the image's watchers were told the bytes |
+//! | a straight command (`straight_of`) | Done: the image was found, and its watchers were told the bytes, if there are any |
 //!
 //! A refusal is that of the last answer (`refusal_by` in `rbd_machine`, and for `rm`
 //! `removal_refusal_by`): the first that holds there, in the order in which the command's
@@ -73,6 +72,7 @@
 //! | `specs/Range.antt` | the bytes that a command is about, and the refusal of those that aren't there |
 //! | `specs/Arrange.antt` | bytes that were read object by object, in the order of the image |
 //! | `specs/Writes.antt`, `specs/Reads.antt`, `specs/Creates.antt`, `specs/Listings.antt`, `specs/Snaps.antt`, `specs/Closes.antt` | of each command, what a header refuses, what has been done or is shown, and what each reply means |
+//! | `specs/Straight.antt` | the rows of the straight commands, and what their replies mean |
 //! | `specs/Discards.antt`, `specs/Resizes.antt`, `specs/Rollbacks.antt`, `specs/Removals.antt` | the same of the changes that have many operations |
 //! | `specs/Partly.antt`, `specs/Parentless.antt` | the front of a whole change; answers that tell no parent |
 //! | `specs/Meant.antt` | `IsMeantBy`: all commands that are served |

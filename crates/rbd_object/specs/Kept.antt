@@ -46,4 +46,5 @@ AreUsed versions = IsTrue (list_all is_needed versions)
 -- what a version is kept for, no older one is
 abbrev pub AreNewest : List Kept → Type 0
 AreNewest [] = Unit {0}
-AreNewest (v ∷ versions) = ((snap : ℕ) → IsTrue (is_listed v.snaps snap) → map.get (kept_by versions) snap ≡ None) × AreNewest versions
+AreNewest (v ∷ versions) = ((snap : ℕ) → IsTrue (is_listed v.snaps snap) → map.get (kept_by versions) snap ≡ None)
+    × AreNewest versions

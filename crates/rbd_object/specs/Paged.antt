@@ -16,7 +16,8 @@ pub record Paged : Type 0 where
 
 abbrev pub paged_code : Coded Paged
 paged_code =
-    code_by (Mapped × (ℕ × (ℕ × (ℕ × ℕ)))) (coded× mapped_code (coded× coded_ℕ (coded× coded_ℕ (coded× coded_ℕ coded_ℕ))))
+    code_by (Mapped × (ℕ × (ℕ × (ℕ × ℕ))))
+    (coded× mapped_code (coded× coded_ℕ (coded× coded_ℕ (coded× coded_ℕ coded_ℕ))))
     (λ o. (o.shown, (o.pages, (o.sheaves, (o.page_places, o.sheaf_places)))))
     (λ p. record { shown = p.0; pages = p.1.0; sheaves = p.1.1.0; page_places = p.1.1.1.0; sheaf_places = p.1.1.1.1 })
     (λ _. refl)

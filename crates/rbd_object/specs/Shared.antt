@@ -75,7 +75,8 @@ abbrev pub bytes_of : Stock → Option Listed → Option (List ℕ)
 bytes_of stock head = option_map (listed_bytes stock) head
 
 -- A head was changed, and the old one kept where that was wanted.
-pub record KeepsHead (wanted : Bool) (old : Stock) (head : Option Listed) (new : Stock) (after kept : Option Listed) : Type 0 where
+pub record KeepsHead (wanted : Bool) (old : Stock) (head : Option Listed) (new : Stock)
+    (after kept : Option Listed) : Type 0 where
   pub exchanged : Exchanged old (sheaves_of head) new (sheaves_of after ++ sheaves_of kept)
   pub head_is : IsHead new after
   pub kept_is : IsHead new kept
@@ -85,7 +86,8 @@ pub record KeepsHead (wanted : Bool) (old : Stock) (head : Option Listed) (new :
 -- before it
 abbrev pub written_touch : (len : ℕ) → List Part → ℕ
 written_touch len [] = 0
-written_touch len (p ∷ parts) = touched (min len p.offset) (p.offset + p.len) + written_touch (max len (p.offset + p.len)) parts
+written_touch len (p ∷ parts) = touched (min len p.offset) (p.offset + p.len) + written_touch
+    (max len (p.offset + p.len)) parts
 
 -- how many pages parts touch
 abbrev pub zeroed_touch : List Part → ℕ
@@ -108,7 +110,8 @@ zeroed_sheaves (p ∷ parts) = sheaves_touched p.offset (p.offset + p.len) + zer
 abbrev pub view_in : (head : Option Listed) → (seq : ℕ) → List Stored → Option ℕ → Option Listed
 view_in head seq versions None = head
 view_in head seq versions (Some snap) =
-    if nat_lt seq snap then head else option_map (λ (v : Stored). v.content) (find (λ (v : Stored). is_listed v.snaps snap) versions)
+    if nat_lt seq snap then head else option_map (λ (v : Stored). v.content)
+    (find (λ (v : Stored). is_listed v.snaps snap) versions)
 
 -- a head that is there
 abbrev pub begun_head : Option Listed → Option Listed

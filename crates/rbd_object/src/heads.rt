@@ -34,7 +34,8 @@ pub fn change(
     ensures err { OnErr result (KeepsHead false sheaves.old head.old sheaves.new head.new None) }
     ensures same { OnErr result (bytes_of sheaves.new head.new ≡ bytes_of sheaves.old head.old) }
     ensures used { in_use sheaves.new.sheets ≤ in_use sheaves.old.sheets + pages_taken change.entry (len_of head.old) }
-    ensures grown { Grown (pages_taken change.entry (len_of head.old)) (sheaves_taken change.entry (len_of head.old)) sheaves.old sheaves.new }
+    ensures grown { Grown (pages_taken change.entry (len_of head.old))
+        (sheaves_taken change.entry (len_of head.old)) sheaves.old sheaves.new }
 {
     match change {
         ObjectChange::Write(at, bytes) => write(alloc, sheaves, head, wanted, at, bytes),
@@ -81,10 +82,12 @@ fn write(
     requires counted { AreCounted sheaves.old.sheaves (sheaves_of head.old) }
     requires content { IsHead sheaves.old head.old }
     ensures ok { IfOk result (λ kept. KeepsHead wanted sheaves.old head.old sheaves.new head.new kept) }
-    ensures bytes { OnOk result (bytes_of sheaves.new head.new ≡ Some (overwritten (unwrap_or (bytes_of sheaves.old head.old) []) at bytes.now)) }
+    ensures bytes { OnOk result (bytes_of sheaves.new head.new
+        ≡ Some (overwritten (unwrap_or (bytes_of sheaves.old head.old) []) at bytes.now)) }
     ensures err { OnErr result (KeepsHead false sheaves.old head.old sheaves.new head.new None) }
     ensures same { OnErr result (bytes_of sheaves.new head.new ≡ bytes_of sheaves.old head.old) }
-    ensures used { in_use sheaves.new.sheets ≤ in_use sheaves.old.sheets + touched (min (len_of head.old) at) (at + length bytes.now) }
+    ensures used { in_use sheaves.new.sheets ≤ in_use sheaves.old.sheets + touched (min (len_of head.old) at)
+        (at + length bytes.now) }
     ensures grown { Grown (touched (min (len_of head.old) at) (at + length bytes.now))
         (sheaves_touched (min (len_of head.old) at) (at + length bytes.now)) sheaves.old sheaves.new }
 {
@@ -109,7 +112,8 @@ fn zero(
     requires counted { AreCounted sheaves.old.sheaves (sheaves_of head.old) }
     requires content { IsHead sheaves.old head.old }
     ensures ok { IfOk result (λ kept. KeepsHead wanted sheaves.old head.old sheaves.new head.new kept) }
-    ensures bytes { OnOk result (bytes_of sheaves.new head.new ≡ option_map (λ held. zeroed held at len) (bytes_of sheaves.old head.old)) }
+    ensures bytes { OnOk result (bytes_of sheaves.new head.new ≡ option_map (λ held. zeroed held at len)
+        (bytes_of sheaves.old head.old)) }
     ensures err { OnErr result (KeepsHead false sheaves.old head.old sheaves.new head.new None) }
     ensures same { OnErr result (bytes_of sheaves.new head.new ≡ bytes_of sheaves.old head.old) }
     ensures used { in_use sheaves.new.sheets ≤ in_use sheaves.old.sheets + touched at (at + len) }
@@ -140,11 +144,13 @@ fn write_parts(
     requires counted { AreCounted sheaves.old.sheaves (sheaves_of head.old) }
     requires content { IsHead sheaves.old head.old }
     ensures ok { IfOk result (λ kept. KeepsHead wanted sheaves.old head.old sheaves.new head.new kept) }
-    ensures bytes { OnOk result (bytes_of sheaves.new head.new ≡ Some (parts_written parts.now bytes.now (unwrap_or (bytes_of sheaves.old head.old) []))) }
+    ensures bytes { OnOk result (bytes_of sheaves.new head.new
+        ≡ Some (parts_written parts.now bytes.now (unwrap_or (bytes_of sheaves.old head.old) []))) }
     ensures err { OnErr result (KeepsHead false sheaves.old head.old sheaves.new head.new None) }
     ensures same { OnErr result (bytes_of sheaves.new head.new ≡ bytes_of sheaves.old head.old) }
     ensures used { in_use sheaves.new.sheets ≤ in_use sheaves.old.sheets + written_touch (len_of head.old) parts.now }
-    ensures grown { Grown (written_touch (len_of head.old) parts.now) (written_sheaves (len_of head.old) parts.now) sheaves.old sheaves.new }
+    ensures grown { Grown (written_touch (len_of head.old) parts.now)
+        (written_sheaves (len_of head.old) parts.now) sheaves.old sheaves.new }
 {
     match parts {
         [part] => write(alloc, sheaves, head, wanted, part.offset, bytes),
@@ -166,11 +172,13 @@ fn write_several(
     requires counted { AreCounted sheaves.old.sheaves (sheaves_of head.old) }
     requires content { IsHead sheaves.old head.old }
     ensures ok { IfOk result (λ kept. KeepsHead wanted sheaves.old head.old sheaves.new head.new kept) }
-    ensures bytes { OnOk result (bytes_of sheaves.new head.new ≡ Some (parts_written parts.now bytes.now (unwrap_or (bytes_of sheaves.old head.old) []))) }
+    ensures bytes { OnOk result (bytes_of sheaves.new head.new
+        ≡ Some (parts_written parts.now bytes.now (unwrap_or (bytes_of sheaves.old head.old) []))) }
     ensures err { OnErr result (KeepsHead false sheaves.old head.old sheaves.new head.new None) }
     ensures same { OnErr result (bytes_of sheaves.new head.new ≡ bytes_of sheaves.old head.old) }
     ensures used { in_use sheaves.new.sheets ≤ in_use sheaves.old.sheets + written_touch (len_of head.old) parts.now }
-    ensures grown { Grown (written_touch (len_of head.old) parts.now) (written_sheaves (len_of head.old) parts.now) sheaves.old sheaves.new }
+    ensures grown { Grown (written_touch (len_of head.old) parts.now)
+        (written_sheaves (len_of head.old) parts.now) sheaves.old sheaves.new }
 {
     let before = share(sheaves, head, true)?;
     match write_each(alloc, sheaves, head, parts, bytes) {
@@ -193,7 +201,8 @@ fn zero_parts(
     requires counted { AreCounted sheaves.old.sheaves (sheaves_of head.old) }
     requires content { IsHead sheaves.old head.old }
     ensures ok { IfOk result (λ kept. KeepsHead wanted sheaves.old head.old sheaves.new head.new kept) }
-    ensures bytes { OnOk result (bytes_of sheaves.new head.new ≡ option_map (parts_zeroed parts.now) (bytes_of sheaves.old head.old)) }
+    ensures bytes { OnOk result (bytes_of sheaves.new head.new ≡ option_map (parts_zeroed parts.now)
+        (bytes_of sheaves.old head.old)) }
     ensures err { OnErr result (KeepsHead false sheaves.old head.old sheaves.new head.new None) }
     ensures same { OnErr result (bytes_of sheaves.new head.new ≡ bytes_of sheaves.old head.old) }
     ensures used { in_use sheaves.new.sheets ≤ in_use sheaves.old.sheets + zeroed_touch parts.now }
@@ -215,7 +224,8 @@ fn zero_several(
     requires counted { AreCounted sheaves.old.sheaves (sheaves_of head.old) }
     requires content { IsHead sheaves.old head.old }
     ensures ok { IfOk result (λ kept. KeepsHead wanted sheaves.old head.old sheaves.new head.new kept) }
-    ensures bytes { OnOk result (bytes_of sheaves.new head.new ≡ option_map (parts_zeroed parts.now) (bytes_of sheaves.old head.old)) }
+    ensures bytes { OnOk result (bytes_of sheaves.new head.new ≡ option_map (parts_zeroed parts.now)
+        (bytes_of sheaves.old head.old)) }
     ensures err { OnErr result (KeepsHead false sheaves.old head.old sheaves.new head.new None) }
     ensures same { OnErr result (bytes_of sheaves.new head.new ≡ bytes_of sheaves.old head.old) }
     ensures used { in_use sheaves.new.sheets ≤ in_use sheaves.old.sheets + zeroed_touch parts.now }
@@ -262,9 +272,11 @@ fn write_each(
     requires content { IsHead sheaves.old head.old }
     ensures exchanged { Exchanged sheaves.old (sheaves_of head.old) sheaves.new (sheaves_of head.new) }
     ensures content { IsHead sheaves.new head.new }
-    ensures ok { OnOk result (bytes_of sheaves.new head.new ≡ Some (parts_written parts.now bytes.now (unwrap_or (bytes_of sheaves.old head.old) []))) }
+    ensures ok { OnOk result (bytes_of sheaves.new head.new
+        ≡ Some (parts_written parts.now bytes.now (unwrap_or (bytes_of sheaves.old head.old) []))) }
     ensures used { in_use sheaves.new.sheets ≤ in_use sheaves.old.sheets + written_touch (len_of head.old) parts.now }
-    ensures grown { Grown (written_touch (len_of head.old) parts.now) (written_sheaves (len_of head.old) parts.now) sheaves.old sheaves.new }
+    ensures grown { Grown (written_touch (len_of head.old) parts.now)
+        (written_sheaves (len_of head.old) parts.now) sheaves.old sheaves.new }
 {
     begin(alloc, head);
     let mut rest = bytes;
@@ -294,7 +306,8 @@ fn zero_each(
     requires content { IsHead sheaves.old head.old }
     ensures exchanged { Exchanged sheaves.old (sheaves_of head.old) sheaves.new (sheaves_of head.new) }
     ensures content { IsHead sheaves.new head.new }
-    ensures ok { OnOk result (bytes_of sheaves.new head.new ≡ option_map (parts_zeroed parts.now) (bytes_of sheaves.old head.old)) }
+    ensures ok { OnOk result (bytes_of sheaves.new head.new ≡ option_map (parts_zeroed parts.now)
+        (bytes_of sheaves.old head.old)) }
     ensures used { in_use sheaves.new.sheets ≤ in_use sheaves.old.sheets + zeroed_touch parts.now }
     ensures grown { Grown (zeroed_touch parts.now) (zeroed_sheaves parts.now) sheaves.old sheaves.new }
 {
@@ -320,7 +333,8 @@ pub fn write_full(
     ensures err { OnErr result (KeepsHead false sheaves.old head.old sheaves.new head.new None) }
     ensures same { OnErr result (bytes_of sheaves.new head.new ≡ bytes_of sheaves.old head.old) }
     ensures used { in_use sheaves.new.sheets ≤ in_use sheaves.old.sheets + pages_for (length bytes.now) }
-    ensures grown { Grown (pages_for (length bytes.now)) (sheaves_for (pages_for (length bytes.now))) sheaves.old sheaves.new }
+    ensures grown { Grown (pages_for (length bytes.now))
+        (sheaves_for (pages_for (length bytes.now))) sheaves.old sheaves.new }
 {
     let content = filled(alloc, sheaves, bytes)?;
     Ok(replace(sheaves, head, wanted, Some(content)))
@@ -337,7 +351,8 @@ fn replace(
     requires content { IsHead sheaves.old head.old }
     requires next { IsHead sheaves.old next }
     ensures head { head.new ≡ next }
-    ensures exchanged { Exchanged sheaves.old (sheaves_of head.old ++ sheaves_of next) sheaves.new (sheaves_of next ++ sheaves_of result) }
+    ensures exchanged { Exchanged sheaves.old (sheaves_of head.old ++ sheaves_of next) sheaves.new
+        (sheaves_of next ++ sheaves_of result) }
     ensures head_is { IsHead sheaves.new next }
     ensures next_bytes { bytes_of sheaves.new next ≡ bytes_of sheaves.old next }
     ensures kept_is { IsHead sheaves.new result }
@@ -366,7 +381,8 @@ pub fn fill(
     ensures bytes { OnOk result (bytes_of sheaves.new head.new ≡ Some bytes.now) }
     ensures err { OnErr result (head.new ≡ None) }
     ensures used { in_use sheaves.new.sheets ≤ in_use sheaves.old.sheets + pages_for (length bytes.now) }
-    ensures grown { Grown (pages_for (length bytes.now)) (sheaves_for (pages_for (length bytes.now))) sheaves.old sheaves.new }
+    ensures grown { Grown (pages_for (length bytes.now))
+        (sheaves_for (pages_for (length bytes.now))) sheaves.old sheaves.new }
 {
     *head = Some(filled(alloc, sheaves, bytes)?);
     Ok(())
@@ -380,7 +396,8 @@ fn filled(alloc: Global, sheaves: &mut Sheaves, bytes: &[u8]) -> Result<Content,
     ensures bytes { IfOk result (λ content. listed_bytes sheaves.new content ≡ bytes.now) }
     ensures err { OnErr result (Exchanged sheaves.old [] sheaves.new []) }
     ensures used { in_use sheaves.new.sheets ≤ in_use sheaves.old.sheets + pages_for (length bytes.now) }
-    ensures grown { Grown (pages_for (length bytes.now)) (sheaves_for (pages_for (length bytes.now))) sheaves.old sheaves.new }
+    ensures grown { Grown (pages_for (length bytes.now))
+        (sheaves_for (pages_for (length bytes.now))) sheaves.old sheaves.new }
 {
     let mut content = Content::new(alloc);
     content.write(sheaves, 0, bytes)?;
@@ -430,9 +447,11 @@ fn write_head(
     requires content { IsHead sheaves.old head.old }
     ensures exchanged { Exchanged sheaves.old (sheaves_of head.old) sheaves.new (sheaves_of head.new) }
     ensures content { IsHead sheaves.new head.new }
-    ensures ok { OnOk result (bytes_of sheaves.new head.new ≡ Some (overwritten (unwrap_or (bytes_of sheaves.old head.old) []) at bytes.now)) }
+    ensures ok { OnOk result (bytes_of sheaves.new head.new
+        ≡ Some (overwritten (unwrap_or (bytes_of sheaves.old head.old) []) at bytes.now)) }
     ensures err { OnErr result (bytes_of sheaves.new head.new ≡ bytes_of sheaves.old head.old) }
-    ensures used { in_use sheaves.new.sheets ≤ in_use sheaves.old.sheets + touched (min (len_of head.old) at) (at + length bytes.now) }
+    ensures used { in_use sheaves.new.sheets ≤ in_use sheaves.old.sheets + touched (min (len_of head.old) at)
+        (at + length bytes.now) }
     ensures grown { Grown (touched (min (len_of head.old) at) (at + length bytes.now))
         (sheaves_touched (min (len_of head.old) at) (at + length bytes.now)) sheaves.old sheaves.new }
 {
@@ -457,7 +476,8 @@ fn zero_head(
     requires content { IsHead sheaves.old head.old }
     ensures exchanged { Exchanged sheaves.old (sheaves_of head.old) sheaves.new (sheaves_of head.new) }
     ensures content { IsHead sheaves.new head.new }
-    ensures ok { OnOk result (bytes_of sheaves.new head.new ≡ option_map (λ held. zeroed held at len) (bytes_of sheaves.old head.old)) }
+    ensures ok { OnOk result (bytes_of sheaves.new head.new ≡ option_map (λ held. zeroed held at len)
+        (bytes_of sheaves.old head.old)) }
     ensures err { OnErr result (bytes_of sheaves.new head.new ≡ bytes_of sheaves.old head.old) }
     ensures used { in_use sheaves.new.sheets ≤ in_use sheaves.old.sheets + touched at (at + len) }
     ensures grown { Grown (touched at (at + len)) (sheaves_touched at (at + len)) sheaves.old sheaves.new }

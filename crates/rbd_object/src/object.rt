@@ -43,8 +43,10 @@ impl Object {
     /// How many pages its contents lie on, each counted once: at least those of the longest one,
     /// and none where no content has a byte. It takes no memory.
     pub fn pages(&self) -> u64
-        ensures longest { (snap : Option ℕ) (bytes : List ℕ) → view (versioned self.now) snap ≡ Some bytes → pages_for (length bytes) ≤ result }
-        ensures none { ((snap : Option ℕ) (bytes : List ℕ) → view (versioned self.now) snap ≡ Some bytes → bytes ≡ []) → result ≡ 0 }
+        ensures longest { (snap : Option ℕ) (bytes : List ℕ) → view (versioned self.now) snap ≡ Some bytes
+            → pages_for (length bytes) ≤ result }
+        ensures none { ((snap : Option ℕ) (bytes : List ℕ) → view (versioned self.now) snap ≡ Some bytes → bytes ≡ [])
+            → result ≡ 0 }
     {
         self.paged.pages()
     }
@@ -62,7 +64,8 @@ impl Object {
     /// then the buffer stays. It takes no memory.
     pub fn read(&self, snap: Option<SnapId>, at: u64, into: &mut [u8]) -> bool
         ensures shown { IsTrue result ↔ IsSome (view (versioned self.now) snap) }
-        ensures bytes { IfSome (view (versioned self.now) snap) (λ bytes. into.new ≡ window bytes at (length into.old)) }
+        ensures bytes { IfSome (view (versioned self.now) snap)
+            (λ bytes. into.new ≡ window bytes at (length into.old)) }
         ensures absent { view (versioned self.now) snap ≡ None → into.new ≡ into.old }
     {
         self.paged.read(snap, at, into)

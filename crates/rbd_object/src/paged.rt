@@ -67,8 +67,10 @@ impl PagedObject {
     /// no content has a byte. It takes no memory.
     pub fn pages(&self) -> u64
         ensures count { result ≡ self.now.pages }
-        ensures longest { (snap : Option ℕ) (bytes : List ℕ) → view (versioned self.now.shown) snap ≡ Some bytes → pages_for (length bytes) ≤ result }
-        ensures none { ((snap : Option ℕ) (bytes : List ℕ) → view (versioned self.now.shown) snap ≡ Some bytes → bytes ≡ []) → result ≡ 0 }
+        ensures longest { (snap : Option ℕ) (bytes : List ℕ) → view (versioned self.now.shown) snap ≡ Some bytes
+            → pages_for (length bytes) ≤ result }
+        ensures none { ((snap : Option ℕ) (bytes : List ℕ) → view (versioned self.now.shown) snap ≡ Some bytes
+            → bytes ≡ []) → result ≡ 0 }
     {
         u64::from(self.sheaves.used())
     }
@@ -109,7 +111,8 @@ impl PagedObject {
     /// then the buffer stays. It takes no memory.
     pub fn read(&self, snap: Option<SnapId>, at: u64, into: &mut [u8]) -> bool
         ensures shown { IsTrue result ↔ IsSome (view (versioned self.now.shown) snap) }
-        ensures bytes { IfSome (view (versioned self.now.shown) snap) (λ bytes. into.new ≡ window bytes at (length into.old)) }
+        ensures bytes { IfSome (view (versioned self.now.shown) snap)
+            (λ bytes. into.new ≡ window bytes at (length into.old)) }
         ensures absent { view (versioned self.now.shown) snap ≡ None → into.new ≡ into.old }
     {
         match shown(&self.head, self.seq, &self.versions, snap) {
@@ -143,9 +146,11 @@ impl PagedObject {
         ensures ok { let head = overwritten (unwrap_or self.old.shown.head []) at bytes.now in
             OnOk result (self.new.shown ≡ mapped_change context.now (Some head) self.old.shown) }
         ensures err { OnErr result (self.new.shown ≡ self.old.shown) }
-        ensures pages { self.new.pages ≤ self.old.pages + touched (min (length (unwrap_or self.old.shown.head [])) at) (at + length bytes.now) }
+        ensures pages { self.new.pages ≤ self.old.pages + touched (min (length (unwrap_or self.old.shown.head [])) at)
+            (at + length bytes.now) }
         ensures places { let len = length (unwrap_or self.old.shown.head []) in
-            KeepsPlaces (touched (min len at) (at + length bytes.now)) (sheaves_touched (min len at) (at + length bytes.now)) self.old self.new }
+            KeepsPlaces (touched (min len at) (at + length bytes.now))
+            (sheaves_touched (min len at) (at + length bytes.now)) self.old self.new }
     {
         self.change(context, ObjectChange::Write(at, bytes))
     }
@@ -162,7 +167,8 @@ impl PagedObject {
         ensures ok { let head = parts_written parts.now bytes.now (unwrap_or self.old.shown.head []) in
             OnOk result (self.new.shown ≡ mapped_change context.now (Some head) self.old.shown) }
         ensures err { OnErr result (self.new.shown ≡ self.old.shown) }
-        ensures pages { self.new.pages ≤ self.old.pages + written_touch (length (unwrap_or self.old.shown.head [])) parts.now }
+        ensures pages { self.new.pages ≤ self.old.pages + written_touch
+            (length (unwrap_or self.old.shown.head [])) parts.now }
         ensures places { let len = length (unwrap_or self.old.shown.head []) in
             KeepsPlaces (written_touch len parts.now) (written_sheaves len parts.now) self.old self.new }
     {
@@ -175,7 +181,8 @@ impl PagedObject {
         ensures ok { OnOk result (self.new.shown ≡ mapped_change context.now (Some bytes.now) self.old.shown) }
         ensures err { OnErr result (self.new.shown ≡ self.old.shown) }
         ensures pages { self.new.pages ≤ self.old.pages + pages_for (length bytes.now) }
-        ensures places { KeepsPlaces (pages_for (length bytes.now)) (sheaves_for (pages_for (length bytes.now))) self.old self.new }
+        ensures places { KeepsPlaces (pages_for (length bytes.now))
+            (sheaves_for (pages_for (length bytes.now))) self.old self.new }
     {
         self.change(context, ObjectChange::WriteFull(bytes))
     }
@@ -230,7 +237,8 @@ impl PagedObject {
         ensures ok { OnOk result (self.new.shown ≡ mapped_copy_up bytes.now self.old.shown) }
         ensures err { OnErr result (self.new.shown ≡ self.old.shown) }
         ensures pages { self.new.pages ≤ self.old.pages + pages_for (length bytes.now) }
-        ensures places { KeepsPlaces (pages_for (length bytes.now)) (sheaves_for (pages_for (length bytes.now))) self.old self.new }
+        ensures places { KeepsPlaces (pages_for (length bytes.now))
+            (sheaves_for (pages_for (length bytes.now))) self.old self.new }
     {
         if self.head.is_some() {
             return Ok(false);
@@ -259,9 +267,11 @@ impl PagedObject {
     /// first.
     fn change(&mut self, context: &SnapContext, change: ObjectChange) -> Result<(), NoMemory>
         requires { FitsObject change }
-        ensures ok { OnOk result (self.new.shown ≡ mapped_change context.now (after change.entry self.old.shown.head) self.old.shown) }
+        ensures ok { OnOk result (self.new.shown ≡ mapped_change context.now
+            (after change.entry self.old.shown.head) self.old.shown) }
         ensures err { OnErr result (self.new.shown ≡ self.old.shown) }
-        ensures pages { self.new.pages ≤ self.old.pages + pages_taken change.entry (length (unwrap_or self.old.shown.head [])) }
+        ensures pages { self.new.pages ≤ self.old.pages + pages_taken change.entry
+            (length (unwrap_or self.old.shown.head [])) }
         ensures places { let len = length (unwrap_or self.old.shown.head []) in
             KeepsPlaces (pages_taken change.entry len) (sheaves_taken change.entry len) self.old self.new }
     {

@@ -22,7 +22,8 @@ fn version_for(versions: &VecDeque<Version>, snap: SnapId) -> Option<&Version>
 
 /// What is kept for a snapshot.
 pub fn kept_for(versions: &VecDeque<Version>, snap: SnapId) -> Option<&Content>
-    ensures { option_copied result ≡ option_map (λ v. v.content) (find (λ v. is_listed v.snaps snap) versions.now.items) }
+    ensures { option_copied result ≡ option_map (λ v. v.content)
+        (find (λ v. is_listed v.snaps snap) versions.now.items) }
 {
     match version_for(versions, snap) {
         Some(version) => Some(version.content()),
@@ -75,7 +76,8 @@ pub fn keep_live(versions: &mut VecDeque<Version>, live: &[SnapId])
 /// Lets the sheaves of versions go that are kept for no live snapshot.
 pub fn let_go(versions: &VecDeque<Version>, sheaves: &mut Sheaves, live: &[SnapId])
     requires { AreNamed sheaves.old versions.now.items }
-    ensures counts { (s : ℕ) → count_at sheaves.new.sheaves s + dead_named live.now s versions.now.items ≡ count_at sheaves.old.sheaves s }
+    ensures counts { (s : ℕ) → count_at sheaves.new.sheaves s + dead_named live.now s versions.now.items
+        ≡ count_at sheaves.old.sheaves s }
     ensures kept { (s : ℕ) → 0 < count_at sheaves.new.sheaves s → IsSame sheaves.old sheaves.new s }
     ensures used { in_use sheaves.new.sheets ≤ in_use sheaves.old.sheets }
     ensures places { NoneTaken sheaves.old sheaves.new }
@@ -87,7 +89,8 @@ pub fn let_go(versions: &VecDeque<Version>, sheaves: &mut Sheaves, live: &[SnapI
 
 fn let_go_of(version: &Version, sheaves: &mut Sheaves, live: &[SnapId])
     requires { AreCounted sheaves.old.sheaves version.now.content.sheaves }
-    ensures counts { (s : ℕ) → count_at sheaves.new.sheaves s + dead_sheaves live.now s version.now ≡ count_at sheaves.old.sheaves s }
+    ensures counts { (s : ℕ) → count_at sheaves.new.sheaves s + dead_sheaves live.now s version.now
+        ≡ count_at sheaves.old.sheaves s }
     ensures kept { (s : ℕ) → 0 < count_at sheaves.new.sheaves s → IsSame sheaves.old sheaves.new s }
     ensures used { in_use sheaves.new.sheets ≤ in_use sheaves.old.sheets }
     ensures places { NoneTaken sheaves.old sheaves.new }

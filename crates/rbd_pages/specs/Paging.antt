@@ -64,10 +64,12 @@ pub record IsWritten (pages : List ℕ) (at : ℕ) (bytes : List ℕ) (old new :
   pub changed : IsChanged pages old new
   pub bytes_are : (i : ℕ) → byte_on_pages new pages i
       ≡ (if is_within at (length bytes) i then slice_index bytes (i - at) else byte_on_pages old pages i)
-  pub rest : (page : ℕ) → ((j : ℕ) → j < length bytes → slice_index pages ((at + j) / PAGE) ≢ page) → sheet_at new page ≡ sheet_at old page
+  pub rest : (page : ℕ) → ((j : ℕ) → j < length bytes → slice_index pages ((at + j) / PAGE) ≢ page)
+      → sheet_at new page ≡ sheet_at old page
 
 -- `len` bytes from byte `at` on were made zero
 pub record IsZeroed (pages : List ℕ) (at len : ℕ) (old new : List Sheet) : Type 0 where
   pub changed : IsChanged pages old new
   pub bytes_are : (i : ℕ) → byte_on_pages new pages i ≡ (if is_within at len i then 0 else byte_on_pages old pages i)
-  pub rest : (page : ℕ) → ((j : ℕ) → j < len → slice_index pages ((at + j) / PAGE) ≢ page) → sheet_at new page ≡ sheet_at old page
+  pub rest : (page : ℕ) → ((j : ℕ) → j < len → slice_index pages ((at + j) / PAGE) ≢ page)
+      → sheet_at new page ≡ sheet_at old page

@@ -42,7 +42,8 @@ pub record AreFull (sheaves : List Sheet) (list : List ℕ) : Type 0 where
 -- a sheaf has the same pages, and each the same bytes
 pub record IsSame (old new : Stock) (s : ℕ) : Type 0 where
   pub pages : bytes_at new.sheaves s ≡ bytes_at old.sheaves s
-  pub bytes : (page : ℕ) → 0 < occurs page (bytes_at old.sheaves s) → bytes_at new.sheets page ≡ bytes_at old.sheets page
+  pub bytes : (page : ℕ) → 0 < occurs page (bytes_at old.sheaves s)
+      → bytes_at new.sheets page ≡ bytes_at old.sheets page
 
 -- One list of sheaves became another. Each count follows it, and sheaves that others name are the
 -- same.

@@ -27,7 +27,8 @@ fn own_page(list: &[u32], sheaves: &[Sheaf], arena: &Arena, k: usize) -> Option<
     requires full { AreFull sheaves.now list.now }
     requires counted { AreCounted arena.now (pages_in sheaves.now list.now) }
     ensures page { IfSome result (λ page. page ≡ slice_index (pages_in sheaves.now list.now) k) }
-    ensures own { IfSome result (λ _. (byte : ℕ) → IsOwnPage (record { sheaves = sheaves.now; sheets = arena.now }) list.now k byte) }
+    ensures own { IfSome result (λ _. (byte : ℕ)
+        → IsOwnPage (record { sheaves = sheaves.now; sheets = arena.now }) list.now k byte) }
 {
     if k / SHEAF >= list.len() {
         return None;
@@ -59,7 +60,8 @@ pub fn put_in_place(
     requires full { AreFull sheaves.now list.now }
     requires counted { AreCounted arena.old (pages_in sheaves.now list.now) }
     requires within { at + length bytes.now ≤ LARGEST_OBJECT }
-    ensures own { IsTrue result → IsOnOwn (record { sheaves = sheaves.now; sheets = arena.old }) list.now at (length bytes.now) }
+    ensures own { IsTrue result → IsOnOwn (record { sheaves = sheaves.now; sheets = arena.old }) list.now at
+        (length bytes.now) }
     ensures written { IsTrue result → IsWritten (pages_in sheaves.now list.now) at bytes.now arena.old arena.new }
     ensures same { result ≡ false → arena.new ≡ arena.old }
 {
@@ -84,7 +86,8 @@ pub fn put(list: &[u32], sheaves: &[Sheaf], arena: &mut Arena, at: usize, bytes:
     requires full { AreFull sheaves.now list.now }
     requires counted { AreCounted arena.old (pages_in sheaves.now list.now) }
     requires within { at + length bytes.now ≤ LARGEST_OBJECT }
-    requires ready { (j : ℕ) → j < length bytes.now → IsPageReady arena.old (pages_in sheaves.now list.now) ((at + j) / PAGE) (slice_index bytes.now j) }
+    requires ready { (j : ℕ) → j < length bytes.now
+        → IsPageReady arena.old (pages_in sheaves.now list.now) ((at + j) / PAGE) (slice_index bytes.now j) }
     ensures { IsWritten (pages_in sheaves.now list.now) at bytes.now arena.old arena.new }
 {
     let mut next = at;
@@ -124,7 +127,8 @@ pub fn read(list: &[u32], sheaves: &[Sheaf], arena: &Arena, at: usize, into: &mu
     requires counted { AreCounted arena.now (pages_in sheaves.now list.now) }
     requires within { at ≤ LARGEST_OBJECT }
     ensures len { length into.new ≡ length into.old }
-    ensures bytes { (j : ℕ) → j < length into.old → slice_index into.new j ≡ byte_on_pages arena.now (pages_in sheaves.now list.now) (at + j) }
+    ensures bytes { (j : ℕ) → j < length into.old
+        → slice_index into.new j ≡ byte_on_pages arena.now (pages_in sheaves.now list.now) (at + j) }
 {
     let mut done = 0;
     while done < into.len() {

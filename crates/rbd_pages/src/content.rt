@@ -115,7 +115,8 @@ impl Content {
     ) -> Result<(), NoMemory>
         requires counted { AreCounted sheaves.now.sheaves self.now.sheaves }
         requires content { IsContent sheaves.now self.now }
-        ensures { OnOk result (read.new.items ≡ read.old.items ++ window (listed_bytes sheaves.now self.now) part.now.offset part.now.len) }
+        ensures { OnOk result (read.new.items ≡ read.old.items
+            ++ window (listed_bytes sheaves.now self.now) part.now.offset part.now.len) }
     {
         let start = read.len();
         let Some(end) = start.checked_add(part.len as usize) else {
@@ -134,10 +135,13 @@ impl Content {
         requires content { IsContent sheaves.old self.old }
         ensures exchanged { Exchanged sheaves.old self.old.sheaves sheaves.new self.new.sheaves }
         ensures content { IsContent sheaves.new self.new }
-        ensures ok { OnOk result (listed_bytes sheaves.new self.new ≡ overwritten (listed_bytes sheaves.old self.old) at bytes.now) }
+        ensures ok { OnOk result (listed_bytes sheaves.new self.new
+            ≡ overwritten (listed_bytes sheaves.old self.old) at bytes.now) }
         ensures err { OnErr result (listed_bytes sheaves.new self.new ≡ listed_bytes sheaves.old self.old) }
-        ensures used { in_use sheaves.new.sheets ≤ in_use sheaves.old.sheets + touched (min self.old.len at) (at + length bytes.now) }
-        ensures grown { Grown (touched (min self.old.len at) (at + length bytes.now)) (sheaves_touched (min self.old.len at) (at + length bytes.now))
+        ensures used { in_use sheaves.new.sheets ≤ in_use sheaves.old.sheets + touched (min self.old.len at)
+            (at + length bytes.now) }
+        ensures grown { Grown (touched (min self.old.len at) (at + length bytes.now))
+            (sheaves_touched (min self.old.len at) (at + length bytes.now))
             sheaves.old sheaves.new }
     {
         if self.write_in_place(sheaves, at, bytes) {
@@ -154,7 +158,8 @@ impl Content {
         requires content { IsContent sheaves.old self.old }
         ensures exchanged { Exchanged sheaves.old self.old.sheaves sheaves.new self.new.sheaves }
         ensures content { IsContent sheaves.new self.new }
-        ensures done { IsTrue result → listed_bytes sheaves.new self.new ≡ overwritten (listed_bytes sheaves.old self.old) at bytes.now }
+        ensures done { IsTrue result → listed_bytes sheaves.new self.new
+            ≡ overwritten (listed_bytes sheaves.old self.old) at bytes.now }
         ensures same { result ≡ false → self.new ≡ self.old }
         ensures sheaves { result ≡ false → sheaves.new ≡ sheaves.old }
         ensures used { in_use sheaves.new.sheets ≡ in_use sheaves.old.sheets }
@@ -182,10 +187,13 @@ impl Content {
         requires content { IsContent sheaves.old self.old }
         ensures exchanged { Exchanged sheaves.old self.old.sheaves sheaves.new self.new.sheaves }
         ensures content { IsContent sheaves.new self.new }
-        ensures ok { OnOk result (listed_bytes sheaves.new self.new ≡ overwritten (listed_bytes sheaves.old self.old) at bytes.now) }
+        ensures ok { OnOk result (listed_bytes sheaves.new self.new
+            ≡ overwritten (listed_bytes sheaves.old self.old) at bytes.now) }
         ensures err { OnErr result (listed_bytes sheaves.new self.new ≡ listed_bytes sheaves.old self.old) }
-        ensures used { in_use sheaves.new.sheets ≤ in_use sheaves.old.sheets + touched (min self.old.len at) (at + length bytes.now) }
-        ensures grown { Grown (touched (min self.old.len at) (at + length bytes.now)) (sheaves_touched (min self.old.len at) (at + length bytes.now))
+        ensures used { in_use sheaves.new.sheets ≤ in_use sheaves.old.sheets + touched (min self.old.len at)
+            (at + length bytes.now) }
+        ensures grown { Grown (touched (min self.old.len at) (at + length bytes.now))
+            (sheaves_touched (min self.old.len at) (at + length bytes.now))
             sheaves.old sheaves.new }
     {
         let at = at as usize;
@@ -204,7 +212,8 @@ impl Content {
         requires content { IsContent sheaves.old self.old }
         ensures exchanged { Exchanged sheaves.old self.old.sheaves sheaves.new self.new.sheaves }
         ensures content { IsContent sheaves.new self.new }
-        ensures ok { OnOk result (listed_bytes sheaves.new self.new ≡ zeroed (listed_bytes sheaves.old self.old) at len) }
+        ensures ok { OnOk result (listed_bytes sheaves.new self.new
+            ≡ zeroed (listed_bytes sheaves.old self.old) at len) }
         ensures err { OnErr result (listed_bytes sheaves.new self.new ≡ listed_bytes sheaves.old self.old) }
         ensures used { in_use sheaves.new.sheets ≤ in_use sheaves.old.sheets + touched at (at + len) }
         ensures grown { Grown (touched at (at + len)) (sheaves_touched at (at + len)) sheaves.old sheaves.new }
@@ -234,16 +243,19 @@ impl Content {
         requires content { IsContent sheaves.old self.old }
         ensures same { self.new.len ≡ self.old.len }
         ensures prepared { OnOk result (ArePagesPrepared sheaves.old self.old.sheaves sheaves.new self.new.sheaves) }
-        ensures held { OnOk result (length self.new.sheaves ≡ max (length self.old.sheaves) (sheaves_for (pages_for (at + len)))) }
+        ensures held { OnOk result (length self.new.sheaves ≡ max (length self.old.sheaves)
+            (sheaves_for (pages_for (at + len)))) }
         ensures long { OnOk result (pages_for (at + len) ≤ length (pages_on sheaves.new self.new)) }
-        ensures ready { OnOk result ((j : ℕ) → j < len → IsOwnPage sheaves.new self.new.sheaves ((at + j) / PAGE) (slice_index bytes.now j)) }
+        ensures ready { OnOk result ((j : ℕ) → j < len → IsOwnPage sheaves.new self.new.sheaves ((at + j) / PAGE)
+            (slice_index bytes.now j)) }
         ensures exchanged { OnErr result (Exchanged sheaves.old self.old.sheaves sheaves.new self.new.sheaves) }
         ensures content { OnErr result (IsContent sheaves.new self.new) }
         ensures err { OnErr result (listed_bytes sheaves.new self.new ≡ listed_bytes sheaves.old self.old) }
         ensures used { in_use sheaves.new.sheets + min (pages_for self.old.len) (at / PAGE)
             ≤ in_use sheaves.old.sheets + max (min (pages_for self.old.len) (at / PAGE)) (pages_for (at + len)) }
         ensures grown { Grown (pages_for (at + len) - min (pages_for self.old.len) (at / PAGE))
-            (sheaves_between (min (pages_for self.old.len) (at / PAGE)) (pages_for (at + len))) sheaves.old sheaves.new }
+            (sheaves_between (min (pages_for self.old.len) (at / PAGE)) (pages_for (at + len))) sheaves.old
+            sheaves.new }
     {
         let held = lists::pages_for(self.len);
         match lists::prepare(&mut self.list, sheaves, held, at, len, bytes) {

@@ -34,10 +34,13 @@ pub fn prepare(
     ensures prepared { ArePagesPrepared sheaves.old list.old.items sheaves.new list.new.items }
     ensures used { in_use sheaves.new.sheets + min held (at / PAGE)
         ≤ in_use sheaves.old.sheets + max (min held (at / PAGE)) (pages_for (at + len)) }
-    ensures len { OnOk result (length list.new.items ≡ max (length list.old.items) (sheaves_for (pages_for (at + len)))) }
+    ensures len { OnOk result (length list.new.items ≡ max (length list.old.items)
+        (sheaves_for (pages_for (at + len)))) }
     ensures long { OnOk result (pages_for (at + len) ≤ length (pages_in sheaves.new.sheaves list.new.items)) }
-    ensures ready { OnOk result ((j : ℕ) → j < len → IsOwnPage sheaves.new list.new.items ((at + j) / PAGE) (slice_index bytes.now j)) }
-    ensures grown { Grown (pages_for (at + len) - min held (at / PAGE)) (sheaves_between (min held (at / PAGE)) (pages_for (at + len)))
+    ensures ready { OnOk result ((j : ℕ) → j < len
+        → IsOwnPage sheaves.new list.new.items ((at + j) / PAGE) (slice_index bytes.now j)) }
+    ensures grown { Grown (pages_for (at + len) - min held (at / PAGE))
+        (sheaves_between (min held (at / PAGE)) (pages_for (at + len)))
         sheaves.old sheaves.new }
 {
     sheaves.reserve(pages_for(at + len).saturating_sub(held))?;
@@ -61,10 +64,13 @@ fn prepare_each(
     ensures prepared { ArePagesPrepared sheaves.old list.old.items sheaves.new list.new.items }
     ensures used { in_use sheaves.new.sheets + min held (at / PAGE)
         ≤ in_use sheaves.old.sheets + max (min held (at / PAGE)) (pages_for (at + len)) }
-    ensures len { OnOk result (length list.new.items ≡ max (length list.old.items) (sheaves_for (pages_for (at + len)))) }
+    ensures len { OnOk result (length list.new.items ≡ max (length list.old.items)
+        (sheaves_for (pages_for (at + len)))) }
     ensures long { OnOk result (pages_for (at + len) ≤ length (pages_in sheaves.new.sheaves list.new.items)) }
-    ensures ready { OnOk result ((j : ℕ) → j < len → IsOwnPage sheaves.new list.new.items ((at + j) / PAGE) (slice_index bytes.now j)) }
-    ensures grown { Grown (pages_for (at + len) - min held (at / PAGE)) (sheaves_between (min held (at / PAGE)) (pages_for (at + len)))
+    ensures ready { OnOk result ((j : ℕ) → j < len
+        → IsOwnPage sheaves.new list.new.items ((at + j) / PAGE) (slice_index bytes.now j)) }
+    ensures grown { Grown (pages_for (at + len) - min held (at / PAGE))
+        (sheaves_between (min held (at / PAGE)) (pages_for (at + len)))
         sheaves.old sheaves.new }
 {
     let first = held.min(at / PAGE);
@@ -127,7 +133,8 @@ fn prepare_page(
     ensures prepared { ArePagesPrepared sheaves.old list.old.items sheaves.new list.new.items }
     ensures len { OnOk result (length list.new.items ≡ max (length list.old.items) (k / SHEAF + 1)) }
     ensures long { OnOk result (k + 1 ≤ length (pages_in sheaves.new.sheaves list.new.items)) }
-    ensures ready { (byte : ℕ) → (byte ≢ 0 → IsTrue stored) → OnOk result (IsOwnPage sheaves.new list.new.items k byte) }
+    ensures ready { (byte : ℕ) → (byte ≢ 0 → IsTrue stored)
+        → OnOk result (IsOwnPage sheaves.new list.new.items k byte) }
     ensures used { in_use sheaves.new.sheets ≤ in_use sheaves.old.sheets + 1 }
     ensures grown { Grown 1 (taken_at sheaves.old.sheaves list.old.items (k / SHEAF)) sheaves.old sheaves.new }
 {
@@ -187,7 +194,8 @@ fn extend(list: &mut Vec<u32>, sheaves: &mut Sheaves, room: usize) -> Result<(),
     ensures prepared { ArePagesPrepared sheaves.old list.old.items sheaves.new list.new.items }
     ensures same { pages_in sheaves.new.sheaves list.new.items ≡ pages_in sheaves.old.sheaves list.old.items }
     ensures len { OnOk result (length list.new.items ≡ length list.old.items + 1) }
-    ensures alone { OnOk result (count_at sheaves.new.sheaves (slice_index list.new.items (length list.old.items)) ≡ 1) }
+    ensures alone { OnOk result (count_at sheaves.new.sheaves (slice_index list.new.items (length list.old.items))
+        ≡ 1) }
     ensures used { in_use sheaves.new.sheets ≤ in_use sheaves.old.sheets }
     ensures grown { Grown 0 1 sheaves.old sheaves.new }
 {

@@ -165,7 +165,8 @@ impl Page {
         requires { at + len ≤ PAGE }
         ensures count { self.new.count ≡ self.old.count }
         ensures len { length self.new.bytes ≡ length self.old.bytes }
-        ensures bytes { (k : ℕ) → slice_index self.new.bytes k ≡ (if is_within at len k then 0 else slice_index self.old.bytes k) }
+        ensures bytes { (k : ℕ) → slice_index self.new.bytes k
+            ≡ (if is_within at len k then 0 else slice_index self.old.bytes k) }
     {
         if self.bytes.is_empty() {
             return;

@@ -20,7 +20,8 @@ pub fn prepare_page(
     ensures prepared { Prepared arena.old pages.old.items arena.new pages.new.items }
     ensures len { OnOk result (length pages.new.items ≡ max (length pages.old.items) (k + 1)) }
     ensures most { length pages.new.items ≤ max (length pages.old.items) (k + 1) }
-    ensures ready { (byte : ℕ) → (byte ≢ 0 → IsTrue stored) → OnOk result (IsPageReady arena.new pages.new.items k byte) }
+    ensures ready { (byte : ℕ) → (byte ≢ 0 → IsTrue stored)
+        → OnOk result (IsPageReady arena.new pages.new.items k byte) }
     ensures used { in_use arena.new ≤ in_use arena.old + 1 }
     ensures places { KeepsMost arena.old arena.new }
 {

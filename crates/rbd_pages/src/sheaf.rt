@@ -131,7 +131,8 @@ impl Sheaf {
         ensures prepared { Prepared arena.old self.old.bytes arena.new self.new.bytes }
         ensures len { OnOk result (length self.new.bytes ≡ max (length self.old.bytes) (k + 1)) }
         ensures most { length self.new.bytes ≤ max (length self.old.bytes) (k + 1) }
-        ensures ready { (byte : ℕ) → (byte ≢ 0 → IsTrue stored) → OnOk result (IsPageReady arena.new self.new.bytes k byte) }
+        ensures ready { (byte : ℕ) → (byte ≢ 0 → IsTrue stored)
+            → OnOk result (IsPageReady arena.new self.new.bytes k byte) }
         ensures used { in_use arena.new ≤ in_use arena.old + 1 }
         ensures places { KeepsMost arena.old arena.new }
     {

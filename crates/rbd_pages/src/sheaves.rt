@@ -111,10 +111,12 @@ impl Sheaves {
         requires { 0 < count_at self.old.sheaves index }
         ensures free { IfOk result (λ s. count_at self.old.sheaves s ≡ 0) }
         ensures changed { IfOk result (λ s. Changed s self.old.sheaves self.new.sheaves) }
-        ensures sheaf { IfOk result (λ s. sheet_at self.new.sheaves s ≡ record { count = 1; bytes = bytes_at self.old.sheaves index }) }
+        ensures sheaf { IfOk result (λ s. sheet_at self.new.sheaves s
+            ≡ record { count = 1; bytes = bytes_at self.old.sheaves index }) }
         ensures counts { OnOk result ((page : ℕ) → count_at self.new.sheets page
             ≡ count_at self.old.sheets page + occurs page (bytes_at self.old.sheaves index)) }
-        ensures bytes { (page : ℕ) → 0 < count_at self.old.sheets page → bytes_at self.new.sheets page ≡ bytes_at self.old.sheets page }
+        ensures bytes { (page : ℕ) → 0 < count_at self.old.sheets page
+            → bytes_at self.new.sheets page ≡ bytes_at self.old.sheets page }
         ensures used { in_use self.new.sheets ≤ in_use self.old.sheets }
         ensures places { TakesFreeFirst self.old.sheaves self.new.sheaves }
         ensures err { OnErr result (self.new.sheaves ≡ self.old.sheaves) }
@@ -168,10 +170,14 @@ impl Sheaves {
         requires near { k ≤ length (bytes_at self.old.sheaves index) }
         ensures changed { Changed index self.old.sheaves self.new.sheaves }
         ensures count { count_at self.new.sheaves index ≡ 1 }
-        ensures prepared { Prepared self.old.sheets (bytes_at self.old.sheaves index) self.new.sheets (bytes_at self.new.sheaves index) }
-        ensures len { OnOk result (length (bytes_at self.new.sheaves index) ≡ max (length (bytes_at self.old.sheaves index)) (k + 1)) }
-        ensures most { length (bytes_at self.new.sheaves index) ≤ max (length (bytes_at self.old.sheaves index)) (k + 1) }
-        ensures ready { (byte : ℕ) → (byte ≢ 0 → IsTrue stored) → OnOk result (IsPageReady self.new.sheets (bytes_at self.new.sheaves index) k byte) }
+        ensures prepared { Prepared self.old.sheets (bytes_at self.old.sheaves index) self.new.sheets
+            (bytes_at self.new.sheaves index) }
+        ensures len { OnOk result (length (bytes_at self.new.sheaves index)
+            ≡ max (length (bytes_at self.old.sheaves index)) (k + 1)) }
+        ensures most { length (bytes_at self.new.sheaves index) ≤ max (length (bytes_at self.old.sheaves index))
+            (k + 1) }
+        ensures ready { (byte : ℕ) → (byte ≢ 0 → IsTrue stored)
+            → OnOk result (IsPageReady self.new.sheets (bytes_at self.new.sheaves index) k byte) }
         ensures others { (s : ℕ) → s ≢ index → IsSame self.old self.new s }
         ensures used { in_use self.new.sheets ≤ in_use self.old.sheets + 1 }
         ensures stocked { AreStocked self.old }
@@ -190,7 +196,8 @@ impl Sheaves {
         requires within { at + length bytes.now ≤ LARGEST_OBJECT }
         ensures own { IsTrue result → IsOnOwn self.old list.now at (length bytes.now) }
         ensures sheaves { self.new.sheaves ≡ self.old.sheaves }
-        ensures written { IsTrue result → IsWritten (pages_in self.old.sheaves list.now) at bytes.now self.old.sheets self.new.sheets }
+        ensures written { IsTrue result
+            → IsWritten (pages_in self.old.sheaves list.now) at bytes.now self.old.sheets self.new.sheets }
         ensures same { result ≡ false → self.new ≡ self.old }
         ensures stocked { AreStocked self.old }
     {
@@ -204,7 +211,8 @@ impl Sheaves {
         requires full { AreFull self.old.sheaves list.now }
         requires within { at + length bytes.now ≤ LARGEST_OBJECT }
         requires ready { (j : ℕ) → j < length bytes.now
-            → IsPageReady self.old.sheets (pages_in self.old.sheaves list.now) ((at + j) / PAGE) (slice_index bytes.now j) }
+            → IsPageReady self.old.sheets (pages_in self.old.sheaves list.now) ((at + j) / PAGE)
+            (slice_index bytes.now j) }
         ensures sheaves { self.new.sheaves ≡ self.old.sheaves }
         ensures written { IsWritten (pages_in self.old.sheaves list.now) at bytes.now self.old.sheets self.new.sheets }
         ensures stocked { AreStocked self.old }
@@ -218,7 +226,8 @@ impl Sheaves {
         requires apart { AreApart (pages_in self.old.sheaves list.now) }
         requires full { AreFull self.old.sheaves list.now }
         requires within { at + len ≤ LARGEST_OBJECT }
-        requires ready { (j : ℕ) → j < len → IsPageReady self.old.sheets (pages_in self.old.sheaves list.now) ((at + j) / PAGE) 0 }
+        requires ready { (j : ℕ) → j < len → IsPageReady self.old.sheets (pages_in self.old.sheaves list.now)
+            ((at + j) / PAGE) 0 }
         ensures sheaves { self.new.sheaves ≡ self.old.sheaves }
         ensures zeroed { IsZeroed (pages_in self.old.sheaves list.now) at len self.old.sheets self.new.sheets }
         ensures stocked { AreStocked self.old }

@@ -25,7 +25,8 @@ parts_of (p ∷ parts) bytes = window bytes p.offset p.len ++ parts_of parts byt
 -- a head with the bytes put into the parts, one part after another
 abbrev pub parts_written : List Part → (bytes head : List ℕ) → List ℕ
 parts_written [] bytes head = head
-parts_written (p ∷ parts) bytes head = parts_written parts (drop p.len bytes) (overwritten head p.offset (take p.len bytes))
+parts_written (p ∷ parts) bytes head =
+    parts_written parts (drop p.len bytes) (overwritten head p.offset (take p.len bytes))
 
 -- a head with the parts zeroed
 abbrev pub parts_zeroed : List Part → (head : List ℕ) → List ℕ

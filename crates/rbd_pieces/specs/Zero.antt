@@ -116,4 +116,5 @@ module _ (site : SiteId) (image : ℕ) (context : SnapContext) (piece : Piece) w
   zeroed_by true inside = all_zeroed inside
 
 abbrev pub zeroed_steps : SiteId → (image : ℕ) → HeaderView → Piece → List Answered
-zeroed_steps site image h piece = zeroed_by site image (context_of h) piece (is_whole h piece) (is_inside h piece.object)
+zeroed_steps site image h piece = zeroed_by site image (context_of h) piece (is_whole h piece)
+    (is_inside h piece.object)

@@ -4,7 +4,8 @@ ghost use Rattle.rbd_pieces.specs.Full.{cut_bytes};
 
 use rbd_kinds::{Bytes, NoMemory};
 
-/// The bytes up to the last that isn't zero: of shared bytes without a copy, else a copy.
+/// The bytes up to the last that isn't zero: of shared bytes without a copy, else a copy. NoMemory
+/// where that is refused.
 pub fn cut(bytes: &Bytes) -> Result<Bytes, NoMemory>
     ensures { IfOk result (λ left. left ≡ cut_bytes bytes.now) }
 {

@@ -48,7 +48,8 @@ pub enum Way {
 
 impl FullPiece {
     /// Bytes for a piece of an image's head, by a header: the piece has all bytes of its object,
-    /// and the bytes are the object's from its first on.
+    /// and the bytes are the object's from its first on. NoMemory where the snapshot context or the
+    /// cut bytes are refused.
     pub fn new(
         alloc: Global,
         site: SiteId,
@@ -67,7 +68,8 @@ impl FullPiece {
         FullPiece::under(site, image, header, context, piece, bytes)
     }
 
-    /// The same, under the header's snapshot context.
+    /// The same, under a snapshot context, which is the header's. NoMemory where the cut bytes are
+    /// refused.
     pub fn under(
         site: SiteId,
         image: ImageId,
@@ -107,7 +109,7 @@ impl FullPiece {
         }
     }
 
-    /// The operation that it wants.
+    /// The operation that it wants. NoMemory where memory for it is refused.
     pub fn next(&self, alloc: Global) -> Result<Op, NoMemory>
         ensures { (next : Plan) → IfOk result (Asks (rest_of_full self.now next)) }
     {
@@ -117,7 +119,8 @@ impl FullPiece {
         }
     }
 
-    /// Goes on with an answer. It takes no memory.
+    /// Goes on with an answer. Refused with NoImage by `none`, and with Fenced by `fenced`. It
+    /// takes no memory.
     pub fn feed(&mut self, answer: &Answer) -> Progress<()>
         requires { TellsDone answer.now }
         ensures { ProgressesBy rest_of_full answer.now result self.old self.new }

@@ -41,7 +41,7 @@ pub struct Gather {
 }
 
 impl Gather {
-    /// Reads these pieces, one at least. It takes no memory.
+    /// Reads these pieces, one at least, of the head or of a snapshot. It takes no memory.
     pub fn new(
         alloc: Global,
         site: SiteId,
@@ -71,7 +71,7 @@ impl Gather {
         self.bytes.as_slice()
     }
 
-    /// Takes what was read so far out of it, without a copy.
+    /// Takes what was read so far out of it, without a copy. It takes no memory.
     pub fn take_bytes(&mut self) -> Bytes
         ensures bytes { result ≡ self.old.bytes.items }
         ensures left { self.new.bytes.items ≡ [] }
@@ -90,7 +90,7 @@ impl Gather {
         }
     }
 
-    /// The operation that it wants.
+    /// The operation that it wants. NoMemory where memory for it is refused.
     pub fn next(&self, alloc: Global) -> Result<Op, NoMemory>
         ensures { (next : List ℕ → Plan) → IfOk result (Asks (rest_of_gather self.now next)) }
     {
@@ -101,7 +101,7 @@ impl Gather {
         Op::on_object(alloc, self.image, self.piece.object, op)
     }
 
-    /// Takes the memory for an answer.
+    /// Takes the room for the bytes that an answer shows. NoMemory where that is refused.
     pub fn ready(&mut self, answer: &Answer) -> Result<(), NoMemory>
         ensures rest { (next : List ℕ → Plan) → rest_of_gather self.new next ≡ rest_of_gather self.old next }
         ensures ready { OnOk result (HasRoomForAnswer self.new answer.now) }
@@ -114,7 +114,8 @@ impl Gather {
         Ok(())
     }
 
-    /// Goes on with an answer that it has the memory for.
+    /// Goes on with an answer that it has the memory for. Refused with Fenced by `fenced`; `none`
+    /// shows zeros. It takes no memory.
     pub fn feed(&mut self, answer: &Answer) -> Progress<()>
         requires tells { TellsBytes answer.now }
         requires room { HasRoomForAnswer self.old answer.now }

@@ -1,122 +1,115 @@
-//! Parts of requests: one object that is written, zeroed or replaced, one object after another that
-//! is read, and a new size of an image.
+//! Parts of requests: one object that is written, zeroed or replaced, objects that are read one
+//! after another, and a new size of an image.
 //!
 //! ```text
 //! let context = context_of(alloc, &header)?;
-//! let mut write = WritePiece::new(SiteId::A, image, context, piece, bytes);    // of object 3
-//! write.next()?              // map-set: object 3 exists, in the head's map
-//! write.feed(&done)          // More
-//! write.next()?              // data-write of object 3, under the snapshot context
-//! write.feed(&done)          // Ended: the request goes on
+//! let mut write = WritePiece::new(SiteId::A, image, context, piece, bytes);
+//! loop {
+//!     let op = write.next(alloc)?;                         // map-set, then data-write
+//!     match write.feed(&ask_site(&op)) {
+//!         Progress::More => {}
+//!         Progress::Ended(()) => break,                    // the request goes on
+//!         Progress::Refused(refusal) => return Ok(refusal),
+//!     }
+//! }
 //!
-//! let mut gather = Gather::new(alloc, SiteId::A, image, Some(snap), pieces);   // of objects 1, 4
-//! gather.next()?             // data-read of object 1 at the snapshot
-//! gather.ready(&bytes)?      // room for the answer, the bytes abc
-//! gather.feed(&bytes)        // More
-//! gather.next()?             // data-read of object 4 at the snapshot
-//! gather.ready(&none)?       // it isn't there: room for its two zeros
-//! gather.feed(&none)         // Ended
-//! gather.bytes()             // abc\0\0
-//!
-//! let extent = Extent { at: 12_288, len: 4096 };                               // all of object 3
-//! let mut zeros = ZeroPiece::new(alloc, &target, &header, context, &extent, 3)?;
-//! zeros.next()?              // map-set of object 3, state 2
-//! zeros.feed(&done)          // More; then data-remove, and map-set of state 0
-//!
-//! let mut full = FullPiece::new(alloc, SiteId::A, image, &header, piece, &bytes)?;   // ab\0\0
-//! full.next()?               // map-set of object 3, state 1
-//! full.feed(&done)           // More; then data-write-full of object 3, the bytes ab
-//!
-//! let mut size = Size::new(alloc, SiteId::A, image, &header, 6000)?;  // of four objects of 4096
-//! size.next()?               // map-get
-//! size.ready(alloc, &bits)?  // object 1 exists, and 2 and 3 don't: the memory of one piece
-//! size.feed(&bits)           // More; then data-zero of object 1 from its byte 1904 on
-//! size.feed(&done)           // More; then header-set-size to 6000
+//! let mut gather = Gather::new(alloc, SiteId::A, image, Some(snap), pieces);
+//! loop {
+//!     let answer = ask_site(&gather.next(alloc)?);         // a data-read of each object
+//!     gather.ready(&answer)?;                              // room for its bytes
+//!     match gather.feed(&answer) {
+//!         Progress::More => {}
+//!         Progress::Ended(()) => break,
+//!         Progress::Refused(refusal) => return Ok(refusal),
+//!     }
+//! }
+//! let bytes = gather.take_bytes();
 //! ```
 //!
 //! # Rules
 //!
-//! An object is *inside* where its first byte lies below the head's overlap (Ceph: RBD layering). A
-//! piece is *whole* where it has all bytes of its object below the header's size.
+//! An object is *inside* where its first byte lies below the head's overlap (Ceph: RBD layering;
+//! [`is_inside`]), and else outside. A piece is *whole* where it has all bytes of its object below
+//! the header's size ([`is_whole`]).
 //!
 //! | part | of | operations |
 //! |---|---|---|
 //! | [`WritePiece`] | some bytes of an object | `map-set` 1, `data-write` |
 //! | [`Gather`] | pieces, one after another | `data-read` for each |
-//! | [`ZeroPiece`] | some bytes of an object outside | `data-zero` |
-//! | | some bytes of one inside | `map-set` 1, `data-zero` where the object is there |
-//! | | all bytes of one outside | `map-set` 2, `data-remove`, `map-set` 0 |
-//! | | all bytes of one inside | `map-set` 1, `data-empty` |
-//! | [`FullPiece`] | bytes of which one isn't zero | `map-set` 1, `data-write-full` up to the last that isn't zero |
-//! | | zeros, or none | as a `ZeroPiece` of all bytes |
-//! | [`Size`] | the size or more | `map-resize` to the objects of the new size, `header-set-size` |
-//! | | less | `map-get`; for each object with a byte from the new size on, by number, a `ZeroPiece` of these bytes; `header-set-size` |
+//! | [`ZeroPiece`] | a piece that isn't whole, outside | `data-zero` |
+//! | | one inside | `map-set` 1, `data-zero` where the object is there |
+//! | | a whole one, outside | `map-set` 2, `data-remove`, `map-set` 0 |
+//! | | one inside | `map-set` 1, `data-empty` |
+//! | [`FullPiece`] | a whole piece; one of the bytes isn't 0 | `map-set` 1, `data-write-full` |
+//! | | a whole piece; zeros, or no bytes | as a `ZeroPiece` |
+//! | [`Size`] | the same size or more | `map-resize` to its objects, `header-set-size` |
+//! | | less | `map-get`, zeros behind the new size, `header-set-size` |
 //!
-//! - All changes of objects go under the snapshot context of the header that the part was made by.
-//!   A write makes its object where it isn't there, and lays its bytes to the parts of the piece
-//!   one part after another.
-//! - A state is raised before its object may come to exist, and lowered to 0 after the object went
-//!   (Ceph: the object-map feature). So state 0 means that the object doesn't exist, wherever a
+//! - All changes of objects go under the snapshot context of the header by which the part was made.
+//! - A state is raised before its object may come to be there, and set to 0 only once the object is
+//!   gone (Ceph: the object-map feature). So state 0 means that the object isn't there, wherever a
 //!   part is cut off.
-//! - A gather reads the head, or one snapshot. Its bytes are those of the pieces in the order in
-//!   which they were given, and in a piece those of its parts. An object that is answered `none`
-//!   shows as many zeros as the piece has bytes.
+//! - A gather reads the head or one snapshot. Its bytes are those of the pieces in their order, and
+//!   in a piece those of its parts. An object that is answered `none` shows zeros.
+//! - A `FullPiece` writes its bytes up to the last that isn't zero: an object reads as zeros past
+//!   its last byte.
 //! - An object inside that is zeroed stays, so that its parent's bytes don't show again. One that
-//!   isn't there was never copied up: its `data-zero` is answered `none`, and copy-up will join
-//!   there. Until there are clones that answer never comes.
-//! - `Size` passes an object over that is outside and has state 0. It has nothing to zero.
+//!   isn't there was never copied up: its `data-zero` is answered `none`. Until there are clones
+//!   that answer never comes.
+//! - A `Size` to less has a `ZeroPiece` for each object with bytes behind the new size, by number.
+//!   It passes over those that are outside and have state 0: they have nothing to zero.
 //! - What else is answered `none` ends a request with NoImage, and `fenced` with Fenced.
 //!
 //! # Contracts
 //!
-//! All are parts of a request: their clauses hold for every plan that comes next, and a step tells
-//! a [`Progress`](rbd_machine::Progress). They are fed what their operation can be answered, and
-//! nothing else. Those that zero, replace or resize are made by a header in form, for pieces of its
-//! head ([`zero_laws::pieces_are_of_the_head`]), a `FullPiece` for a whole one ([`is_whole`] tells
-//! of an extent).
+//! - Each part keeps to its plan with any plan behind it, and tells a
+//!   [`Progress`](rbd_machine::Progress). It may be fed what its operation can be answered, and
+//!   nothing else.
+//! - A part that zeros, replaces or resizes is made by a header in form, for pieces of its head
+//!   ([`zero_laws::pieces_are_of_the_head`]).
+//! - [`laws`] and [`zero_laws`] say how many operations a part has, that none begins a part again,
+//!   and that each does only what it may where the image is the request's own, alone or at its turn
+//!   at the object. A part of `zero_laws` that ends well has done exactly the operations of the
+//!   table.
 //!
-//! The definitions are read after those of `rbd_machine`. In each, `rest_of_..` is what is left of
-//! a part.
+//! The definitions are read after those of `rbd_machine`, in this order. In each, `rest_of_..` is
+//! what is left of a part.
 //!
 //! | file | what it says |
 //! |---|---|
-//! | `specs/Write.antt` | `write_piece`, the plan of a piece of a write: `raising`, and then `writing` |
-//! | `specs/Gather.antt` | `gather`, the plan that reads pieces behind the bytes that were read before; `Gathers`, what comes of a step, and `HasRoomForAnswer`, for which answers it has the memory |
-//! | `specs/Operations.antt` | the operations of the others, as those of `rbd_machine`'s `Objects` |
-//! | `specs/Zero.antt` | `is_whole`, `is_inside`; `zero_piece` is the plan of a piece that becomes zeros, `zeroed_steps` what it has done when it ends well |
-//! | `specs/Full.antt` | `cut_bytes`; `full_piece` and `replaced`, the same of a piece that replaces its object |
-//! | `specs/Shrink.antt` | `pieces_from`, the pieces that a smaller size zeros, by the states of the head's map |
-//! | `specs/Size.antt` | `resize` and `IsResized`, the same of a size; `IsReady` says for which answers it has the memory |
-//! | `specs/Known.antt` | `known_behind`, what a request knows behind what it has done; `OwnsObject` and `IsPieceOf`, where a piece is lawful |
-//!
-//! [`laws`] and [`zero_laws`] say how many operations they have, that none begins a part again,
-//! that they do what they may where the image is their own, that what those of `zero_laws` have
-//! done at a good end is exactly what the definitions list, and what the words for pieces and bytes
-//! mean.
+//! | `specs/Gather.antt` | the plan that reads pieces (`gather`), and its room for answers |
+//! | `specs/Write.antt` | the plan of a piece of a write (`write_piece`) |
+//! | `specs/Operations.antt` | the operations of the parts below |
+//! | `specs/Zero.antt` | `is_whole`, `is_inside`; the plan of a piece that becomes zeros |
+//! | `specs/Full.antt` | the bytes that are written (`cut_bytes`); the plan of a `FullPiece` |
+//! | `specs/Shrink.antt` | the pieces that a smaller size zeros, by the states of the head's map |
+//! | `specs/Size.antt` | the plan of a size (`resize`), and for which answers it has the memory |
+//! | `specs/Known.antt` | what is known behind a part, and where a piece is lawful |
 //!
 //! # Cost
 //!
 //! | call | memory |
 //! |---|---|
 //! | [`WritePiece::new`], [`Gather::new`], [`Gather::take_bytes`] | none |
-//! | `Gather::ready` | room for the bytes of one answer; `feed` copies them there |
-//! | [`ZeroPiece::new`] | the parts of its extent, where that hasn't all bytes of the object |
-//! | [`FullPiece::new`], [`FullPiece::under`] | the cut bytes, where the bytes aren't shared; `new` also makes the snapshot context |
-//! | [`Size::new`] | for a smaller size a copy of the header |
-//! | [`Size::ready`] | at the answer to `map-get` its pieces; it looks at each object from the new size on, and makes nothing for those passed over |
-//! | `next` | copies the parts, and for a change the context's snapshots and the bytes where they aren't shared, since the operation may have to be asked for again |
+//! | [`ZeroPiece::new`] | the parts of its extent, unless the piece is whole |
+//! | [`FullPiece::new`] | the snapshot context, and the cut bytes unless they are shared |
+//! | [`FullPiece::under`] | the cut bytes, unless they are shared |
+//! | [`Size::new`] | a copy of the header, for a smaller size |
+//! | [`Gather::ready`] | room for the bytes of one answer |
+//! | [`Size::ready`] | at the answer to `map-get` the pieces |
+//! | `next` | the parts; for a change the context's snapshots, and bytes that aren't shared |
+//! | `wants`, `feed` | none |
 //!
-//! `wants` and `feed` take none.
+//! `Gather::feed` copies the bytes of an answer once. `Size::ready` looks at each object with bytes
+//! behind the new size, and makes nothing for those passed over.
 //!
 //! # How it works
 //!
-//! A piece has a stage for each of its operations. Where it becomes zeros, how much of its object
-//! it has, and whether that is inside, decide at which stage it begins. A gather holds the piece
-//! that it reads, a queue of those after it, and the bytes that were read: with each answer the
-//! next piece comes out of the queue, and the end is where none is left. A `FullPiece` cuts its
-//! bytes when it is made, and is a `ZeroPiece` where none are left. A `Size` that shrinks holds the
-//! header until it is told the states; then it makes all its pieces, and takes one after another
-//! out of a queue.
+//! A piece has a stage for each of its operations. Whether a `ZeroPiece` is whole, and inside,
+//! decides at which stage it begins. A gather holds the piece that it reads, a queue of those after
+//! it, and the bytes so far. A `FullPiece` cuts its bytes when it is made, and is a `ZeroPiece`
+//! where none are left. A `Size` to less holds the header until it is told the states; then it
+//! makes all its pieces, and takes one after another out of a queue.
 #![tactic(auto)]
 
 mod cut;

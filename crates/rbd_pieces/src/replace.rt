@@ -74,7 +74,7 @@ impl Replace {
         }
     }
 
-    /// The operation that it wants.
+    /// The operation that it wants. NoMemory where memory for it is refused.
     pub fn next(&self, alloc: Global) -> Result<Op, NoMemory>
         ensures { (next : Plan) → IfOk result (Asks (rest_of_replace self.now next)) }
     {
@@ -96,7 +96,8 @@ impl Replace {
         Op::on_object(alloc, self.image, self.object, op)
     }
 
-    /// Goes on with an answer. It takes no memory.
+    /// Goes on with an answer. Refused with NoImage by `none`, and with Fenced by `fenced`. It
+    /// takes no memory.
     pub fn feed(&mut self, answer: &Answer) -> Progress<()>
         requires { TellsDone answer.now }
         ensures { ProgressesBy rest_of_replace answer.now result self.old self.new }

@@ -57,7 +57,8 @@ pub enum Stage {
 }
 
 impl Size {
-    /// A size for an image's head, by its header: it has at most 2^20 objects.
+    /// A size in bytes for an image's head, by its header: it has at most 2^20 objects. NoMemory
+    /// where a copy of the header, for a smaller size, is refused.
     pub fn new(
         alloc: Global,
         site: SiteId,
@@ -100,7 +101,7 @@ impl Size {
         }
     }
 
-    /// The operation that it wants.
+    /// The operation that it wants. NoMemory where memory for it is refused.
     pub fn next(&self, alloc: Global) -> Result<Op, NoMemory>
         ensures { (next : Plan) → IfOk result (Asks (rest_of_size self.now next)) }
     {
@@ -113,7 +114,7 @@ impl Size {
     }
 
     /// Takes the memory for an answer: where the states of the head's map are told, that of the
-    /// pieces.
+    /// pieces. NoMemory where that is refused.
     pub fn ready(&mut self, alloc: Global, answer: &Answer) -> Result<(), NoMemory>
         ensures rest { (next : Plan) → rest_of_size self.new next ≡ rest_of_size self.old next }
         ensures ready { OnOk result (of_size.IsReady self.new answer.now) }
@@ -132,7 +133,8 @@ impl Size {
         Ok(())
     }
 
-    /// Goes on with an answer that it has the memory for.
+    /// Goes on with an answer that it has the memory for. Refused with NoImage by `none`, and with
+    /// Fenced by `fenced`. It takes no memory.
     pub fn feed(&mut self, answer: &Answer) -> Progress<()>
         requires tells { of_size.Tells self.old.stage answer.now }
         requires ready { of_size.IsReady self.old answer.now }

@@ -2,7 +2,7 @@
 ghost use Rattle.std.specs.Prelude.{◌≡◌, ◌%◌};
 ghost use Rattle.rbd_kinds.specs.States.{state_at, weight};
 
-/// The state of an object, 0 past the end.
+/// The state of an object by the bits of a map, and 0 past their end.
 pub fn state_in(bits: &[u8], object: u64) -> u8
     ensures { result ≡ state_at bits.now object }
 {

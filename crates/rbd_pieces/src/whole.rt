@@ -7,8 +7,8 @@ ghost use Rattle.rbd_pieces.specs.Zero as of_zero;
 use rbd_kinds::{Extent, HeaderView};
 use rbd_layout::{BytePlace, back, bytes_in};
 
-/// Whether an extent has all bytes of an object below the header's size: it is told by two sums,
-/// so the parts aren't made.
+/// Whether an extent has all bytes that an object has below the header's size. Two sums tell it, so
+/// no parts are made.
 pub fn is_whole(header: &HeaderView, extent: &Extent, object: u64) -> bool
     requires form { IsHeaderInForm header.now }
     requires within { extent.now.at + extent.now.len ≤ header.now.size }

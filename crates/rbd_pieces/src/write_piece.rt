@@ -89,7 +89,7 @@ impl WritePiece {
         }
     }
 
-    /// The operation that it wants.
+    /// The operation that it wants. NoMemory where memory for it is refused.
     pub fn next(&self, alloc: Global) -> Result<Op, NoMemory>
         ensures { (next : Plan) → IfOk result (Asks (rest_of_write self.now next)) }
     {
@@ -127,7 +127,8 @@ impl WritePiece {
         Op::on_object(alloc, self.image, self.piece.object, op)
     }
 
-    /// Goes on with an answer. It takes no memory.
+    /// Goes on with an answer. Refused with NoImage by `none`, and with Fenced by `fenced`. It
+    /// takes no memory.
     pub fn feed(&mut self, answer: &Answer) -> Progress<()>
         requires { TellsDone answer.now }
         ensures { ProgressesBy rest_of_write answer.now result self.old self.new }

@@ -98,7 +98,8 @@ pub fn parts_are_lawful()
         → IsLawful at k (full_piece site image h piece bytes next) }
     ensures size { (at : Label → Knowledge) (k : Knowledge) (site : SiteId) (image : ℕ) (h : HeaderView)
         (to objects : ℕ) (next : Plan)
-        → OwnsByHeader k site image true h → IsLayout h.layout → HasFewObjects h.layout to → IsObjectCount h.layout to objects
+        → OwnsByHeader k site image true h → IsLayout h.layout → HasFewObjects h.layout to
+        → IsObjectCount h.layout to objects
         → ((steps : List Answered) → IsResized site image h to objects steps → IsLawful at (known_behind k steps) next)
         → IsLawful at k (resize site image h to objects next) }
 {}
@@ -106,7 +107,8 @@ pub fn parts_are_lawful()
 /// Behind a part the image is still the request's own; behind a size, by the header at that size.
 pub fn parts_leave_the_image_its_own()
     ensures zero { (k : Knowledge) (site : SiteId) (image : ℕ) (alone : Bool) (h own : HeaderView) (piece : Piece)
-        → OwnsByHeader k site image alone own → OwnsByHeader (known_behind k (zeroed_steps site image h piece)) site image alone own }
+        → OwnsByHeader k site image alone own
+        → OwnsByHeader (known_behind k (zeroed_steps site image h piece)) site image alone own }
     ensures full { (k : Knowledge) (site : SiteId) (image : ℕ) (alone : Bool) (h own : HeaderView) (piece : Piece)
         (bytes : List ℕ)
         → OwnsByHeader k site image alone own

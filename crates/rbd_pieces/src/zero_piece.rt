@@ -42,9 +42,9 @@ use std::alloc::Global;
 ///                              the end
 /// ```
 ///
-/// What is answered `none` ends the request with NoImage, and `fenced` with Fenced. That an object
-/// inside the overlap isn't there, so that `data-zero` is answered `none`, is told only of a clone
-/// whose object was never copied up: there copy-up will join.
+/// What is answered `none` ends the request with NoImage, and `fenced` with Fenced. Only where a
+/// clone's object inside the overlap was never copied up is `data-zero` answered `none`; there are
+/// no clones yet.
 #[derive(Drop)]
 pub struct ZeroPiece {
     site: SiteId,
@@ -69,7 +69,8 @@ pub enum Stage {
 
 impl ZeroPiece {
     /// Zeros for the bytes that an extent has of an object of an image's head, by a header and
-    /// under its snapshot context. Where it has all of them, their parts aren't made.
+    /// under its snapshot context. Where it has all of them, their parts aren't made. NoMemory
+    /// where the parts are refused.
     pub fn new(
         alloc: Global,
         target: &ImageAt,
@@ -138,7 +139,7 @@ impl ZeroPiece {
         }
     }
 
-    /// The operation that it wants.
+    /// The operation that it wants. NoMemory where memory for it is refused.
     pub fn next(&self, alloc: Global) -> Result<Op, NoMemory>
         ensures { (next : Plan) → IfOk result (Asks (rest_of_zero self.now next)) }
     {
@@ -201,7 +202,8 @@ impl ZeroPiece {
         Op::on_object(alloc, self.image, self.piece.object, op)
     }
 
-    /// Goes on with an answer. It takes no memory.
+    /// Goes on with an answer. Refused with NoImage by `none`, and with Fenced by `fenced`. It
+    /// takes no memory.
     pub fn feed(&mut self, answer: &Answer) -> Progress<()>
         requires { TellsDone answer.now }
         ensures { ProgressesBy rest_of_zero answer.now result self.old self.new }

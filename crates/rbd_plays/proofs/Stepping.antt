@@ -78,7 +78,6 @@ MayCome changer e = Unit {0}
 
 quiets : (c : Command) → holds_back c ≡ false → IsNoQuiesce (quiescing_of c)
 quiets (command.Quiesce image) none = absurd (true≢false none)
-quiets (command.Resume image) none = tt
 quiets c none = tt
 
 release_takes_none : (at : ReleaseStage) (image : ℕ) → TakesNoLock (release_op_at at image)

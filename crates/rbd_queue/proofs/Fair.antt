@@ -12,7 +12,7 @@ use Rattle.rbd_guard.specs.Order.{is_in, AreApart}
 use Rattle.rbd_guard.proofs.Apart.{apart_push, apart_without}
 use Rattle.rbd_kinds.specs.Sharing.{go_together, is_alone}
 use Rattle.rbd_kinds.specs.declared.sharing.Sharing.{Sharing}
-use Rattle.rbd_queue.specs.Line.{Member, member_of, is_member, ahead, is_past, is_shared_past, lets_pass, is_let_pass, may_pass, objects_in, objects_of_slot, slots, is_shared_past_in, may_enter, new_member, held, passed, entered, next_piece, changed_member, without, Each, EachPair, LetsPass, IsFairMember, IsFairLine}
+use Rattle.rbd_queue.specs.Line.{Member, member_of, is_member, ahead, is_past, may_hold_objects, lets_pass, is_let_pass, may_pass, objects_in, objects_of_slot, slots, may_hold_objects_in, may_enter, new_member, held, passed, entered, next_piece, changed_member, without, Each, EachPair, LetsPass, IsFairMember, IsFairLine}
 use Rattle.rbd_queue.proofs.Few.{few}
 
 -- ---- each member
@@ -319,7 +319,7 @@ in_push n object (x ∷ xs) = ap (λ b. eqb x n || b) (in_push n object xs) ∙ 
     grouped true b c = refl
     grouped false b c = refl
 
-entered_member : (object : ℕ) (m : Member) → is_shared_past m ≡ true → is_in object m.objects ≡ false → IsFairMember m → IsFairMember (entered object m)
+entered_member : (object : ℕ) (m : Member) → may_hold_objects m ≡ true → is_in object m.objects ≡ false → IsFairMember m → IsFairMember (entered object m)
 entered_member object m right new fair =
     record {
       slot_from = fair.slot_from;
@@ -328,7 +328,7 @@ entered_member object m right new fair =
       once = apart_push m.objects object fair.once new;
     }
 
-entered_put : (slot object : ℕ) (m : Member) → IsFairMember m → (eqb m.slot slot ≡ true → (is_shared_past m ≡ true) × (is_in object m.objects ≡ false)) → IsFairMember (put slot (entered object) m)
+entered_put : (slot object : ℕ) (m : Member) → IsFairMember m → (eqb m.slot slot ≡ true → (may_hold_objects m ≡ true) × (is_in object m.objects ≡ false)) → IsFairMember (put slot (entered object) m)
 entered_put slot object m fair at = by (eqb m.slot slot) refl
   where
     by : (b : Bool) → eqb m.slot slot ≡ b → IsFairMember (cond b (entered object m) m)
@@ -337,17 +337,17 @@ entered_put slot object m fair at = by (eqb m.slot slot) refl
 
 -- what is asked of one that takes a ticket, of each at its slot
 pub may_take : (slot object : ℕ) (ms : List Member) → IsFairLine ms → may_enter slot ms ≡ true → is_in object (objects_of_slot slot ms) ≡ false
-    → Each (λ m. eqb m.slot slot ≡ true → (is_shared_past m ≡ true) × (is_in object m.objects ≡ false)) ms
+    → Each (λ m. eqb m.slot slot ≡ true → (may_hold_objects m ≡ true) × (is_in object m.objects ≡ false)) ms
 may_take slot object ms fair may new =
-    at_slot (λ m. (is_shared_past m ≡ true) × (is_in object m.objects ≡ false)) slot ms fair.apart
-    (λ m is. (sym (ap is_shared_past_in is) ∙ may, sym (ap (λ o. is_in object (objects_in o)) is) ∙ new))
+    at_slot (λ m. (may_hold_objects m ≡ true) × (is_in object m.objects ≡ false)) slot ms fair.apart
+    (λ m is. (sym (ap may_hold_objects_in is) ∙ may, sym (ap (λ o. is_in object (objects_in o)) is) ∙ new))
 
 pub entered_fair : (slot object : ℕ) (ms : List Member) → IsFairLine ms → may_enter slot ms ≡ true → is_in object (objects_of_slot slot ms) ≡ false → IsFairLine (changed_member slot (entered object) ms)
 entered_fair slot object ms fair may new =
     quiet_fair slot (entered object) ms (quiet_entered object) fair
-    (each_map (λ m. IsFairMember m × (eqb m.slot slot ≡ true → (is_shared_past m ≡ true) × (is_in object m.objects ≡ false))) IsFairMember (put slot (entered object)) ms
+    (each_map (λ m. IsFairMember m × (eqb m.slot slot ≡ true → (may_hold_objects m ≡ true) × (is_in object m.objects ≡ false))) IsFairMember (put slot (entered object)) ms
     (λ m both. entered_put slot object m both.0 both.1)
-    (each_both IsFairMember (λ m. eqb m.slot slot ≡ true → (is_shared_past m ≡ true) × (is_in object m.objects ≡ false)) ms fair.each (may_take slot object ms fair may new)))
+    (each_both IsFairMember (λ m. eqb m.slot slot ≡ true → (may_hold_objects m ≡ true) × (is_in object m.objects ≡ false)) ms fair.each (may_take slot object ms fair may new)))
 
 pub in_rest : (n : ℕ) (xs : List ℕ) → is_in n (drop 1 xs) ≡ true → is_in n xs ≡ true
 in_rest n [] here = here

@@ -11,7 +11,7 @@ use Rattle.rbd_kinds.specs.Sharing.{is_alone}
 use Rattle.rbd_kinds.specs.declared.sharing.Sharing.{Sharing}
 use Rattle.rbd_kinds.proofs.Plain.{cond_same}
 use Rattle.rbd_queue.specs.Kept.{IsKept}
-use Rattle.rbd_queue.specs.Line.{Member, member_of, is_member, members_behind, is_past, is_shared_past, may_pass, objects_in, objects_of_slot, holds_ticket, slots, is_shared_past_in, may_enter, none_past_behind, has_turn, comes_next, new_member, held, passed, entered, next_piece, changed_member, without, Each, IsFairMember, IsFairLine}
+use Rattle.rbd_queue.specs.Line.{Member, member_of, is_member, members_behind, is_past, may_hold_objects, may_pass, objects_in, objects_of_slot, holds_ticket, slots, may_hold_objects_in, may_enter, none_past_behind, has_turn, comes_next, new_member, held, passed, entered, next_piece, changed_member, without, Each, IsFairMember, IsFairLine}
 use Rattle.rbd_queue.specs.Turns.{begins_with}
 use Rattle.rbd_queue.proofs.Fair.{put, put_is, each_true, each_both, each_weaker, slots_in, slots_without, members_map, absent_change, rest_out, may_take, in_push, joined_fair, held_fair, passed_fair, left_fair, entered_fair, next_fair}
 
@@ -37,7 +37,7 @@ found_has P slot (x ∷ ms) all m is = by (eqb x.slot slot) refl is (λ found. f
 pub enters_as_member : (slot : ℕ) (ms : List Member) → may_enter slot ms ≡ true → is_member slot ms ≡ true
 enters_as_member slot ms may = sym (is_found slot ms) ∙ by (member_of slot ms) may
   where
-    by : (o : Option Member) → is_shared_past_in o ≡ true → is_some o ≡ true
+    by : (o : Option Member) → may_hold_objects_in o ≡ true → is_some o ≡ true
     by None h = absurd (true≢false (sym h))
     by (Some m) h = refl
 
@@ -159,7 +159,7 @@ each_behind P slot (m ∷ ms) all = by (eqb m.slot slot) (each_behind P slot ms 
     by false rest = rest
 
 pub entered_turns : (slot object : ℕ) (ms : List Member) → AreApart (slots ms) → is_member slot ms ≡ true
-    → Each (λ m. eqb m.slot slot ≡ true → (is_shared_past m ≡ true) × (is_in object m.objects ≡ false)) ms → filter (holds_ticket object) (members_behind slot ms) ≡ []
+    → Each (λ m. eqb m.slot slot ≡ true → (may_hold_objects m ≡ true) × (is_in object m.objects ≡ false)) ms → filter (holds_ticket object) (members_behind slot ms) ≡ []
     → slots (filter (holds_ticket object) (changed_member slot (entered object) ms)) ≡ slots (filter (holds_ticket object) ms) ++ slot ∷ []
 entered_turns slot object [] apart here at none = absurd (true≢false (sym here))
 entered_turns slot object (x ∷ ms) apart here at none =

@@ -11,7 +11,7 @@ use Rattle.rbd_guard.specs.Order.{is_in}
 use Rattle.rbd_guard.proofs.Apart.{head_in}
 use Rattle.rbd_kinds.specs.Sharing.{go_together, is_alone}
 use Rattle.rbd_kinds.specs.declared.sharing.Sharing.{Sharing}
-use Rattle.rbd_queue.specs.Line.{Member, member_of, is_member, ahead, members_behind, is_past, lets_pass, is_let_pass, may_pass, holds_ticket, slots, none_past_behind, has_turn, new_member, held, passed, entered, next_piece, changed_member, without, Each, EachPair, LetsPass, IsFairLine, is_shared_past, is_shared_past_in, may_enter, objects_in, objects_of_slot, IsFairMember}
+use Rattle.rbd_queue.specs.Line.{Member, member_of, is_member, ahead, members_behind, is_past, lets_pass, is_let_pass, may_pass, holds_ticket, slots, none_past_behind, has_turn, new_member, held, passed, entered, next_piece, changed_member, without, Each, EachPair, LetsPass, IsFairLine, may_hold_objects, may_hold_objects_in, may_enter, objects_in, objects_of_slot, IsFairMember}
 use Rattle.rbd_queue.specs.Steady.{IsSteady}
 use Rattle.rbd_queue.specs.Turns.{begins_with}
 use Rattle.rbd_queue.proofs.Fair.{put, put_is, put_keeps, absent_change, rest_out, in_slots, stays_past, each_true, and_left, and_right}
@@ -345,16 +345,16 @@ nothing (x ∷ xs) b out right = absurd (true≢false (sym (right x (head_in x x
 
 pub none_yet : (ms : List Member) (m : Member) → IsFairLine ms → member_of m.slot ms ≡ Some m → is_past m.stage ≡ false → m.objects ≡ []
 none_yet ms m fair is waits =
-    nothing m.objects (is_shared_past m) (ap (λ p. p && not (is_alone m.sharing)) waits) (found_has IsFairMember m.slot ms fair.each m is).0.holds_by_right
+    nothing m.objects (may_hold_objects m) (ap (λ p. p && not (is_alone m.sharing)) waits) (found_has IsFairMember m.slot ms fair.each m is).0.holds_by_right
 
 pub may_after_pass : (ms : List Member) (m : Member) → member_of m.slot ms ≡ Some m → is_alone m.sharing ≡ false → may_enter m.slot (changed_member m.slot passed ms) ≡ true
 may_after_pass ms m is shared =
-    ap is_shared_past_in (own_changed ms m.slot passed passed_is_steady) ∙ (ap (λ o. is_shared_past_in (option_map passed o)) is ∙ ap not shared)
+    ap may_hold_objects_in (own_changed ms m.slot passed passed_is_steady) ∙ (ap (λ o. may_hold_objects_in (option_map passed o)) is ∙ ap not shared)
 
 pub may_after_enter : (ms : List Member) (slot object : ℕ) → may_enter slot ms ≡ true → may_enter slot (changed_member slot (entered object) ms) ≡ true
-may_after_enter ms slot object may = ap is_shared_past_in (own_changed ms slot (entered object) (entered_is_steady object)) ∙ by (member_of slot ms) may
+may_after_enter ms slot object may = ap may_hold_objects_in (own_changed ms slot (entered object) (entered_is_steady object)) ∙ by (member_of slot ms) may
   where
-    by : (o : Option Member) → is_shared_past_in o ≡ true → is_shared_past_in (option_map (entered object) o) ≡ true
+    by : (o : Option Member) → may_hold_objects_in o ≡ true → may_hold_objects_in (option_map (entered object) o) ≡ true
     by None h = h
     by (Some m) h = h
 

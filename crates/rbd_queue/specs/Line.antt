@@ -55,8 +55,8 @@ abbrev pub any_past : List Member → Bool
 any_past members = list_any (λ m. is_past m.stage) members
 
 -- whether a member is past its look under the lock, and not alone
-abbrev pub is_shared_past : Member → Bool
-is_shared_past m = is_past m.stage && not (is_alone m.sharing)
+abbrev pub may_hold_objects : Member → Bool
+may_hold_objects m = is_past m.stage && not (is_alone m.sharing)
 
 -- whether a member lets one that is behind it pass: it is past its look under the lock, and they go
 -- together
@@ -95,13 +95,13 @@ has_turn slot object members = begins_with slot (slots (filter (holds_ticket obj
 abbrev pub comes_next : (slot object : ℕ) → List Member → Bool
 comes_next slot object members = begins_with object (objects_of_slot slot members)
 
--- whether a slot is past its look under the lock and shared, so that it takes tickets
-abbrev pub is_shared_past_in : Option Member → Bool
-is_shared_past_in None = false
-is_shared_past_in (Some m) = is_shared_past m
+-- whether a slot is past its look under the lock and isn't alone, so that it takes tickets
+abbrev pub may_hold_objects_in : Option Member → Bool
+may_hold_objects_in None = false
+may_hold_objects_in (Some m) = may_hold_objects m
 
 abbrev pub may_enter : (slot : ℕ) → List Member → Bool
-may_enter slot members = is_shared_past_in (member_of slot members)
+may_enter slot members = may_hold_objects_in (member_of slot members)
 
 -- whether nobody behind a slot is past its look under the lock
 abbrev pub none_past_behind : (slot : ℕ) → List Member → Bool
@@ -148,11 +148,11 @@ EachPair P (m ∷ members) = Each (P m) members × EachPair P members
 abbrev pub LetsPass : (earlier later : Member) → Type 0
 LetsPass earlier later = IsTrue (is_past later.stage) → IsTrue (lets_pass later.sharing earlier)
 
--- only a shared member that is past its look under the lock holds objects, each of them once
+-- only a member that isn't alone and is past its look under the lock holds objects, each of them once
 pub record IsFairMember (m : Member) : Type 0 where
   pub slot_from : 1 ≤ m.slot
   pub slot_to : m.slot ≤ 64
-  pub holds_by_right : (object : ℕ) → IsTrue (holds_ticket object m) → IsTrue (is_shared_past m)
+  pub holds_by_right : (object : ℕ) → IsTrue (holds_ticket object m) → IsTrue (may_hold_objects m)
   pub once : AreApart m.objects
 
 pub record IsFairLine (members : List Member) : Type 0 where

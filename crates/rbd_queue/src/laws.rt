@@ -15,7 +15,8 @@ pub fn alone_is_alone()
         → IsTrue (is_alone one.sharing) → IsTrue (is_past one.stage) → IsFalse (is_past other.stage) }
 
     ensures behind { (members : List Member) (one : Member) (other : ℕ) → member_of one.slot members ≡ Some one
-        → IsTrue (is_alone one.sharing) → IsTrue (is_member one.slot (ahead other members)) → IsFalse (may_pass other members) }
+        → IsTrue (is_alone one.sharing) → IsTrue (is_member one.slot (ahead other members))
+        → IsFalse (may_pass other members) }
 {}
 
 /// Two members that don't go together are never past their looks under the lock at once: the later
@@ -61,10 +62,12 @@ pub fn turns_stay()
 
     ensures enter { (members : List Member) (slot object other taken : ℕ) → IsFairLine members
         → IsTrue (none_past_behind other members) → other ≢ slot
-        → IsTrue (has_turn slot object members) → IsTrue (has_turn slot object (changed_member other (entered taken) members)) }
+        → IsTrue (has_turn slot object members)
+        → IsTrue (has_turn slot object (changed_member other (entered taken) members)) }
 
     ensures end_piece { (members : List Member) (slot object other : ℕ) → other ≢ slot
-        → IsTrue (has_turn slot object members) → IsTrue (has_turn slot object (changed_member other next_piece members)) }
+        → IsTrue (has_turn slot object members)
+        → IsTrue (has_turn slot object (changed_member other next_piece members)) }
 
     ensures leave { (members : List Member) (slot object other : ℕ) → other ≢ slot
         → IsTrue (has_turn slot object members) → IsTrue (has_turn slot object (without other members)) }
@@ -119,16 +122,19 @@ pub fn taking_tickets()
     ensures none_yet { (members : List Member) (m : Member) → IsFairLine members → member_of m.slot members ≡ Some m
         → IsFalse (is_past m.stage) → m.objects ≡ [] }
 
-    ensures passed { (members : List Member) (m : Member) → member_of m.slot members ≡ Some m → IsFalse (is_alone m.sharing)
+    ensures passed { (members : List Member) (m : Member) → member_of m.slot members ≡ Some m
+        → IsFalse (is_alone m.sharing)
         → IsTrue (may_enter m.slot (changed_member m.slot passed members)) }
 
     ensures entered { (members : List Member) (slot object : ℕ) → IsTrue (may_enter slot members)
         → IsTrue (may_enter slot (changed_member slot (entered object) members)) }
 
-    ensures same { (members : List Member) (slot : ℕ) → objects_of_slot slot (changed_member slot passed members) ≡ objects_of_slot slot members }
+    ensures same { (members : List Member) (slot : ℕ) → objects_of_slot slot (changed_member slot passed members)
+        ≡ objects_of_slot slot members }
 
     ensures one_more { (members : List Member) (slot object : ℕ) → IsTrue (is_member slot members)
-        → objects_of_slot slot (changed_member slot (entered object) members) ≡ objects_of_slot slot members ++ object ∷ [] }
+        → objects_of_slot slot (changed_member slot (entered object) members) ≡ objects_of_slot slot members
+        ++ object ∷ [] }
 
     ensures one_less { (members : List Member) (slot : ℕ)
         → objects_of_slot slot (changed_member slot next_piece members) ≡ drop 1 (objects_of_slot slot members) }

@@ -13,9 +13,8 @@ use rbd_machine::Stage;
 use std::alloc::Global;
 use std::marker::Model;
 
-/// The line of one image in one session. Contracts see its `members` in line order, each with its
-/// slot, beside which others it goes, its stage and its objects, and for how many more tickets
-/// there is room.
+/// The line of one image. Contracts see its `members` in line order, each with its slot, beside
+/// which others it goes, its stage and its objects, and for how many more tickets there is room.
 #[derive(Drop)]
 pub struct Line {
     /// The members in the order in which they joined.
@@ -39,11 +38,13 @@ impl Model for Line {
     } };
 
     ghost invariant = { λ l. (64 ≤ vec_capacity l.standings)
-        × IsKept (λ slot. held_by slot l.turns) (λ object. holders object l.turns) (map (member (λ slot. held_by slot l.turns)) l.standings.items) };
+        × IsKept (λ slot. held_by slot l.turns) (λ object. holders object l.turns)
+        (map (member (λ slot. held_by slot l.turns)) l.standings.items) };
 }
 
 impl Line {
-    /// A line without members. It takes the memory for 64, so that `join` takes none.
+    /// A line without members. It takes the memory for 64, so that `join` takes none. NoMemory
+    /// where that is refused.
     pub fn new(alloc: Global) -> Result<Self, NoMemory>
         ensures members { IfOk result (λ line. line.members ≡ []) }
         ensures sound { IfOk result (λ line. IsFairLine line.members) }
@@ -128,7 +129,7 @@ impl Line {
     }
 
     /// Makes room for `more` tickets: the next `more` calls of `enter` are allowed, whoever leaves
-    /// between them. No member changes, also where memory is refused.
+    /// between them. No member changes. NoMemory where that room is refused.
     pub fn reserve(&mut self, more: u32) -> Result<(), NoMemory>
         ensures members { self.new.members ≡ self.old.members }
         ensures ok { OnOk result (more ≤ self.new.reserved) }
@@ -139,9 +140,9 @@ impl Line {
         self.turns.reserve(more)
     }
 
-    /// The request in a slot takes a ticket for an object, behind those that it has. It is shared
-    /// and past its look under the lock, and nobody behind it is past its own yet: so tickets are
-    /// taken in the step in which it passes. It takes no memory.
+    /// The request in a slot takes a ticket for an object, behind those that it has. It isn't
+    /// alone, is past its look under the lock, and nobody behind it is past its own yet: so tickets
+    /// are taken in the step in which it passes. It takes no memory.
     pub fn enter(&mut self, slot: Slot, object: u64)
         requires member { IsTrue (may_enter slot self.old.members) }
         requires last { IsTrue (none_past_behind slot self.old.members) }

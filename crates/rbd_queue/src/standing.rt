@@ -19,7 +19,8 @@ pub struct LineMember {
 
 /// How far a slot has come: `None` where it isn't a member.
 pub fn stage_of(members: &[LineMember], slot: Slot) -> Option<Stage>
-    ensures { (held : ℕ → List ℕ) → result ≡ option_map (λ m. m.stage) (member_of slot (map (member held) members.now)) }
+    ensures { (held : ℕ → List ℕ) → result ≡ option_map (λ m. m.stage)
+        (member_of slot (map (member held) members.now)) }
 {
     for standing in members {
         if standing.slot == slot {
@@ -31,7 +32,8 @@ pub fn stage_of(members: &[LineMember], slot: Slot) -> Option<Stage>
 
 /// Beside which others a slot goes: `None` where it isn't a member.
 pub fn sharing_of(members: &[LineMember], slot: Slot) -> Option<Sharing>
-    ensures { (held : ℕ → List ℕ) → result ≡ option_map (λ m. m.sharing) (member_of slot (map (member held) members.now)) }
+    ensures { (held : ℕ → List ℕ) → result ≡ option_map (λ m. m.sharing)
+        (member_of slot (map (member held) members.now)) }
 {
     for standing in members {
         if standing.slot == slot {
@@ -82,7 +84,8 @@ fn is_past(stage: Stage) -> bool
 /// The slot becomes a member behind the others, for which there has to be room.
 pub fn join_at(members: &mut Vec<LineMember>, slot: Slot, sharing: Sharing)
     requires { vec_len members.old < vec_capacity members.old }
-    ensures members { members.new.items ≡ members.old.items ++ (record { slot = slot; sharing = sharing; stage = Stage.Joined }) ∷ [] }
+    ensures members { members.new.items ≡ members.old.items
+        ++ (record { slot = slot; sharing = sharing; stage = Stage.Joined }) ∷ [] }
     ensures room { vec_capacity members.old ≤ vec_capacity members.new }
 {
     let standing = LineMember {

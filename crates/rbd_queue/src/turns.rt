@@ -36,7 +36,7 @@ impl Turns {
         }
     }
 
-    /// Makes room for `more` calls of `enter`.
+    /// Makes room for `more` calls of `enter`. NoMemory where that room is refused.
     pub fn reserve(&mut self, more: u32) -> Result<(), NoMemory>
         ensures holders { (object : ℕ) → holders object self.new ≡ holders object self.old }
         ensures held { (slot : ℕ) → held_by slot self.new ≡ held_by slot self.old }
@@ -51,8 +51,10 @@ impl Turns {
     /// takes no memory.
     pub fn enter(&mut self, slot: Slot, object: u64)
         requires { 0 < self.old.reserved }
-        ensures holders { (o : ℕ) → holders o self.new ≡ cond (object == o) (holders o self.old ++ slot ∷ []) (holders o self.old) }
-        ensures held { (s : ℕ) → held_by s self.new ≡ cond (slot == s) (held_by s self.old ++ object ∷ []) (held_by s self.old) }
+        ensures holders { (o : ℕ) → holders o self.new ≡ cond (object == o) (holders o self.old ++ slot ∷ [])
+            (holders o self.old) }
+        ensures held { (s : ℕ) → held_by s self.new ≡ cond (slot == s) (held_by s self.old ++ object ∷ [])
+            (held_by s self.old) }
         ensures reserved { self.old.reserved ≤ self.new.reserved + 1 }
     {
         let ticket: Result<_, _> = self.guard.enter(slot.0 as u32, object);
@@ -76,8 +78,10 @@ impl Turns {
     /// The slot holds the first of its objects no more. It takes no memory.
     pub fn end_piece(&mut self, slot: Slot)
         requires { AreApart (held_by slot self.old) }
-        ensures holders { (o : ℕ) → holders o self.new ≡ cond (begins_with o (held_by slot self.old)) (without slot (holders o self.old)) (holders o self.old) }
-        ensures held { (s : ℕ) → held_by s self.new ≡ cond (slot == s) (drop 1 (held_by s self.old)) (held_by s self.old) }
+        ensures holders { (o : ℕ) → holders o self.new ≡ cond (begins_with o (held_by slot self.old))
+            (without slot (holders o self.old)) (holders o self.old) }
+        ensures held { (s : ℕ) → held_by s self.new ≡ cond (slot == s) (drop 1 (held_by s self.old))
+            (held_by s self.old) }
         ensures reserved { self.old.reserved ≤ self.new.reserved }
     {
         let Some(ticket) = self.guard.next_of(slot.0 as u32) else {

@@ -15,7 +15,8 @@ pub record ChildEntry : Type 0 where
 
 -- by parent, then by snapshot, then by child
 abbrev pub entry_cmp : ChildEntry → ChildEntry → Ordering
-entry_cmp a b = ordering_then (nat_cmp a.parent b.parent) (ordering_then (nat_cmp a.snap b.snap) (nat_cmp a.child b.child))
+entry_cmp a b = ordering_then (nat_cmp a.parent b.parent)
+    (ordering_then (nat_cmp a.snap b.snap) (nat_cmp a.child b.child))
 
 -- an entry of a child of this snapshot
 abbrev pub is_child_of : (parent snap : ℕ) → ChildEntry → Bool
@@ -33,11 +34,13 @@ ascending (x ∷ xs) = placed x (ascending xs)
 
 -- the ids of a snapshot's children, each once, ascending
 abbrev pub children_in : finset.FinSet entry_cmp → (parent snap : ℕ) → List ℕ
-children_in entries parent snap = ascending (map (λ e. e.child) (filter (is_child_of parent snap) (finset.items entries)))
+children_in entries parent snap =
+    ascending (map (λ e. e.child) (filter (is_child_of parent snap) (finset.items entries)))
 
 -- the ids are those of a snapshot's children, each once, ascending
 pub record AreChildren (entries : finset.FinSet entry_cmp) (parent snap : ℕ) (ids : List ℕ) : Type 0 where
-  pub each : (child : ℕ) → list_any (λ id. id == child) ids ≡ finset.contains entries (record { parent = parent; snap = snap; child = child })
+  pub each : (child : ℕ) → list_any (λ id. id == child) ids ≡ finset.contains entries
+      (record { parent = parent; snap = snap; child = child })
   pub ascending : IsStrictlyIncreasing ids
 
 -- an entry is told apart by its three ids

@@ -41,7 +41,8 @@ impl Children {
 
     /// Adds an entry. A second time changes nothing. Where it is refused memory, nothing changes.
     pub fn add(&mut self, parent: ImageId, snap: SnapId, child: ImageId) -> Result<(), NoMemory>
-        ensures ok { OnOk result (self.new ≡ finset.insert self.old (record { parent = parent; snap = snap; child = child })) }
+        ensures ok { OnOk result (self.new ≡ finset.insert self.old
+            (record { parent = parent; snap = snap; child = child })) }
         ensures err { OnErr result (self.new ≡ self.old) }
     {
         let entry = ChildEntry {

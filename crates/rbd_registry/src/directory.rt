@@ -59,7 +59,8 @@ impl Directory {
         ensures full { IsErrOf result AddFault.Full ↔ ((id_of self.old name.now ≡ None) × IsTrue (is_full self.old)) }
         ensures free { OnOk result (id_of self.old name.now ≡ None) }
         ensures room { OnOk result (is_full self.old ≡ false) }
-        ensures no_memory { IsErrOf result AddFault.NoMemory → (id_of self.old name.now ≡ None) × (is_full self.old ≡ false) }
+        ensures no_memory { IsErrOf result AddFault.NoMemory → (id_of self.old name.now ≡ None)
+            × (is_full self.old ≡ false) }
         ensures sound { IsSoundListing self.new }
     {
         if self.find(name).is_some() {
@@ -131,9 +132,11 @@ impl Directory {
         ensures ok { OnOk result (self.new ≡ renamed (id_of self.old from.now) from.now to.now self.old) }
         ensures err { OnErr result (self.new ≡ self.old) }
         ensures no_name { IsErrOf result RenameFault.NoName ↔ (id_of self.old from.now ≡ None) }
-        ensures exists { IsErrOf result RenameFault.Exists ↔ (IsSome (id_of self.old from.now) × IsSome (id_of self.old to.now)) }
+        ensures exists { IsErrOf result RenameFault.Exists
+            ↔ (IsSome (id_of self.old from.now) × IsSome (id_of self.old to.now)) }
         ensures free { OnOk result (IsSome (id_of self.old from.now) × (id_of self.old to.now ≡ None)) }
-        ensures no_memory { IsErrOf result RenameFault.NoMemory → IsSome (id_of self.old from.now) × (id_of self.old to.now ≡ None) }
+        ensures no_memory { IsErrOf result RenameFault.NoMemory → IsSome (id_of self.old from.now)
+            × (id_of self.old to.now ≡ None) }
     {
         let Some(image) = self.find(from) else {
             return Err(RenameFault::NoName);

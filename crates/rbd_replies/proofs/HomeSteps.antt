@@ -1,5 +1,5 @@
 -- Each operation behind a reply that is meant was done at the session's home.
-use Rattle.std.proofs.Common.{◌≡◌, inl, inr, ℕ, Bool, true, false, List, [], ◌∷◌, ◌++◌, Option, map, refl, sym, ap, subst}
+use Rattle.std.proofs.Common.{◌≡◌, inl, inr, ℕ, Bool, true, false, List, [], ◌∷◌, ◌++◌, Option, Some, None, map, refl, sym, ap, subst}
 use Rattle.std.specs.Prelude.{nat_le}
 use Rattle.rbd_commands.specs.declared.command.Command.{Command}
 use Rattle.rbd_commands.specs.declared.command.Command.TheVariants as command
@@ -24,6 +24,7 @@ use Rattle.rbd_meaning.specs.Meant.{IsMeantBy}
 use Rattle.rbd_meaning.specs.Reads.{AreRead, IsPassTo, SeeOthers}
 use Rattle.rbd_meaning.specs.Removals.{AreRemovals, removal}
 use Rattle.rbd_meaning.specs.Rollbacks.{AreRestored, at_size}
+use Rattle.rbd_meaning.specs.Straight.{all_told, MeansStraight, Straight, straight_of}
 use Rattle.rbd_meaning.specs.Writes.{WritesWhole, pieces_written}
 use Rattle.rbd_pieces.specs.Full.{cut_bytes, replaced_by}
 use Rattle.rbd_pieces.specs.Shrink.{pieces_from}
@@ -123,6 +124,17 @@ module _ (site : SiteId) where
   closing_at image answer.Changed behind are = subst (AreAt site) (sym are) (refl, tt)
   closing_at image _ behind are = absurd are
 
+  -- a straight command
+  told_at : (image : ℕ) (o : Option (List ℕ)) → AreAt site (all_told site image o)
+  told_at image None = tt
+  told_at image (Some bytes) = (refl, tt)
+
+  straight_at : (o : Option Straight) (steps : List Answered) (r : Reply) → MeansStraight site o steps r → AreAt site steps
+  straight_at None steps r meant = absurd meant
+  straight_at (Some s) steps reply.Done goes = subst (AreAt site) (sym goes.are) (refl, told_at goes.image s.tells)
+  straight_at (Some s) steps (reply.Refused x) refused = own_at _ steps refused.own
+  straight_at (Some s) steps _ meant = absurd meant
+
   front_at : (one two : List Answered) → AreAt site (one ++ two) → AreAt site one
   front_at [] two are = tt
   front_at (step ∷ one) two (first, are) = (first, front_at one two are)
@@ -190,11 +202,7 @@ module _ (seat : Seat) where
   meant_at (command.Close name) steps (reply.Refused x) refused = own_at seat.home _ steps refused.own
   meant_at (command.Quiesce name) steps reply.Done looks = subst (AreAt seat.home) (sym looks.are) (refl, (refl, (refl, tt)))
   meant_at (command.Quiesce name) steps (reply.Refused x) refused = own_at seat.home _ steps refused.own
-  meant_at (command.Resume name) steps reply.Done finds = subst (AreAt seat.home) (sym finds.are) (refl, tt)
-  meant_at (command.Resume name) steps (reply.Refused x) refused = own_at seat.home _ steps refused.own
-  meant_at (command.Tell name bytes) steps reply.Done says = subst (AreAt seat.home) (sym says.are) (refl, (refl, tt))
-  meant_at (command.Tell name bytes) steps (reply.Refused x) refused = own_at seat.home _ steps refused.own
-  meant_at _ steps _ meant = absurd meant
+  meant_at c steps r meant = straight_at seat.home (straight_of c) steps r meant
 
   pub meant_at_places : (c : Command) (places : List Placed) (r : Reply) → IsMeantBy seat c (map step_at places) r → AreDoneAt seat.home places
   meant_at_places c places r meant = places_at seat.home places (meant_at c (map step_at places) r meant)

@@ -11,6 +11,7 @@ use Rattle.rbd_kinds.specs.declared.reply.Reply.TheVariants as reply
 use Rattle.rbd_machine.specs.Path.{Answered}
 use Rattle.rbd_machine.specs.Plan.{Return}
 use Rattle.rbd_machine.specs.declared.seat.Seat.{Seat}
+use Rattle.rbd_meaning.proofs.Meant.{meant_kind}
 use Rattle.rbd_meaning.proofs.Undone.{meant_changes_nothing}
 use Rattle.rbd_meaning.specs.Meant.{IsMeantBy}
 use Rattle.rbd_world.specs.Run.{Asked, Happening, Did, Operation, asked_by, is_for}
@@ -53,11 +54,8 @@ reply_of homes seat places right ordered (command.Read name snap at len) (reply.
 reply_of homes seat places right ordered command.List (reply.Names names) meant of silent = lists_names homes places right seat.home names meant
 reply_of homes seat places right ordered (command.Info name) (reply.Info h) meant of silent = info_shows homes places right seat.home name h meant
 reply_of homes seat places right ordered (command.SnapList name) (reply.Snaps snaps) meant of silent = snaps_show homes places right seat.home name snaps meant
-reply_of homes seat places right ordered (command.Close name) reply.Done meant of silent = silent refl
-reply_of homes seat places right ordered (command.Quiesce name) reply.Done meant of silent = silent refl
-reply_of homes seat places right ordered (command.Resume name) reply.Done meant of silent = silent refl
-reply_of homes seat places right ordered (command.Tell name bytes) reply.Done meant of silent = silent refl
 reply_of homes seat places right ordered (command.Create name size shape) _ (plain, meant) of silent = absurd meant
+reply_of homes seat places right ordered c reply.Done meant of silent = (meant_kind seat c (map step_at places) reply.Done meant, silent refl)
 reply_of homes seat places right ordered _ _ meant of silent = absurd meant
 
 -- a reply that is meant behind a run that is right is the asked command's

@@ -1,11 +1,11 @@
 -- What a reply says of the flat-copy machine, at its place in the one history.
-use Rattle.std.specs.Prelude.{◌≡◌, Bool, List, [], replicate}
+use Rattle.std.specs.Prelude.{◌≡◌, Bool, true, List, [], replicate}
 use Rattle.rbd_commands.specs.declared.command.Command.{Command}
 use Rattle.rbd_commands.specs.declared.command.Command.TheVariants as command
 use Rattle.rbd_kinds.specs.declared.reply.Reply.{Reply}
 use Rattle.rbd_kinds.specs.declared.reply.Reply.TheVariants as reply
 use Rattle.rbd_meaning.specs.Undone.{ComesLate}
-use Rattle.rbd_catalog.specs.Profile.{changes_anything, changes_what_is_seen, has_none_of, profile}
+use Rattle.rbd_catalog.specs.Profile.{changes_anything, changes_what_is_seen, has_none_of, is_answer, profile}
 use Rattle.rbd_replies.specs.Changed.{Creates, RemovesSnap, Renames, TakesSnap, Writes}
 use Rattle.rbd_replies.specs.Listed.{ListsNames, ShowsImage, ShowsSnaps, ShowsUsedAt}
 use Rattle.rbd_replies.specs.Places.{Placed, effects_of}
@@ -14,10 +14,10 @@ use Rattle.rbd_replies.specs.Removed.{RemovesAll}
 use Rattle.rbd_replies.specs.RolledBack.{RollsBackTo}
 use Rattle.rbd_replies.specs.Zeroed.{Discards, Resizes}
 
--- A command that is done, or shows something, did so by the flat-copy machine; what `close`,
--- `quiesce`, `resume` and `tell` do is no part of that machine. One that is refused did nothing to
--- it, unless the refusal may come when a part was done, as the fence's may; what refused it is said
--- by its last answer (`IsMeantBy` of `rbd_meaning`).
+-- A command that is done, or shows something, did so by the flat-copy machine. What the others do
+-- that are answered as their rows say, as a `close`, is no part of that machine. One that is refused
+-- did nothing to it, unless the refusal may come when a part was done, as the fence's may; what
+-- refused it is said by its last answer (`IsMeantBy` of `rbd_meaning`).
 abbrev pub IsReplyOf : Command → Reply → List Placed → Type 0
 IsReplyOf c (reply.Refused x) places = (ComesLate c x → ⊥) → effects_of places ≡ []
 IsReplyOf (command.Create image size shape) reply.Done places = Creates image size places
@@ -35,11 +35,7 @@ IsReplyOf command.List (reply.Names names) places = ListsNames names places
 IsReplyOf (command.Info image) (reply.Info h) places = ShowsImage image h places
 IsReplyOf (command.SnapList image) (reply.Snaps snaps) places = ShowsSnaps image snaps places
 IsReplyOf (command.Used image) (reply.Used used of) places = ShowsUsedAt image used of places
-IsReplyOf (command.Close image) reply.Done places = effects_of places ≡ []
-IsReplyOf (command.Quiesce image) reply.Done places = effects_of places ≡ []
-IsReplyOf (command.Resume image) reply.Done places = effects_of places ≡ []
-IsReplyOf (command.Tell image bytes) reply.Done places = effects_of places ≡ []
-IsReplyOf c r places = ⊥
+IsReplyOf c r places = (is_answer (profile c).answers r ≡ true) × (effects_of places ≡ [])
 
 -- what only shows: none of its operations changes anything
 abbrev pub only_shows : Command → Bool

@@ -35,7 +35,7 @@
 //! | `du` | how many objects the size of the flat image has at the place of its look, by the layout that it was told; and how many of them are in use by the states that its map told |
 //! | `info`, `snap ls` | size, role and snapshots of the flat image at the place of its look |
 //! | `read` | in its last pass each piece, by the layout that its first look was told, was read at a place of its own, and what was answered there are the flat view's bytes at this place; the extent lies within the view, and the looks at both ends of the pass were told headers of one generation |
-//! | `close`, `quiesce`, `resume`, `tell` done | no effect at all |
+//! | any other command, answered as its row says, as a `close` | no effect at all |
 //! | any refused | no effect at all, unless the fence refuses a change when a part of it was done; what refuses it is said of its last answer by `rbd_meaning` |
 //! | any refused on its way to the lock | no effect at all; what refuses it is said as of a look under the lock that was answered as the way's last operation was |
 //! | any to a command that changes no image | no effect at all, also where its line is lost or under way |

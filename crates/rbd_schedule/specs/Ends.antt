@@ -79,7 +79,7 @@ pub record IsKeptFrom {R : Type 0} (lost : (number : ℕ) → Bool) (w : WorldVi
   pub keeps : (c : ClientView R) → client_in lock.owner.session w.lives ≡ Some c → c.session.instance ≡ lock.owner → KeepsLock lost w p lock.owner (lock_state_at p.site p.image c.locks)
 
 -- Why a request that stands at its look under the lock of an image doesn't act there: a quiesce of
--- its session holds it back; or it is on its way to the lock, which another one keeps.
+-- its session holds it back; or it is on its way to the lock, which another client keeps.
 abbrev pub IsLockedOut : {R : Type 0} → (lost : (number : ℕ) → Bool) → ImageAt → WorldView R → ClientView R → Actor → Type 0
 IsLockedOut lost p w c actor.Nobody = (lock_state_at p.site p.image c.locks).quiesced ≡ true
 IsLockedOut lost p w c (actor.Way a) = IsKeptFrom lost w p c.session.instance

@@ -12,12 +12,12 @@ pub struct Given {
     pub session: SessionNo,
     /// The number of its line, from 1.
     pub line: u32,
-    /// It doesn't wait for the commands of its session before it.
+    /// It doesn't wait for the commands of its session before it (`&`).
     pub beside: bool,
     pub submission: Event,
 }
 
-/// The command that a line gives.
+/// The command that a line gives, if it gives one. NoMemory where memory for a copy is refused.
 pub fn given_by(line: &Line) -> Result<Option<Given>, NoMemory>
     ensures { IfOk result (λ given. given_or_none given ≡ told_by line.now.number line.now.said) }
 {

@@ -1,10 +1,12 @@
 //! The schedule of a script: which event comes next, and a play of it on a world.
 //!
 //! ```text
-//! let world: World = play(alloc, &script)?;   // a script that `rbd_script` read
-//! world.history()                                            // what happened, in order
-//! world.events()                                             // how many events came
+//! let world = play(alloc, &script)?;          // a script that `rbd_script` read
+//! let history = world.history();              // what happened, in order
+//! let events = world.events();                // how many events came
 //! ```
+//!
+//! A script:
 //!
 //! ```text
 //! client c1 a
@@ -20,46 +22,47 @@
 //! # Rules
 //!
 //! - When a line with a command is reached, its session is given the command. Behind each line and
-//!   each event all commands that may start are submitted, one after another: that of the first
-//!   session, in the order of declaration, which has one, and of its commands the earliest. One may
-//!   start where its session runs and has a free slot, and either it has `&`, or each earlier
-//!   command of its session has its reply or is lost.
+//!   each event all commands that may start are submitted, one after another: the first session, in
+//!   the order of declaration, that has one, and of its commands the earliest. One may start where
+//!   its session runs and has a free slot, and either it has `&`, or each earlier command of its
+//!   session has its reply or is lost.
 //! - `@poll` polls a slot so many times. `@until` looks before each poll, and polls until the slot
 //!   wants the operation of that word, 4,096 times at most.
 //! - `@deliver`, `@expire`, `@stop`, `@restart`, `@late` and `@trim` are one event each. `@lose` is
-//!   none: it keeps settles from delivering a notice, for good, also one that isn't there yet.
-//! - `@settle` plays rounds. In a round each session that runs has its turn, in the order of
-//!   declaration: first each notice is delivered that is to its instance and was neither delivered
+//!   none: it keeps rounds from delivering a notice, for good, also one that isn't there yet.
+//! - `@settle` plays rounds. In a *round* each session that runs has its turn, in the order of
+//!   declaration. First each notice is delivered that is to its instance and was neither delivered
 //!   nor lost, in ascending order; then slot 0 is polled, and then each slot that is held at this
-//!   point, in ascending order. A round in which no step was done, but such as ask again for a
-//!   lock, is idle, and eight of these in a row end it. A delivery is no step.
+//!   point, in ascending order. (This turn is none at an object.) A round in which no step was
+//!   done, but such as ask again for a lock, is *idle*, and eight of these in a row end it. A
+//!   delivery is no step.
 //! - Behind the last line come `2^60 * (commands + 1)` rounds more, or as many as it takes until
 //!   eight in a row are idle.
 //!
 //! # Contracts
 //!
+//! - [`play`] answers with a world to which the script's schedule led, from a new one on
+//!   (`IsPlay`): each of its calls is the event that the rules name behind the calls before it.
+//!   Nothing goes on in it any more.
+//! - [`laws`], of each script that was read: its lines ascend, and name declared sessions. Of each
+//!   session with a request: one of its requests may go on, as long as no lock holds it. So at the
+//!   end of each play each command that was begun has its reply, or is lost, or is held up at a
+//!   lock, or stands behind such a one in the line of its image. And a command without `&` begins
+//!   when all before it of its session have ended.
+//!
 //! | file | what it says |
 //! |---|---|
-//! | `specs/Given.antt` | the commands that lines give to sessions, and the notices that they lose |
-//! | `specs/Notices.antt` | which notices were delivered (`was_heard`), and which are due to a session (`is_notice_due`) |
-//! | `specs/Starts.antt` | which of them may start (`to_start`), and that none may (`IsQuiet`) |
-//! | `specs/Schedule.antt` | the schedule, as a relation on worlds: an event and what starts behind it, polls, turns, rounds, lines, a script (`PlaysScript`) |
-//! | `specs/Slots.antt` | what the slots of a client tell, behind each event (`AreClientsCounted`) |
+//! | `specs/Given.antt` | the commands that lines give to sessions; the notices that they lose |
+//! | `specs/Notices.antt` | which notices were delivered, and which are due to a session |
+//! | `specs/Starts.antt` | which command starts next (`to_start`), and that none may (`IsQuiet`) |
 //! | `specs/Deeds.antt` | deeds, one after another |
-//! | `specs/Playing.antt` | which scripts are played (`IsPlayable`), and what a play is (`IsPlay`); and what the runner keeps |
+//! | `specs/Schedule.antt` | the schedule, as a relation on worlds (`PlaysScript`) |
+//! | `specs/Slots.antt` | what the slots of a client tell, behind each event |
+//! | `specs/Playing.antt` | which scripts are played, what a play is, and what the runner keeps |
 //! | `specs/InOrder.antt` | what holds of the lines of each script that was read |
-//! | `specs/InTurn.antt` | that commands that wait for each other come one after another (`AreInTurn`) |
+//! | `specs/InTurn.antt` | commands that wait for each other come one after another |
 //! | `specs/Going.antt` | whether a request of a session may go on (`MayGo`) |
-//! | `specs/Ends.antt` | that at the end each command that was begun has its reply, is lost, or is held up at a lock (`HasCalmed`) |
-//!
-//! [`play`] answers with a world to which the script's schedule led, from a new one on: each of its
-//! calls is the event that the rules name behind the calls before it, and all of it is one run. And
-//! nothing goes on in it any more. [`laws`] says of each script
-//! that was read that its lines ascend and name declared sessions; of each session with a request
-//! that one of its requests may go on, as long as no lock holds it; and so of each play that at its
-//! end each command that was begun has its reply, or is lost, or is held up at a lock, or stands
-//! behind such a one in the line of its image. And of each play that a command without `&` begins
-//! when all before it of its session have ended.
+//! | `specs/Ends.antt` | how a play ends (`HasCalmed`) |
 //!
 //! # Cost
 //!

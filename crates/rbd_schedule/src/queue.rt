@@ -47,7 +47,7 @@ impl Queue {
         }
     }
 
-    /// A command is given to the session.
+    /// A command is given to the session. NoMemory where memory for it is refused.
     pub fn push(&mut self, given: Given) -> Result<(), NoMemory>
         ensures commands { OnOk result (self.new.commands.items ≡ self.old.commands.items ++ given ∷ []) }
         ensures front { self.new.front ≡ self.old.front }

@@ -3,7 +3,7 @@
 //! ```text
 //! settle    round, round, .. ── as many as asked, or until eight in a row were idle
 //! round     turn of session 0, turn of session 1, ..
-//! turn      of a session that runs: its notices, slot 0, and then each slot that is held at this point
+//! turn      of a session that runs: its notices, slot 0, and then each slot that is held then
 //! ```
 ghost use Rattle.std.specs.Prelude.{◌≡◌, ℕ, ◌+◌, ◌<◌, ◌≤◌, ◌||◌, if◌then◌else◌, length, slice_get, Some, IfOk, OnOk};
 ghost use Rattle.rbd_client.specs.Seen.{as_is};
@@ -21,7 +21,8 @@ use std::alloc::Global;
 const MOST_IDLE: u8 = 8;
 
 impl Runner {
-    /// So many rounds, or as many as it takes until eight are idle in a row.
+    /// So many rounds, or as many as it takes until eight are idle in a row. NoMemory where memory
+    /// is refused.
     pub fn settle(&mut self, alloc: Global, rounds: u128) -> Result<(), NoMemory>
         requires { KeepsUp self.old }
         ensures settles { OnOk result (Settles as_is (given_to self.old) (lost_in self.old) (length self.old.queues.items) rounds (seen self.old.world) (seen self.new.world)) }

@@ -24,7 +24,8 @@ const MOST_POLLS: u32 = 4096;
 const CLOSING_ROUNDS: u128 = 1 << 60;
 
 /// Plays a script by its schedule, from a new world on to the end, where nothing goes on any more.
-/// It takes memory for the script's commands once more, and for what happens in the world.
+/// It takes memory for the script's commands once more, and for what happens in the world. NoMemory
+/// where that is refused.
 pub fn play(alloc: Global, script: &Script) -> Result<World, NoMemory>
     requires { IsPlayable script.now }
     ensures play { IfOk result (λ w. IsPlay as_is script.now (seen w)) }

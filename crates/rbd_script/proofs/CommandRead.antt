@@ -1,11 +1,15 @@
 -- What spells a command is read as it.
-use Rattle.std.proofs.Common.{◌≡◌, ℕ, ◌<◌, ◌≤◌, ◌^◌, Bool, true, false, List, [], ◌∷◌, ◌++◌, Option, Some, None, Ok, refl, ◌∙◌, arith}
+use Rattle.std.proofs.Common.{◌≡◌, ℕ, ◌<◌, ◌≤◌, ◌^◌, Bool, true, false, List, [], ◌∷◌, ◌++◌, Option, Some, None, Result, Ok, Err, refl, ◌∙◌, arith}
 use Rattle.std.specs.Prelude.{codes, decimal, IfSome}
 use Rattle.hex.specs.Hex.{encode_lower}
+use Rattle.rbd_values.specs.Name.{IsAskedName}
 use Rattle.rbd_commands.specs.declared.command.Command.{Command}
 use Rattle.rbd_commands.specs.declared.command.Command.TheVariants as command
+use Rattle.rbd_script.specs.declared.fault.LineCause.{LineCause}
+use Rattle.rbd_script.specs.declared.fault.LineCause.TheVariants.{ExtraPart}
 use Rattle.rbd_script.specs.declared.verb.Verb.{Verb}
 use Rattle.rbd_script.specs.declared.verb.Verb.TheVariants as verb
+use Rattle.rbd_script.specs.declared.verb.ImageVerb.{ImageVerb}
 use Rattle.rbd_script.specs.declared.verb.ImageVerb.TheVariants as image
 use Rattle.rbd_script.specs.declared.snap.SnapVerb.{SnapVerb}
 use Rattle.rbd_script.specs.declared.snap.SnapVerb.TheVariants as snap
@@ -18,8 +22,9 @@ use Rattle.rbd_script.specs.Form.{form}
 use Rattle.rbd_script.specs.Number.{greatest, number_between}
 use Rattle.rbd_script.specs.Part.{part_of}
 use Rattle.rbd_script.specs.Part.Part.{Flag, Optional}
-use Rattle.rbd_script.specs.Spelling.{flag_tokens, IsInRange, IsShape, option_tokens, shape_tokens, snap_token, spelling, target_token}
-use Rattle.rbd_script.specs.Word.{mirror_verb_of, mirror_word, snap_verb_of, snap_word, verb_of, verb_word}
+use Rattle.rbd_script.specs.Spelling.{flag_tokens, image_tokens, IsImageInRange, IsInRange, IsShape, option_tokens, shape_tokens, snap_token, spelling, target_token}
+use Rattle.rbd_script.specs.Verbs.{image_command, image_said, image_word, verb_of, verb_word}
+use Rattle.rbd_script.specs.Word.{mirror_verb_of, mirror_word, snap_verb_of, snap_word}
 use Rattle.rbd_script.proofs.HexSpelling.{byte_read, hex_read}
 use Rattle.rbd_script.proofs.TokenSpelling.{name_read, number_read, snap_read, target_read}
 
@@ -32,25 +37,8 @@ big = omega arith
 verb_first : (v : Verb) → verb_of (verb_word v) ≡ Ok v
 unfolding verb_of
 verb_first verb.Create = refl
-verb_first verb.Clone = refl
-verb_first verb.Write = refl
-verb_first verb.Fill = refl
-verb_first verb.Discard = refl
-verb_first verb.Read = refl
-verb_first verb.Resize = refl
-verb_first verb.Rename = refl
-verb_first verb.List = refl
-verb_first verb.Children = refl
-verb_first verb.Tell = refl
-verb_first verb.Snap = refl
-verb_first verb.Mirror = refl
 verb_first (verb.Image image.Remove) = refl
-verb_first (verb.Image image.Info) = refl
-verb_first (verb.Image image.Used) = refl
-verb_first (verb.Image image.Flatten) = refl
-verb_first (verb.Image image.Quiesce) = refl
-verb_first (verb.Image image.Resume) = refl
-verb_first (verb.Image image.Close) = refl
+verb_first v = refl
 
 command_with : (v : Verb) (ts : Tokens) → command_of_tokens (verb_word v ∷ ts) ≡ command_form v ts
 unfolding command_of_tokens part_of
@@ -116,6 +104,19 @@ shape_read said None None (Some n) j is = unit_read (said None) None (Some n) j 
 shape_read said None (Some n) c j is = unit_read (said None) (Some n) c j is.unit is.count
 shape_read said (Some n) u c j is = rw (number_in greatest n big is.object) (unit_read (said (Some n)) u c j is.unit is.count)
 
+-- `WORD IMAGE`
+word_read : (v : ImageVerb) (i : List ℕ) → IsAskedName i → command_of_tokens (image_word v ∷ i ∷ []) ≡ Ok (image_command v i)
+unfolding form part_of
+word_read v i is = command_with (verb.Image v) (i ∷ []) ∙ rw (name_read i is) refl
+
+abbrev said_by : Option (ImageVerb × List ℕ) → Result Command LineCause
+said_by None = Err ExtraPart
+said_by (Some said) = Ok (image_command said.0 said.1)
+
+image_read : (o : Option (ImageVerb × List ℕ)) → IsImageInRange o → command_of_tokens (image_tokens o) ≡ said_by o
+image_read None is = absurd is
+image_read (Some said) is = word_read said.0 said.1 is
+
 pub spelled_is_read : (c : Command) → IsInRange c → command_of_tokens (spelling c) ≡ Ok c
 unfolding form part_of
 spelled_is_read (command.Create i size s) is =
@@ -134,13 +135,6 @@ spelled_is_read (command.Read i snap at len) is =
     ∙ rw (target_read i snap is.0.0 is.0.1, number_in greatest at big is.1, number_in 65536 len (omega arith) is.2) refl
 spelled_is_read (command.Resize i size) is = command_with verb.Resize (i ∷ decimal size ∷ []) ∙ rw (name_read i is.0, number_in greatest size big is.1) refl
 spelled_is_read (command.Rename from to) is = command_with verb.Rename (from ∷ to ∷ []) ∙ rw (name_read from is.0, name_read to is.1) refl
-spelled_is_read (command.Remove i) is = command_with (verb.Image image.Remove) (i ∷ []) ∙ rw (name_read i is) refl
-spelled_is_read (command.Info i) is = command_with (verb.Image image.Info) (i ∷ []) ∙ rw (name_read i is) refl
-spelled_is_read (command.Used i) is = command_with (verb.Image image.Used) (i ∷ []) ∙ rw (name_read i is) refl
-spelled_is_read (command.Flatten i) is = command_with (verb.Image image.Flatten) (i ∷ []) ∙ rw (name_read i is) refl
-spelled_is_read (command.Quiesce i) is = command_with (verb.Image image.Quiesce) (i ∷ []) ∙ rw (name_read i is) refl
-spelled_is_read (command.Resume i) is = command_with (verb.Image image.Resume) (i ∷ []) ∙ rw (name_read i is) refl
-spelled_is_read (command.Close i) is = command_with (verb.Image image.Close) (i ∷ []) ∙ rw (name_read i is) refl
 spelled_is_read command.List is = command_with verb.List []
 spelled_is_read (command.Children i snap) is = command_with verb.Children (snap_token i snap ∷ []) ∙ rw (snap_read i snap is.0 is.1) refl
 spelled_is_read (command.Tell i bytes) is = command_with verb.Tell (i ∷ encode_lower bytes ∷ []) ∙ rw (name_read i is.0, hex_read bytes is.1) refl
@@ -157,3 +151,4 @@ spelled_is_read (command.MirrorStatus i) is = mirror_with (mirror.Of of_mirror.S
 spelled_is_read (command.MirrorFollow i) is = mirror_with (mirror.Of of_mirror.Follow) (i ∷ []) ∙ rw (name_read i is) refl
 spelled_is_read (command.MirrorPromote i true) is = mirror_with mirror.Promote (i ∷ codes "force" ∷ []) ∙ rw (name_read i is) refl
 spelled_is_read (command.MirrorPromote i false) is = mirror_with mirror.Promote (i ∷ []) ∙ rw (name_read i is) refl
+spelled_is_read c is = image_read (image_said c) is

@@ -4,11 +4,13 @@ use Rattle.std.specs.Prelude.{codes, decimal}
 use Rattle.std.proofs.lemmas.List.{append-nil}
 use Rattle.std.specs.Cmp.Lexicographic.{same_text}
 use Rattle.hex.specs.Hex.{encode_lower}
+use Rattle.rbd_values.specs.Name.{IsAskedName}
 use Rattle.rbd_commands.specs.declared.command.Command.{Command}
 use Rattle.rbd_commands.specs.declared.command.Command.TheVariants as command
 use Rattle.rbd_script.specs.declared.fault.LineCause.{LineCause}
 use Rattle.rbd_script.specs.declared.verb.Verb.{Verb}
 use Rattle.rbd_script.specs.declared.verb.Verb.TheVariants as verb
+use Rattle.rbd_script.specs.declared.verb.ImageVerb.{ImageVerb}
 use Rattle.rbd_script.specs.declared.verb.ImageVerb.TheVariants as image
 use Rattle.rbd_script.specs.declared.snap.SnapVerb.{SnapVerb}
 use Rattle.rbd_script.specs.declared.snap.SnapVerb.TheVariants as snap
@@ -16,13 +18,14 @@ use Rattle.rbd_script.specs.declared.snap.OfSnap.TheVariants as of_snap
 use Rattle.rbd_script.specs.declared.mirror.MirrorVerb.{MirrorVerb}
 use Rattle.rbd_script.specs.declared.mirror.MirrorVerb.TheVariants as mirror
 use Rattle.rbd_script.specs.declared.mirror.OfMirrored.TheVariants as of_mirror
-use Rattle.rbd_script.specs.Command.{command_form, command_of_tokens, image_command, mirror_command, mirror_form, shape, shape_parts, snap_command, snap_form}
+use Rattle.rbd_script.specs.Command.{command_form, command_of_tokens, mirror_command, mirror_form, shape, shape_parts, snap_command, snap_form}
 use Rattle.rbd_script.specs.Form.{and_then}
 use Rattle.rbd_script.specs.Number.{greatest}
 use Rattle.rbd_script.specs.Part.{part_of, place}
 use Rattle.rbd_script.specs.Part.Part.{Byte, Flag, Hex, Image, Number, Optional, Snap, Target}
 use Rattle.rbd_script.specs.Spelling.{flag_tokens, option_tokens, snap_token, Spells, target_token}
-use Rattle.rbd_script.specs.Word.{mirror_verb_of, mirror_word, snap_verb_of, snap_word, verb_of, verb_word, all_verbs, all_snap_verbs, all_mirror_verbs, with_word}
+use Rattle.rbd_script.specs.Verbs.{all_verbs, image_command, image_word, verb_of, verb_word}
+use Rattle.rbd_script.specs.Word.{mirror_verb_of, mirror_word, snap_verb_of, snap_word, all_snap_verbs, all_mirror_verbs, with_word}
 use Rattle.rbd_script.specs.Session.{known}
 use Rattle.rbd_script.specs.Token.{is as same}
 use Rattle.rbd_script.proofs.PartSpelling.{and_then_ok, form_says, IsForm, place_ok}
@@ -165,40 +168,14 @@ promote_said ts c f0 =
     let f2 = f1.3 in
     subst (λ (x : Command). Spells (codes "mirror" ∷ codes "promote" ∷ ts) x) f2.1 ((ap (λ (x : Tokens). codes "mirror" ∷ x) (ap (λ (x : Tokens). codes "promote" ∷ x) (f0.2.0 ∙ ap (λ (x : Tokens). f0.0 ∷ x) (f1.2 ∙ ap (λ (x : Tokens). flag_tokens (codes "force") f1.0 ++ x) f2.0 ∙ append-nil (flag_tokens (codes "force") f1.0))))), f0.2.1)
 
-remove_said : (ts : Tokens) (c : Command) → IsForm (Image ∷ []) (image_command image.Remove) ts c → Spells (codes "rm" ∷ ts) c
-remove_said ts c f0 =
-    let f1 = f0.3 in
-    subst (λ (x : Command). Spells (codes "rm" ∷ ts) x) f1.1 ((ap (λ (x : Tokens). codes "rm" ∷ x) (f0.2.0 ∙ ap (λ (x : Tokens). f0.0 ∷ x) f1.0)), f0.2.1)
+image_spells : (v : ImageVerb) (i : List ℕ) (ts : Tokens) → ts ≡ i ∷ [] → IsAskedName i → Spells (image_word v ∷ ts) (image_command v i)
+image_spells image.Remove i ts are named = (ap (λ (x : Tokens). image_word image.Remove ∷ x) are, named)
+image_spells v i ts are named = (ap (λ (x : Tokens). image_word v ∷ x) are, named)
 
-info_said : (ts : Tokens) (c : Command) → IsForm (Image ∷ []) (image_command image.Info) ts c → Spells (codes "info" ∷ ts) c
-info_said ts c f0 =
+word_said : (v : ImageVerb) (ts : Tokens) (c : Command) → IsForm (Image ∷ []) (image_command v) ts c → Spells (image_word v ∷ ts) c
+word_said v ts c f0 =
     let f1 = f0.3 in
-    subst (λ (x : Command). Spells (codes "info" ∷ ts) x) f1.1 ((ap (λ (x : Tokens). codes "info" ∷ x) (f0.2.0 ∙ ap (λ (x : Tokens). f0.0 ∷ x) f1.0)), f0.2.1)
-
-used_said : (ts : Tokens) (c : Command) → IsForm (Image ∷ []) (image_command image.Used) ts c → Spells (codes "du" ∷ ts) c
-used_said ts c f0 =
-    let f1 = f0.3 in
-    subst (λ (x : Command). Spells (codes "du" ∷ ts) x) f1.1 ((ap (λ (x : Tokens). codes "du" ∷ x) (f0.2.0 ∙ ap (λ (x : Tokens). f0.0 ∷ x) f1.0)), f0.2.1)
-
-flatten_said : (ts : Tokens) (c : Command) → IsForm (Image ∷ []) (image_command image.Flatten) ts c → Spells (codes "flatten" ∷ ts) c
-flatten_said ts c f0 =
-    let f1 = f0.3 in
-    subst (λ (x : Command). Spells (codes "flatten" ∷ ts) x) f1.1 ((ap (λ (x : Tokens). codes "flatten" ∷ x) (f0.2.0 ∙ ap (λ (x : Tokens). f0.0 ∷ x) f1.0)), f0.2.1)
-
-quiesce_said : (ts : Tokens) (c : Command) → IsForm (Image ∷ []) (image_command image.Quiesce) ts c → Spells (codes "quiesce" ∷ ts) c
-quiesce_said ts c f0 =
-    let f1 = f0.3 in
-    subst (λ (x : Command). Spells (codes "quiesce" ∷ ts) x) f1.1 ((ap (λ (x : Tokens). codes "quiesce" ∷ x) (f0.2.0 ∙ ap (λ (x : Tokens). f0.0 ∷ x) f1.0)), f0.2.1)
-
-resume_said : (ts : Tokens) (c : Command) → IsForm (Image ∷ []) (image_command image.Resume) ts c → Spells (codes "resume" ∷ ts) c
-resume_said ts c f0 =
-    let f1 = f0.3 in
-    subst (λ (x : Command). Spells (codes "resume" ∷ ts) x) f1.1 ((ap (λ (x : Tokens). codes "resume" ∷ x) (f0.2.0 ∙ ap (λ (x : Tokens). f0.0 ∷ x) f1.0)), f0.2.1)
-
-close_said : (ts : Tokens) (c : Command) → IsForm (Image ∷ []) (image_command image.Close) ts c → Spells (codes "close" ∷ ts) c
-close_said ts c f0 =
-    let f1 = f0.3 in
-    subst (λ (x : Command). Spells (codes "close" ∷ ts) x) f1.1 ((ap (λ (x : Tokens). codes "close" ∷ x) (f0.2.0 ∙ ap (λ (x : Tokens). f0.0 ∷ x) f1.0)), f0.2.1)
+    subst (λ (x : Command). Spells (image_word v ∷ ts) x) f1.1 (image_spells v f0.0 ts (f0.2.0 ∙ ap (λ (x : Tokens). f0.0 ∷ x) f1.0) f0.2.1)
 
 snap_create_said : (ts : Tokens) (c : Command) → IsForm (Snap ∷ []) (snap_command of_snap.Create) ts c → Spells (codes "snap" ∷ codes "create" ∷ ts) c
 snap_create_said ts c f0 =
@@ -288,13 +265,7 @@ command_form_said verb.Rename ts c is = rename_said ts c (form_says (Image ∷ I
 command_form_said verb.List ts c is = list_said ts c (form_says [] command.List ts c is)
 command_form_said verb.Children ts c is = children_said ts c (form_says (Snap ∷ []) (λ s. command.Children s.0 s.1) ts c is)
 command_form_said verb.Tell ts c is = tell_said ts c (form_says (Image ∷ Hex ∷ []) command.Tell ts c is)
-command_form_said (verb.Image image.Remove) ts c is = remove_said ts c (form_says (Image ∷ []) (image_command image.Remove) ts c is)
-command_form_said (verb.Image image.Info) ts c is = info_said ts c (form_says (Image ∷ []) (image_command image.Info) ts c is)
-command_form_said (verb.Image image.Used) ts c is = used_said ts c (form_says (Image ∷ []) (image_command image.Used) ts c is)
-command_form_said (verb.Image image.Flatten) ts c is = flatten_said ts c (form_says (Image ∷ []) (image_command image.Flatten) ts c is)
-command_form_said (verb.Image image.Quiesce) ts c is = quiesce_said ts c (form_says (Image ∷ []) (image_command image.Quiesce) ts c is)
-command_form_said (verb.Image image.Resume) ts c is = resume_said ts c (form_says (Image ∷ []) (image_command image.Resume) ts c is)
-command_form_said (verb.Image image.Close) ts c is = close_said ts c (form_says (Image ∷ []) (image_command image.Close) ts c is)
+command_form_said (verb.Image v) ts c is = word_said v ts c (form_says (Image ∷ []) (image_command v) ts c is)
 command_form_said verb.Snap ts c is =
     let w = word_ok snap_verb_of snap_word snap_form ts c snap_verb_said is in
     subst (λ (x : Tokens). Spells (codes "snap" ∷ x) c) (sym w.2) (snap_form_said w.0 w.1 c w.3)

@@ -6,8 +6,6 @@ use Rattle.rbd_commands.specs.declared.command.Shape.{Shape}
 use Rattle.rbd_script.specs.declared.fault.LineCause.{LineCause}
 use Rattle.rbd_script.specs.declared.verb.Verb.{Verb}
 use Rattle.rbd_script.specs.declared.verb.Verb.TheVariants as verb
-use Rattle.rbd_script.specs.declared.verb.ImageVerb.{ImageVerb}
-use Rattle.rbd_script.specs.declared.verb.ImageVerb.TheVariants as image
 use Rattle.rbd_script.specs.declared.snap.SnapVerb.{SnapVerb}
 use Rattle.rbd_script.specs.declared.snap.SnapVerb.TheVariants as snap
 use Rattle.rbd_script.specs.declared.snap.OfSnap.{OfSnap}
@@ -20,6 +18,7 @@ use Rattle.rbd_script.specs.Form.{and_then, form}
 use Rattle.rbd_script.specs.Number.{greatest}
 use Rattle.rbd_script.specs.Part.{Part, part_of}
 use Rattle.rbd_script.specs.Part.Part.{Byte, CommandWord, Flag, Hex, Image, MirrorWord, Number, Optional, Snap, SnapWord, Target}
+use Rattle.rbd_script.specs.Verbs.{image_command}
 
 -- `[object N] [unit N] [count N] [journal]`
 abbrev pub shape_parts : List Part
@@ -27,16 +26,6 @@ shape_parts = Optional (codes "object") greatest ∷ Optional (codes "unit") gre
 
 abbrev pub shape : Option ℕ → Option ℕ → Option ℕ → Bool → Shape
 shape object unit count journal = record { object = object; unit = unit; count = count; journal = journal }
-
--- `rm|info|du|flatten|quiesce|resume|close IMAGE`
-abbrev pub image_command : ImageVerb → List ℕ → Command
-image_command image.Remove i = command.Remove i
-image_command image.Info i = command.Info i
-image_command image.Used i = command.Used i
-image_command image.Flatten i = command.Flatten i
-image_command image.Quiesce i = command.Quiesce i
-image_command image.Resume i = command.Resume i
-image_command image.Close i = command.Close i
 
 -- `create|rm|protect|unprotect|rollback IMAGE@SNAP`
 abbrev pub snap_command : OfSnap → (s : List ℕ × List ℕ) → Command

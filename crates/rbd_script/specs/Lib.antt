@@ -12,4 +12,5 @@ pub mod Schedule
 pub mod Session
 pub mod Spelling
 pub mod Token
+pub mod Verbs
 pub mod Word

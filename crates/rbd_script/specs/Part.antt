@@ -14,7 +14,8 @@ use Rattle.rbd_script.specs.Name.{name_of_token, snap_of_token, target_of}
 use Rattle.rbd_script.specs.Number.{number_between}
 use Rattle.rbd_script.specs.Session.{new_session_of, session_of_token}
 use Rattle.rbd_script.specs.Token.{is}
-use Rattle.rbd_script.specs.Word.{kind_of_token, mirror_verb_of, schedule_verb_of, site_of_token, snap_verb_of, verb_of}
+use Rattle.rbd_script.specs.Verbs.{verb_of}
+use Rattle.rbd_script.specs.Word.{kind_of_token, mirror_verb_of, schedule_verb_of, site_of_token, snap_verb_of}
 
 pub data Part : Type 0 where
   -- places of one token

@@ -6,7 +6,9 @@ use Rattle.rbd_values.specs.Name.{IsAskedName}
 use Rattle.rbd_commands.specs.declared.command.Command.{Command}
 use Rattle.rbd_commands.specs.declared.command.Command.TheVariants as command
 use Rattle.rbd_commands.specs.declared.command.Shape.{Shape}
+use Rattle.rbd_script.specs.declared.verb.ImageVerb.{ImageVerb}
 use Rattle.rbd_script.specs.Number.{greatest}
+use Rattle.rbd_script.specs.Verbs.{image_said, image_word}
 
 -- `[WORD N]`
 abbrev pub option_tokens : (word : List ℕ) → Option ℕ → List (List ℕ)
@@ -33,7 +35,12 @@ abbrev pub target_token : (image : List ℕ) → Option (List ℕ) → List ℕ
 target_token image None = image
 target_token image (Some snap) = snap_token image snap
 
--- the tokens of a command
+-- `WORD IMAGE`
+abbrev pub image_tokens : Option (ImageVerb × List ℕ) → List (List ℕ)
+image_tokens None = []
+image_tokens (Some said) = image_word said.0 ∷ said.1 ∷ []
+
+-- the tokens of a command; each one without a line here names an image and nothing else
 abbrev pub spelling : Command → List (List ℕ)
 spelling (command.Create image size shape) = codes "create" ∷ image ∷ decimal size ∷ shape_tokens shape
 spelling (command.Clone parent snap image shape) = codes "clone" ∷ snap_token parent snap ∷ image ∷ shape_tokens shape
@@ -43,13 +50,6 @@ spelling (command.Discard image at len) = codes "discard" ∷ image ∷ decimal 
 spelling (command.Read image snap at len) = codes "read" ∷ target_token image snap ∷ decimal at ∷ decimal len ∷ []
 spelling (command.Resize image size) = codes "resize" ∷ image ∷ decimal size ∷ []
 spelling (command.Rename from to) = codes "rename" ∷ from ∷ to ∷ []
-spelling (command.Remove image) = codes "rm" ∷ image ∷ []
-spelling (command.Info image) = codes "info" ∷ image ∷ []
-spelling (command.Used image) = codes "du" ∷ image ∷ []
-spelling (command.Flatten image) = codes "flatten" ∷ image ∷ []
-spelling (command.Quiesce image) = codes "quiesce" ∷ image ∷ []
-spelling (command.Resume image) = codes "resume" ∷ image ∷ []
-spelling (command.Close image) = codes "close" ∷ image ∷ []
 spelling command.List = codes "ls" ∷ []
 spelling (command.Children image snap) = codes "children" ∷ snap_token image snap ∷ []
 spelling (command.Tell image bytes) = codes "tell" ∷ image ∷ encode_lower bytes ∷ []
@@ -65,6 +65,7 @@ spelling (command.MirrorPromote image force) = codes "mirror" ∷ codes "promote
 spelling (command.MirrorResync image) = codes "mirror" ∷ codes "resync" ∷ image ∷ []
 spelling (command.MirrorStatus image) = codes "mirror" ∷ codes "status" ∷ image ∷ []
 spelling (command.MirrorFollow image) = codes "mirror" ∷ codes "follow" ∷ image ∷ []
+spelling c = image_tokens (image_said c)
 
 pub record IsShape (s : Shape) : Type 0 where
   pub object : IfSome s.object (λ n. n ≤ greatest)
@@ -76,6 +77,10 @@ pub record IsHex (bytes : List ℕ) : Type 0 where
   pub long : IsPayload bytes
   pub each : IsBytes bytes
 
+abbrev pub IsImageInRange : Option (ImageVerb × List ℕ) → Type 0
+IsImageInRange None = ⊥
+IsImageInRange (Some said) = IsAskedName said.1
+
 -- the ranges of a command's parts
 abbrev pub IsInRange : Command → Type 0
 IsInRange (command.Create image size shape) = IsAskedName image × (size ≤ greatest) × IsShape shape
@@ -86,13 +91,6 @@ IsInRange (command.Discard image at len) = IsAskedName image × (at ≤ greatest
 IsInRange (command.Read image snap at len) = (IsAskedName image × IfSome snap IsAskedName) × (at ≤ greatest) × (len ≤ 65536)
 IsInRange (command.Resize image size) = IsAskedName image × (size ≤ greatest)
 IsInRange (command.Rename from to) = IsAskedName from × IsAskedName to
-IsInRange (command.Remove image) = IsAskedName image
-IsInRange (command.Info image) = IsAskedName image
-IsInRange (command.Used image) = IsAskedName image
-IsInRange (command.Flatten image) = IsAskedName image
-IsInRange (command.Quiesce image) = IsAskedName image
-IsInRange (command.Resume image) = IsAskedName image
-IsInRange (command.Close image) = IsAskedName image
 IsInRange command.List = Unit {0}
 IsInRange (command.Children image snap) = IsAskedName image × IsAskedName snap
 IsInRange (command.Tell image bytes) = IsAskedName image × IsHex bytes
@@ -108,6 +106,7 @@ IsInRange (command.MirrorPromote image force) = IsAskedName image
 IsInRange (command.MirrorResync image) = IsAskedName image
 IsInRange (command.MirrorStatus image) = IsAskedName image
 IsInRange (command.MirrorFollow image) = IsAskedName image
+IsInRange c = IsImageInRange (image_said c)
 
 -- the tokens spell the command, which is in range
 abbrev pub Spells : List (List ℕ) → Command → Type 0

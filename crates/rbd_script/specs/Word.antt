@@ -8,10 +8,6 @@ use Rattle.rbd_kinds.specs.declared.operation_kind.OpKind.TheVariants as kind
 use Rattle.rbd_kinds.specs.Operation.{op_word}
 use Rattle.rbd_script.specs.declared.fault.LineCause.{LineCause}
 use Rattle.rbd_script.specs.declared.fault.LineCause.TheVariants.{UnknownWord}
-use Rattle.rbd_script.specs.declared.verb.Verb.{Verb}
-use Rattle.rbd_script.specs.declared.verb.Verb.TheVariants as verb
-use Rattle.rbd_script.specs.declared.verb.ImageVerb.{ImageVerb}
-use Rattle.rbd_script.specs.declared.verb.ImageVerb.TheVariants as image
 use Rattle.rbd_script.specs.declared.snap.SnapVerb.{SnapVerb}
 use Rattle.rbd_script.specs.declared.snap.SnapVerb.TheVariants as snap
 use Rattle.rbd_script.specs.declared.snap.OfSnap.TheVariants as of_snap
@@ -22,32 +18,6 @@ use Rattle.rbd_script.specs.declared.schedule.ScheduleVerb.{ScheduleVerb}
 use Rattle.rbd_script.specs.declared.schedule.ScheduleVerb.TheVariants as schedule
 use Rattle.rbd_script.specs.Session.{known}
 use Rattle.rbd_script.specs.Token.{is}
-
--- commands
-abbrev pub image_word : ImageVerb → List ℕ
-image_word image.Remove = codes "rm"
-image_word image.Info = codes "info"
-image_word image.Used = codes "du"
-image_word image.Flatten = codes "flatten"
-image_word image.Quiesce = codes "quiesce"
-image_word image.Resume = codes "resume"
-image_word image.Close = codes "close"
-
-abbrev pub verb_word : Verb → List ℕ
-verb_word verb.Create = codes "create"
-verb_word verb.Clone = codes "clone"
-verb_word verb.Write = codes "write"
-verb_word verb.Fill = codes "fill"
-verb_word verb.Discard = codes "discard"
-verb_word verb.Read = codes "read"
-verb_word verb.Resize = codes "resize"
-verb_word verb.Rename = codes "rename"
-verb_word (verb.Image v) = image_word v
-verb_word verb.List = codes "ls"
-verb_word verb.Children = codes "children"
-verb_word verb.Tell = codes "tell"
-verb_word verb.Snap = codes "snap"
-verb_word verb.Mirror = codes "mirror"
 
 -- behind `snap`
 abbrev pub snap_word : SnapVerb → List ℕ
@@ -86,33 +56,6 @@ with_word word all token = find (λ x. is (word x) token) all
 
 abbrev pub by_word : {X : Type 0} → (X → List ℕ) → List X → List ℕ → Result X LineCause
 by_word word all token = known (with_word word all token)
-
-abbrev pub all_verbs : List Verb
-all_verbs =
-    verb.Create
-    ∷ verb.Clone
-    ∷ verb.Write
-    ∷ verb.Fill
-    ∷ verb.Discard
-    ∷ verb.Read
-    ∷ verb.Resize
-    ∷ verb.Rename
-    ∷ verb.Image image.Remove
-    ∷ verb.Image image.Info
-    ∷ verb.Image image.Used
-    ∷ verb.Image image.Flatten
-    ∷ verb.Image image.Quiesce
-    ∷ verb.Image image.Resume
-    ∷ verb.Image image.Close
-    ∷ verb.List
-    ∷ verb.Children
-    ∷ verb.Tell
-    ∷ verb.Snap
-    ∷ verb.Mirror
-    ∷ []
-
-unfoldable pub verb_of : List ℕ → Result Verb LineCause
-verb_of token = by_word verb_word all_verbs token
 
 abbrev pub all_snap_verbs : List SnapVerb
 all_snap_verbs =

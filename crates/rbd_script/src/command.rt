@@ -153,7 +153,7 @@ fn rename(mut tokens: Tokens<'_>) -> Result<Command, PartFault>
     tokens.end(Command::Rename { from, to })
 }
 
-/// `rm|info|du|flatten|quiesce|resume|close IMAGE`
+/// `WORD IMAGE`, of a word that names an image and nothing else
 #[tactic(auto, unfolding(crate::specs::Form::form))]
 fn image_command(verb: ImageVerb, mut tokens: Tokens<'_>) -> Result<Command, PartFault>
     ensures { Gives result (command_form (Verb.Image verb) (tokens_of tokens.entry.rest.now)) }

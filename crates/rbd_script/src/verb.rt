@@ -1,8 +1,8 @@
 //! The first words of commands.
 ghost use Rattle.std.specs.Prelude.{◌≡◌};
-ghost use Rattle.rbd_script.specs.Command.{image_command};
 ghost use Rattle.rbd_script.specs.Fault.{Gives};
-ghost use Rattle.rbd_script.specs.Word.{all_verbs, image_word, verb_of, verb_word, with_word as with_word_in};
+ghost use Rattle.rbd_script.specs.Verbs.{all_verbs, image_command, image_word, verb_of, verb_word};
+ghost use Rattle.rbd_script.specs.Word.{with_word as with_word_in};
 
 use crate::fault::{PartFault, known};
 use crate::word::is;
@@ -85,7 +85,7 @@ impl Verb {
     }
 
     /// The verb that a token spells. Any other token is an unknown word.
-    #[tactic(auto, unfolding(crate::specs::Word::verb_of))]
+    #[tactic(auto, unfolding(crate::specs::Verbs::verb_of))]
     pub fn of(token: &[u8]) -> Result<Verb, PartFault>
         ensures { Gives result (verb_of token.now) }
     {

@@ -1,5 +1,5 @@
 -- What has been done when a request has ended.
-use Rattle.std.proofs.Common.{◌≡◌, inl, inr, ℕ, List, [], ◌∷◌, ap, ◌∙◌}
+use Rattle.std.proofs.Common.{◌≡◌, inl, inr, ℕ, List, [], ◌∷◌, Option, Some, None, ap, ◌∙◌}
 use Rattle.rbd_kinds.specs.declared.sharing.Sharing.TheVariants as sharing
 use Rattle.rbd_kinds.specs.declared.answer.Answer.{Answer}
 use Rattle.rbd_kinds.specs.declared.answer.Answer.TheVariants as answer
@@ -16,9 +16,10 @@ use Rattle.rbd_machine.specs.Steps.{own, on_id, on_done}
 use Rattle.rbd_machine.specs.Wait as wait
 use Rattle.rbd_machine.specs.declared.reason.Reason.TheVariants as reason
 use Rattle.rbd_machine.proofs.Walked.{ended, absent_ends, asked_to, awaited_to, went_on, awaited, told_image, told_done, changed, nothing_ends_otherwise}
-use Rattle.rbd_meaning.specs.Closes.{ClosesBy, Closes, LooksTwice, Finds, Says}
+use Rattle.rbd_meaning.specs.Closes.{ClosesBy, Closes, LooksTwice}
 use Rattle.rbd_lock.specs.Steps.{lock_drop, released_lock}
-use Rattle.rbd_session.specs.Close.{replies_done, unwatch, custom, unwatching, on_dropped, dropping, holding, joining, close, quiesced, quiesce, resumed_plan, resume, telling_others, tell}
+use Rattle.rbd_meaning.specs.Straight.{all_told, GoesStraight, Straight}
+use Rattle.rbd_session.specs.Close.{replies_done, unwatch, custom, unwatching, on_dropped, dropping, holding, joining, close, quiesced, quiesce, straight, telling}
 use Rattle.rbd_session.specs.Meaning.{answered_with, EndsWatch, EndsWatchOnceTold, GoesOnBehind, Ends}
 
 -- ---- to any end
@@ -133,20 +134,15 @@ module _ (site : SiteId) where
             (ended reply.Done c.more c.rest is_done c.walk).0;
       }
 
-  pub finds : (name : List ℕ) (feds : List Fed) (steps : List Answered) → IsWalk Goto (resume site name) feds steps is_done → Finds site name steps
-  finds name feds steps walk =
-      let w = went_on is_done tt site reason.Own (look_up name) (on_id resumed_plan) feds steps walk in
-      let i = told_image is_done tt resumed_plan w.answer w.more w.rest w.walk in
-      record {
-        image = i.image;
-        are = found_then site name i.image w.answer steps w.rest [] w.are i.is (ended reply.Done w.more w.rest is_done i.walk).0;
-      }
+  told_all : (image : ℕ) (o : Option (List ℕ)) (feds : List Fed) (steps : List Answered) → IsWalk Goto (telling site o image) feds steps is_done → steps ≡ all_told site image o
+  told_all image None feds steps walk = (ended reply.Done feds steps is_done walk).0
+  told_all image (Some bytes) feds steps walk = last_done (custom image bytes) feds steps walk
 
-  pub says : (name bytes : List ℕ) (feds : List Fed) (steps : List Answered) → IsWalk Goto (tell site name bytes) feds steps is_done → Says site name bytes steps
-  says name bytes feds steps walk =
-      let w = went_on is_done tt site reason.Own (look_up name) (on_id (telling_others site bytes)) feds steps walk in
-      let i = told_image is_done tt (telling_others site bytes) w.answer w.more w.rest w.walk in
+  pub goes_straight : (s : Straight) (feds : List Fed) (steps : List Answered) → IsWalk Goto (straight site s) feds steps is_done → GoesStraight site s steps
+  goes_straight s feds steps walk =
+      let w = went_on is_done tt site reason.Own (look_up s.name) (on_id (telling site s.tells)) feds steps walk in
+      let i = told_image is_done tt (telling site s.tells) w.answer w.more w.rest w.walk in
       record {
         image = i.image;
-        are = found_then site name i.image w.answer steps w.rest (answered_with site (custom i.image bytes) answer.Done ∷ []) w.are i.is (last_done (custom i.image bytes) w.more w.rest i.walk);
+        are = found_then site s.name i.image w.answer steps w.rest (all_told site i.image s.tells) w.are i.is (told_all i.image s.tells w.more w.rest i.walk);
       }

@@ -1,5 +1,5 @@
 -- Requests that neither take a lock nor drop one.
-use Rattle.std.proofs.Common.{◌≡◌, ℕ, List, [], ◌∷◌, Bool, refl, sym, subst}
+use Rattle.std.proofs.Common.{◌≡◌, ℕ, List, [], ◌∷◌, Bool, Option, Some, None, refl, sym, subst}
 use Rattle.rbd_kinds.specs.declared.sharing.Sharing.TheVariants as sharing
 use Rattle.rbd_kinds.specs.declared.answer.Answer.{Answer}
 use Rattle.rbd_kinds.specs.declared.answer.Answer.TheVariants as answer
@@ -14,7 +14,8 @@ use Rattle.rbd_machine.specs.Refused.{refuses_none}
 use Rattle.rbd_machine.specs.Steps.{not_there, on_id, on_header, on_done, looked, owned as looked_own, joining as change_joining}
 use Rattle.rbd_machine.proofs.Settled.{settled_goto}
 use Rattle.rbd_lock.specs.Waiting.{owned_by}
-use Rattle.rbd_session.specs.Close.{replies_done, quiesced, quiesce, resumed_plan, resume, telling_others, tell}
+use Rattle.rbd_meaning.specs.Straight.{Straight}
+use Rattle.rbd_session.specs.Close.{replies_done, quiesced, quiesce, straight, telling}
 
 -- no operation changes whether the session counts the lock as its own
 abbrev KeepsLock : Plan → Type 0
@@ -69,20 +70,17 @@ keeps_quiesce site name = (
   )),
 )
 
-keeps_resume : (site : SiteId) (name : List ℕ) → KeepsLock (resume site name)
-keeps_resume site name = (λ owned a. refl, keeps_on_id resumed_plan (λ image. tt))
+keeps_telling : (site : SiteId) (o : Option (List ℕ)) (image : ℕ) → KeepsLock (telling site o image)
+keeps_telling site None image = tt
+keeps_telling site (Some bytes) image = (λ owned a. refl, keeps_on_done replies_done tt)
 
-keeps_tell : (site : SiteId) (name bytes : List ℕ) → KeepsLock (tell site name bytes)
-keeps_tell site name bytes = (λ owned a. refl, keeps_on_id (telling_others site bytes) (λ image. (λ owned a. refl, keeps_on_done replies_done tt)))
+keeps_straight : (site : SiteId) (s : Straight) → KeepsLock (straight site s)
+keeps_straight site s = (λ owned a. refl, keeps_on_id (telling site s.tells) (keeps_telling site s.tells))
 
 -- ---- what the session counts
 
-module _ (site : SiteId) (name : List ℕ) (owned : Bool) (feds : List Fed) (steps : List Answered) (last : Plan) where
-  pub owned_by_quiesce : IsWalk Goto (quiesce site name) feds steps last → owned_by owned steps ≡ owned
-  owned_by_quiesce walk = keeps_walk feds (quiesce site name) steps last owned (keeps_quiesce site name) walk
+pub owned_by_quiesce : (site : SiteId) (name : List ℕ) (owned : Bool) (feds : List Fed) (steps : List Answered) (last : Plan) → IsWalk Goto (quiesce site name) feds steps last → owned_by owned steps ≡ owned
+owned_by_quiesce site name owned feds steps last walk = keeps_walk feds (quiesce site name) steps last owned (keeps_quiesce site name) walk
 
-  pub owned_by_resume : IsWalk Goto (resume site name) feds steps last → owned_by owned steps ≡ owned
-  owned_by_resume walk = keeps_walk feds (resume site name) steps last owned (keeps_resume site name) walk
-
-  pub owned_by_tell : (bytes : List ℕ) → IsWalk Goto (tell site name bytes) feds steps last → owned_by owned steps ≡ owned
-  owned_by_tell bytes walk = keeps_walk feds (tell site name bytes) steps last owned (keeps_tell site name bytes) walk
+pub owned_by_straight : (site : SiteId) (s : Straight) (owned : Bool) (feds : List Fed) (steps : List Answered) (last : Plan) → IsWalk Goto (straight site s) feds steps last → owned_by owned steps ≡ owned
+owned_by_straight site s owned feds steps last walk = keeps_walk feds (straight site s) steps last owned (keeps_straight site s) walk

@@ -1,5 +1,5 @@
 -- What replies mean, command by command.
-use Rattle.std.proofs.Common.{◌≡◌, inl, inr, ℕ, List, Bool, true, false, refl, subst}
+use Rattle.std.proofs.Common.{◌≡◌, inl, inr, ℕ, List, Bool, true, false, Option, Some, None, is_some, refl, subst}
 use Rattle.rbd_kinds.specs.declared.sharing.Sharing.TheVariants as sharing
 use Rattle.rbd_kinds.specs.declared.answer.Answer.{Answer}
 use Rattle.rbd_kinds.specs.declared.answer.Answer.TheVariants as answer
@@ -21,12 +21,13 @@ use Rattle.rbd_machine.specs.Refused.{refuses_none, never, AreGiven, IsGiven, Is
 use Rattle.rbd_machine.specs.Steps.{on_done}
 use Rattle.rbd_machine.specs.declared.seat.Seat.{Seat}
 use Rattle.rbd_machine.proofs.Refused.{IsRefusing, Answers, EndsBy, ends_by, refusing_find, refusing_change}
-use Rattle.rbd_meaning.specs.Closes.{gone_or_fenced, CloseMeans, QuiesceMeans, ResumeMeans, TellMeans}
-use Rattle.rbd_meaning.specs.Meant.{IsMeantBy}
+use Rattle.rbd_meaning.specs.Closes.{gone_or_fenced, CloseMeans, QuiesceMeans}
+use Rattle.rbd_meaning.specs.Meant.{IsMeantBy, MeantBy}
 use Rattle.rbd_lock.specs.Steps.{lock_drop}
-use Rattle.rbd_session.specs.Close.{is_close, replies_done, notify, unwatch, unwatching, on_dropped, joining, close, quiesced, quiesce, resumed_plan, resume, telling_others, tell, close_plan}
-use Rattle.rbd_session.proofs.About.{close_is_own, quiesce_is_own, resume_is_own, tell_is_own}
-use Rattle.rbd_session.proofs.Ended.{closes, looks_twice, finds, says}
+use Rattle.rbd_meaning.specs.Straight.{Straight, straight_of, StraightMeans}
+use Rattle.rbd_session.specs.Close.{is_close, replies_done, notify, unwatch, unwatching, on_dropped, joining, close, quiesced, quiesce, straight, straight_plan, telling, close_plan}
+use Rattle.rbd_session.proofs.About.{close_is_own, quiesce_is_own, straight_is_own}
+use Rattle.rbd_session.proofs.Ended.{closes, goes_straight, looks_twice}
 
 abbrev IsDone : Reply → Type 0
 IsDone reply.Done = Unit {0}
@@ -70,12 +71,12 @@ module _ (site : SiteId) where
   refusing_quiesce : (name : List ℕ) → IsRefusing refuses_none never IsDone false (quiesce site name)
   refusing_quiesce name = refusing_change refuses_none never IsDone site name sharing.Alone quiesced (λ i h may. tt)
 
-  refusing_resume : (name : List ℕ) → IsRefusing refuses_none never IsDone false (resume site name)
-  refusing_resume name = refusing_find refuses_none never IsDone name resumed_plan (λ i. tt)
+  refusing_telling : (o : Option (List ℕ)) (image : ℕ) → IsRefusing refuses_none never IsDone false (telling site o image)
+  refusing_telling None image = tt
+  refusing_telling (Some bytes) image = refusing_notify never false (λ was. cc) (λ was. cc) replies_done tt image (notice.Custom bytes)
 
-  refusing_tell : (name bytes : List ℕ) → IsRefusing refuses_none never IsDone false (tell site name bytes)
-  refusing_tell name bytes =
-      refusing_find refuses_none never IsDone name (telling_others site bytes) (λ i. refusing_notify never false (λ was. cc) (λ was. cc) replies_done tt i (notice.Custom bytes))
+  refusing_straight : (s : Straight) → IsRefusing refuses_none never IsDone false (straight site s)
+  refusing_straight s = refusing_find refuses_none never IsDone s.name (telling site s.tells) (refusing_telling s.tells)
 
 -- ---- replies
 
@@ -102,19 +103,19 @@ module _ (site : SiteId) (name : List ℕ) (feds : List Fed) (steps : List Answe
   quiesce_means _ (inl granted) walk = absurd granted
   quiesce_means _ (inr (y, same, from)) walk = cc
 
-  resume_means : (r : Reply) → EndsSo never site name steps r → IsWalk Goto (resume site name) feds steps (Return r) → ResumeMeans site name steps r
-  resume_means reply.Done ends walk = finds site name feds steps walk
-  resume_means (reply.Refused x) (inl granted) walk = absurd granted
-  resume_means (reply.Refused x) (inr (y, same, from)) walk = is_refused never site name steps x y (resume_is_own site name feds steps (Return (reply.Refused x)) walk) same from.by
-  resume_means _ (inl granted) walk = absurd granted
-  resume_means _ (inr (y, same, from)) walk = cc
+module _ (site : SiteId) (s : Straight) (feds : List Fed) (steps : List Answered) where
+  straight_means : (r : Reply) → EndsSo never site s.name steps r → IsWalk Goto (straight site s) feds steps (Return r) → StraightMeans site s steps r
+  straight_means reply.Done ends walk = goes_straight site s feds steps walk
+  straight_means (reply.Refused x) (inl granted) walk = absurd granted
+  straight_means (reply.Refused x) (inr (y, same, from)) walk = is_refused never site s.name steps x y (straight_is_own site s feds steps (Return (reply.Refused x)) walk) same from.by
+  straight_means _ (inl granted) walk = absurd granted
+  straight_means _ (inr (y, same, from)) walk = cc
 
-  tell_means : (bytes : List ℕ) (r : Reply) → EndsSo never site name steps r → IsWalk Goto (tell site name bytes) feds steps (Return r) → TellMeans site name bytes steps r
-  tell_means bytes reply.Done ends walk = says site name bytes feds steps walk
-  tell_means bytes (reply.Refused x) (inl granted) walk = absurd granted
-  tell_means bytes (reply.Refused x) (inr (y, same, from)) walk = is_refused never site name steps x y (tell_is_own site name bytes feds steps (Return (reply.Refused x)) walk) same from.by
-  tell_means bytes _ (inl granted) walk = absurd granted
-  tell_means bytes _ (inr (y, same, from)) walk = cc
+means_straight : (seat : Seat) (c : Command) (o : Option Straight) (feds : List Fed) (steps : List Answered) (r : Reply) → is_some o ≡ true → AreGiven steps
+    → IsWalk Goto (straight_plan seat.home o) feds steps (Return r) → MeantBy o seat c steps r
+means_straight seat c None feds steps r is given walk = cc
+means_straight seat c (Some s) feds steps r is given walk =
+    straight_means seat.home s feds steps r (ends_by refuses_none never IsDone feds false (straight seat.home s) steps r (refusing_straight seat.home s) given walk) walk
 
 pub means : (seat : Seat) (c : Command) (feds : List Fed) (steps : List Answered) (r : Reply) → is_close c ≡ true → AreGiven steps
     → IsWalk Goto (close_plan seat.home c) feds steps (Return r) → IsMeantBy seat c steps r
@@ -122,8 +123,4 @@ means seat (command.Close image) feds steps r is given walk =
     close_means seat.home image feds steps r (ends_by refuses_none gone_or_fenced IsDone feds false (close seat.home image) steps r (refusing_close seat.home image) given walk) walk
 means seat (command.Quiesce image) feds steps r is given walk =
     quiesce_means seat.home image feds steps r (ends_by refuses_none never IsDone feds false (quiesce seat.home image) steps r (refusing_quiesce seat.home image) given walk) walk
-means seat (command.Resume image) feds steps r is given walk =
-    resume_means seat.home image feds steps r (ends_by refuses_none never IsDone feds false (resume seat.home image) steps r (refusing_resume seat.home image) given walk) walk
-means seat (command.Tell image bytes) feds steps r is given walk =
-    tell_means seat.home image feds steps bytes r (ends_by refuses_none never IsDone feds false (tell seat.home image bytes) steps r (refusing_tell seat.home image bytes) given walk) walk
-means seat _ feds steps r is given walk = cc
+means seat c feds steps r is given walk = means_straight seat c (straight_of c) feds steps r is given walk

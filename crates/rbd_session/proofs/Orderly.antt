@@ -1,5 +1,5 @@
 -- The plans keep to their line.
-use Rattle.std.proofs.Common.{ℕ, List, true, None, refl}
+use Rattle.std.proofs.Common.{ℕ, List, true, Option, Some, None, refl}
 use Rattle.rbd_kinds.specs.declared.sharing.Sharing.TheVariants as sharing
 use Rattle.rbd_machine.specs.Course.{Course, beginning}
 use Rattle.rbd_machine.specs.Orderly.{IsOrderly, IsOrderlyFrom}
@@ -14,7 +14,8 @@ use Rattle.rbd_kinds.proofs.Images.{at_itself}
 use Rattle.rbd_machine.specs.Label.{Label}
 use Rattle.rbd_machine.specs.Plan.{without_labels}
 use Rattle.rbd_machine.specs.Refused.{refuses_none}
-use Rattle.rbd_session.specs.Close.{replies_done, unwatching, on_dropped, joining, close, quiesced, resumed_plan, telling_others, close_plan}
+use Rattle.rbd_meaning.specs.Straight.{Straight, straight_of}
+use Rattle.rbd_session.specs.Close.{replies_done, unwatching, on_dropped, joining, close, quiesced, straight_plan, telling, close_plan}
 use Rattle.rbd_session.proofs.Labels.{closed_plan}
 
 abbrev starts : Label → Course
@@ -41,15 +42,18 @@ orderly_close site name = (
       ((refl, refl), ((at_itself site image, refl), (refl, λ a can. orderly_on_dropped site image a)))) found,
 )
 
+orderly_telling : (site : SiteId) (o : Option (List ℕ)) (image : ℕ) → IsOrderly None starts true beginning (telling site o image)
+orderly_telling site None image = tt
+orderly_telling site (Some bytes) image = (refl, λ a can. orderly_on_done None starts beginning replies_done tt a)
+
+orderly_straight : (site : SiteId) (o : Option Straight) → IsOrderly None starts true beginning (straight_plan site o)
+orderly_straight site None = tt
+orderly_straight site (Some s) = (refl, λ found can. orderly_on_id None starts beginning (telling site s.tells) (orderly_telling site s.tells) found)
+
 orderly_plan : (site : SiteId) (c : Command) → IsOrderly None starts true beginning (close_plan site c)
 orderly_plan site (command.Close image) = orderly_close site image
 orderly_plan site (command.Quiesce image) = orderly_change None starts site image sharing.Alone refuses_none quiesced (λ i h form may. tt)
-orderly_plan site (command.Resume image) = (refl, λ found can. orderly_on_id None starts beginning resumed_plan (λ i. tt) found)
-orderly_plan site (command.Tell image bytes) = (
-  refl,
-  λ found can. orderly_on_id None starts beginning (telling_others site bytes) (λ i. (refl, λ a can. orderly_on_done None starts beginning replies_done tt a)) found,
-)
-orderly_plan site _ = tt
+orderly_plan site c = orderly_straight site (straight_of c)
 
 pub orderly_from : (site : SiteId) (c : Command) → IsOrderlyFrom None true beginning (without_labels (close_plan site c))
 orderly_from site c = record { at = starts; orderly = orderly_plan site c; closed = closed_plan site c; labels = λ label asks. absurd asks }

@@ -1,5 +1,5 @@
--- `close`, `quiesce`, `resume` and `tell`: the plans.
-use Rattle.std.specs.Prelude.{ℕ, List, Bool, true, false}
+-- `close`, `quiesce` and the straight commands: the plans.
+use Rattle.std.specs.Prelude.{ℕ, List, Bool, true, Option, Some, None, is_some}
 use Rattle.rbd_kinds.specs.declared.sharing.Sharing.TheVariants as sharing
 use Rattle.rbd_session.specs.declared.request.CloseRequest.{CloseRequest}
 use Rattle.rbd_session.specs.declared.request.Purpose.{Purpose}
@@ -24,15 +24,14 @@ use Rattle.rbd_machine.specs.Plan.{Plan, Await, Return}
 use Rattle.rbd_machine.specs.Refused.{refuses_none}
 use Rattle.rbd_machine.specs.Steps.{own, refused, not_there, on_done, find, change_plan, EndsIt}
 use Rattle.rbd_machine.specs.Wait as wait
+use Rattle.rbd_meaning.specs.Straight.{Straight, straight_of}
 use Rattle.rbd_lock.specs.Steps.{lock_drop, released_lock}
 
 -- the commands that it serves
 abbrev pub is_close : Command → Bool
 is_close (command.Close image) = true
 is_close (command.Quiesce image) = true
-is_close (command.Resume image) = true
-is_close (command.Tell image bytes) = true
-is_close _ = false
+is_close c = is_some (straight_of c)
 
 abbrev pub replies_done : Plan
 replies_done = Return reply.Done
@@ -93,37 +92,38 @@ quiesced image h = replies_done
 abbrev pub quiesce : SiteId → (name : List ℕ) → Plan
 quiesce site name = change_plan site name sharing.Alone refuses_none quiesced
 
--- ---- resume: the image is found, and that is all
+-- ---- straight commands: the image is found, and what there is to tell is told
 
-abbrev pub resumed_plan : (image : ℕ) → Plan
-resumed_plan image = replies_done
-
-abbrev pub resume : SiteId → (name : List ℕ) → Plan
-resume site name = find site name resumed_plan
-
--- ---- tell
+abbrev pub nothing_more : (image : ℕ) → Plan
+nothing_more image = replies_done
 
 abbrev pub telling_others : SiteId → (bytes : List ℕ) → (image : ℕ) → Plan
 telling_others site bytes image = own site (custom image bytes) (on_done replies_done)
 
-abbrev pub tell : SiteId → (name bytes : List ℕ) → Plan
-tell site name bytes = find site name (telling_others site bytes)
+abbrev pub telling : SiteId → Option (List ℕ) → (image : ℕ) → Plan
+telling site None = nothing_more
+telling site (Some bytes) = telling_others site bytes
+
+abbrev pub straight : SiteId → Straight → Plan
+straight site s = find site s.name (telling site s.tells)
+
+abbrev pub straight_plan : SiteId → Option Straight → Plan
+straight_plan site None = refused refusal.NoImage
+straight_plan site (Some s) = straight site s
 
 -- ---- the plan of a command
 
 abbrev pub close_plan : SiteId → Command → Plan
 close_plan site (command.Close image) = close site image
 close_plan site (command.Quiesce image) = quiesce site image
-close_plan site (command.Resume image) = resume site image
-close_plan site (command.Tell image bytes) = tell site image bytes
-close_plan site _ = refused refusal.NoImage
+close_plan site c = straight_plan site (straight_of c)
 
 -- ---- where a request stands
 
 -- what is done with the image that is found
 abbrev pub on_image : Purpose → SiteId → (image : ℕ) → Plan
 on_image purpose.Close site = joining site
-on_image purpose.Resume site = resumed_plan
+on_image purpose.Nothing site = nothing_more
 on_image (purpose.Tell bytes) site = telling_others site bytes
 
 abbrev pub IsFinding : Stage → Type 0
@@ -131,9 +131,9 @@ IsFinding (stage.Finding name why) = Unit {0}
 IsFinding _ = ⊥
 
 -- it isn't on its way to a look under the lock
-abbrev pub IsStraight : Stage → Type 0
-IsStraight (stage.Quiescing way) = ⊥
-IsStraight _ = Unit {0}
+abbrev pub IsOnNoWay : Stage → Type 0
+IsOnNoWay (stage.Quiescing way) = ⊥
+IsOnNoWay _ = Unit {0}
 
 abbrev pub rest_at : Stage → SiteId → Plan
 rest_at (stage.Finding name why) site = find site name (on_image why site)
@@ -152,4 +152,4 @@ rest_of_request r = rest_at r.stage r.site
 -- what is left of one that finds, once its image is found
 abbrev pub on_found : Stage → SiteId → (image : ℕ) → Plan
 on_found (stage.Finding name why) site = on_image why site
-on_found _ site = resumed_plan
+on_found _ site = nothing_more

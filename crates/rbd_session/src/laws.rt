@@ -17,27 +17,28 @@ ghost use Rattle.rbd_machine.specs.Plan.{Plan, Return, Goto, IsClosed, without_l
 ghost use Rattle.rbd_machine.specs.Refused.{AreGiven};
 ghost use Rattle.rbd_machine.specs.declared.seat.Seat.{Seat};
 ghost use Rattle.rbd_meaning.specs.Meant.{IsMeantBy};
+ghost use Rattle.rbd_meaning.specs.Straight.{operations_of, Straight};
 ghost use Rattle.rbd_lock.specs.Order.{EndsWith};
 ghost use Rattle.rbd_lock.specs.Steps.{lock_drop};
 ghost use Rattle.rbd_lock.specs.Waiting.{owned_by};
-ghost use Rattle.rbd_session.specs.Close.{is_close, close_plan, close, notify, quiesce, resume, tell, unwatch};
+ghost use Rattle.rbd_session.specs.Close.{is_close, close_plan, close, notify, quiesce, straight, unwatch};
 ghost use Rattle.rbd_session.specs.Meaning.{answered_with, Ends, IsBehindLettingGo, IsDropBehind};
 
-/// No plan of these four commands begins a part again.
+/// No plan of these commands begins a part again.
 pub fn plans_go_to_no_label()
     ensures { (home : SiteId) (command : Command) → IsClosed Goto (close_plan home command) }
 {}
 
-/// A `close` has four operations at most, a `quiesce` three, a `resume` one and a `tell` two.
+/// A `close` has four operations at most, a `quiesce` three, and a straight command two where it
+/// tells something, and one where it tells nothing.
 pub fn plans_are_short()
     ensures close { (site : SiteId) (image : List ℕ) → IsBounded (close site image) 4 }
     ensures quiesce { (site : SiteId) (image : List ℕ) → IsBounded (quiesce site image) 3 }
-    ensures resume { (site : SiteId) (image : List ℕ) → IsBounded (resume site image) 1 }
-    ensures tell { (site : SiteId) (image bytes : List ℕ) → IsBounded (tell site image bytes) 2 }
+    ensures straight { (site : SiteId) (s : Straight) → IsBounded (straight site s) (operations_of s) }
 {}
 
 /// The requests keep to their line. A `close` and a `quiesce` join it as the first thing after
-/// their look-up was answered, and wait there; a `resume` and a `tell` wait for nothing. None takes
+/// their look-up was answered, and wait there; a straight command waits for nothing. None takes
 /// turns at objects.
 pub fn requests_are_orderly()
     ensures { (home : SiteId) (command : Command)
@@ -57,7 +58,7 @@ pub fn closes_let_go()
         → IsWalk Goto (close site image) feds steps (Return reply) → Ends site image steps }
 {}
 
-/// From its drop on the session counts the lock as let go, whatever the drop was answered, and
+/// From its drop on the client counts the lock as let go, whatever the drop was answered, and
 /// wherever the `close` stands or ends. Before the drop the lock counts as it did.
 pub fn closes_count_as_released()
     ensures dropped { (site : SiteId) (name : List ℕ) (owned : Bool) (feds : List Fed) (before after : List Answered)
@@ -85,18 +86,15 @@ pub fn closes_are_in_order()
         → IsBehindLettingGo site image before }
 {}
 
-/// A `quiesce`, a `resume` and a `tell` neither take a lock nor drop one by an operation of their
+/// A `quiesce` and a straight command neither take a lock nor drop one by an operation of their
 /// own: wherever one stands or ends, the lock counts as before.
 pub fn others_leave_the_lock()
     ensures quiesce { (site : SiteId) (name : List ℕ) (owned : Bool) (feds : List Fed)
         (steps : List Answered) (last : Plan)
         → IsWalk Goto (quiesce site name) feds steps last → owned_by owned steps ≡ owned }
-    ensures resume { (site : SiteId) (name : List ℕ) (owned : Bool) (feds : List Fed)
+    ensures straight { (site : SiteId) (s : Straight) (owned : Bool) (feds : List Fed)
         (steps : List Answered) (last : Plan)
-        → IsWalk Goto (resume site name) feds steps last → owned_by owned steps ≡ owned }
-    ensures tell { (site : SiteId) (name bytes : List ℕ) (owned : Bool) (feds : List Fed)
-        (steps : List Answered) (last : Plan)
-        → IsWalk Goto (tell site name bytes) feds steps last → owned_by owned steps ≡ owned }
+        → IsWalk Goto (straight site s) feds steps last → owned_by owned steps ≡ owned }
 {}
 
 /// Each reply is one that the command means after the operations that were done (`IsMeantBy` of

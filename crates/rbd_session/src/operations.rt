@@ -3,7 +3,8 @@ ghost use Rattle.std.specs.Prelude.{◌≡◌, IfOk};
 ghost use Rattle.rbd_lock.specs.Steps as owner;
 ghost use Rattle.rbd_session.specs.Close as to_close;
 
-use rbd_kinds::{HeaderOp, ImageId, NoMemory, NoticeKind, Op, Payload, TryClone};
+use rbd_kinds::{HeaderOp, ImageId, NoMemory, NoticeKind, Op, Payload, Shared, TryClone};
+use std::alloc::Global;
 
 /// The lock is let go.
 pub fn lock_drop(image: ImageId) -> Op
@@ -29,10 +30,10 @@ pub fn notify(image: ImageId, kind: NoticeKind) -> Op
     Op::Header { image, op }
 }
 
-/// They are told these bytes of a client, which are copied.
-pub fn notify_bytes(image: ImageId, bytes: &Payload) -> Result<Op, NoMemory>
+/// They are told these bytes of a client, which are copied. NoMemory where the copy is refused.
+pub fn notify_bytes(alloc: Global, image: ImageId, bytes: &Payload) -> Result<Op, NoMemory>
     ensures { IfOk result (λ op. op ≡ to_close.custom image bytes.now) }
 {
-    let bytes = bytes.as_bytes().try_clone()?;
+    let bytes = Shared::new(alloc, bytes.as_bytes().try_clone()?)?;
     Ok(notify(image, NoticeKind::Custom(bytes)))
 }

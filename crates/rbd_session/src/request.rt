@@ -1,10 +1,10 @@
-//! The request of a `close`, `quiesce`, `resume` or `tell`.
+//! The request of a `close`, a `quiesce` or a straight command.
 ghost use Rattle.std.specs.Prelude.{◌≡◌, true};
 ghost use Rattle.rbd_kinds.specs.declared.machine.Fed.TheVariants as fed_with;
 ghost use Rattle.rbd_machine.specs.Answers.{CanBeFed};
 ghost use Rattle.rbd_machine.specs.Plan.{GoesOn, Goto, plan_after, without_labels};
 ghost use Rattle.rbd_machine.specs.Refused.{refuses_none};
-ghost use Rattle.rbd_session.specs.Close.{is_close, close_plan, on_found, rest_of_request, IsFinding, IsStraight};
+ghost use Rattle.rbd_session.specs.Close.{is_close, close_plan, on_found, rest_of_request, IsFinding, IsOnNoWay};
 
 use crate::operations::{lock_drop, notify, notify_bytes, unwatch};
 use rbd_kinds::{
@@ -17,15 +17,15 @@ use rbd_machine::{
 use std::alloc::Global;
 use std::mem::replace;
 
-/// Gives up an image's lock and watch (`close`), holds its changes back and lets them go on
-/// (`quiesce`, `resume`), or tells its watchers something (`tell`).
+/// A request that gives up an image's lock and watch (`close`), holds its session's changes of the
+/// image back and lets them go on (`quiesce`, `resume`), or tells its watchers something (`tell`).
 ///
 /// ```text
 /// Finding       dir-find                ──none──▶ NoImage
 ///    │ id
-///    ├──▶ Done, of a `resume`
+///    ├──▶ Done, with nothing to tell
 ///    │
-///    ├──▶ Saying       notify Custom    ──none──▶ NoImage, of a `tell`
+///    ├──▶ Saying       notify Custom    ──none──▶ NoImage, with bytes to tell
 ///    │       │ done
 ///    │       ▼
 ///    │    Done
@@ -52,17 +52,8 @@ use std::mem::replace;
 ///
 /// Each operation may be answered `fenced`, which ends the request with Fenced.
 ///
-/// # How a session lets it wait
-///
-/// A `close` wants to join its line and then to hold, as a change does, since a wait has no other
-/// words. The session knows by the command what to make of them: a close takes no lock, so it is
-/// fed at its `Hold` as soon as every earlier request in the line has ended, and neither a quiesce
-/// nor an asking holds it back. As it is alone, later requests wait until it has ended. It makes no
-/// look under the lock, so it is never past one, and doesn't hold a release back.
-///
-/// A `quiesce` waits for the image's lock as a change does, so every change before it has ended.
-/// From its look under the lock on the session lets no request of the image's line go past the
-/// lock. A `resume` joins no line, since the requests in it wait for it, and a `tell` needs none.
+/// `close` and `quiesce` wait in the line of their image; what holds each back, the front page
+/// says.
 #[derive(Drop)]
 pub struct CloseRequest {
     site: SiteId,
@@ -86,7 +77,7 @@ enum Stage {
 #[derive(Drop)]
 enum Purpose {
     Close,
-    Resume,
+    Nothing,
     Tell(Payload),
 }
 
@@ -103,7 +94,8 @@ impl Refuses for AnyHeader {
 }
 
 impl CloseRequest {
-    /// The request of a `close`, `quiesce`, `resume` or `tell` at a site. It takes no memory.
+    /// The request of a `close`, `quiesce`, `resume` or `tell` at a session's home site. It takes
+    /// no memory.
     pub fn new(home: SiteId, command: Command) -> Self
         requires { is_close command ≡ true }
         ensures { rest_of_request result ≡ close_plan home command }
@@ -113,7 +105,7 @@ impl CloseRequest {
             Command::Quiesce { image } => {
                 Stage::Quiescing(Approach::new(home, image.into_name(), Sharing::Alone))
             }
-            Command::Resume { image } => Stage::Finding(image.into_name(), Purpose::Resume),
+            Command::Resume { image } => Stage::Finding(image.into_name(), Purpose::Nothing),
             Command::Tell { image, bytes } => {
                 Stage::Finding(image.into_name(), Purpose::Tell(bytes))
             }
@@ -126,7 +118,7 @@ impl CloseRequest {
     /// lock.
     #[tactic(auto, using(rbd_machine::proofs::Tells::find_tells, crate::proofs::Tells::drop_tells, crate::proofs::Tells::notify_tells, crate::proofs::Tells::unwatch_tells))]
     fn answer(&mut self, answer: &Answer) -> Flow
-        requires at { IsStraight self.old.stage }
+        requires at { IsOnNoWay self.old.stage }
         requires can { CanBeFed (rest_of_request self.old) (fed_with.Answer answer.now) }
         ensures { GoesOn Goto (plan_after (rest_of_request self.old) (fed_with.Answer answer.now)) result
             (without_labels (rest_of_request self.new)) }
@@ -166,7 +158,7 @@ impl CloseRequest {
         };
         match purpose {
             Purpose::Close => Flow::More,
-            Purpose::Resume => Flow::Done(Reply::Done),
+            Purpose::Nothing => Flow::Done(Reply::Done),
             Purpose::Tell(bytes) => {
                 self.stage = Stage::Saying(image, bytes);
                 Flow::More
@@ -205,13 +197,13 @@ impl Machine for CloseRequest {
         Want::Op { site, kind }
     }
 
-    fn next(&self, _alloc: Global) -> Result<Op, NoMemory> {
+    fn next(&self, alloc: Global) -> Result<Op, NoMemory> {
         match &self.stage {
             Stage::Finding(name, _) => dir_find(name),
             Stage::Dropping(image) => Ok(lock_drop(*image)),
             Stage::Releasing(image) => Ok(notify(*image, NoticeKind::ReleasedLock)),
             Stage::Unwatching(image) => Ok(unwatch(*image)),
-            Stage::Saying(image, bytes) => notify_bytes(*image, bytes),
+            Stage::Saying(image, bytes) => notify_bytes(alloc, *image, bytes),
             Stage::Quiescing(way) => way.next(),
             _ => unreachable!(),
         }

@@ -23,5 +23,6 @@ children_answer entries (ListOf parent snap) = answer.Ids (children_in entries p
 abbrev pub children_after : Entries → ChildrenOp → Entries
 children_after entries (Add parent snap child) = finset.insert entries (entry parent snap child)
 children_after entries (Remove parent snap child) =
-    if finset.contains entries (entry parent snap child) then finset.remove entries (entry parent snap child) else entries
+    if finset.contains entries (entry parent snap child) then finset.remove entries (entry parent snap child)
+    else entries
 children_after entries (ListOf parent snap) = entries

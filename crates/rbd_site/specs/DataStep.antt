@@ -48,7 +48,8 @@ data_answer object op = blank_answer (or_blank object) op
 -- the object with the change done
 abbrev pub data_change : Mapped → DataOp → Mapped
 data_change o (Read snap parts) = o
-data_change o (Write context must parts bytes) = mapped_change context (Some (parts_written parts bytes (unwrap_or o.head []))) o
+data_change o (Write context must parts bytes) =
+    mapped_change context (Some (parts_written parts bytes (unwrap_or o.head []))) o
 data_change o (WriteFull context bytes) = mapped_change context (Some bytes) o
 data_change o (Zero context must parts) = mapped_change context (option_map (parts_zeroed parts) o.head) o
 data_change o (Empty context) = mapped_change context (Some []) o

@@ -41,5 +41,6 @@ abbrev pub directory_after : Listing → DirectoryOp → Listing
 directory_after d (Find name) = d
 directory_after d (Add name) = where_added (directory_answer d (Add name)) (added name d) d
 directory_after d (Remove image) = if holds_id image d then freed image d else d
-directory_after d (Rename from to) = where_done (directory_answer d (Rename from to)) (renamed (id_of d from) from to d) d
+directory_after d (Rename from to) = where_done (directory_answer d (Rename from to))
+    (renamed (id_of d from) from to d) d
 directory_after d ListAll = d

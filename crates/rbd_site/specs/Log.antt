@@ -24,7 +24,8 @@ live_in (Some h) = ids_of h.snaps
 
 -- the store drops what an object keeps for other snapshots
 abbrev pub trimmed : (image number : ℕ) → Records → Records
-trimmed image number r = with_object image number (option_map (mapped_trim (live_in (r.headers image))) (r.objects image number)) r
+trimmed image number r = with_object image number
+    (option_map (mapped_trim (live_in (r.headers image))) (r.objects image number)) r
 
 -- the store lets the watch of an instance expire
 abbrev pub expired : (image : ℕ) → Instance → Records → Records
@@ -51,7 +52,8 @@ abbrev pub IsAnswer : Records → Option Instance → DoneOp → Answer → Type
 IsAnswer r (Some me) (done.Op op) a = a ≡ answer_to r me op
 IsAnswer r None (done.Op op) a = ⊥
 IsAnswer r instance (done.Trim image number) a = (instance ≡ None) × IsSome (r.objects image number) × (a ≡ answer.Done)
-IsAnswer r instance (done.Expire image i) a = (instance ≡ None) × (oldest_of i.session (r.watchers image) ≡ Some i) × (a ≡ answer.Done)
+IsAnswer r instance (done.Expire image i) a = (instance ≡ None) × (oldest_of i.session (r.watchers image) ≡ Some i)
+    × (a ≡ answer.Done)
 
 abbrev pub AreAnswered : Records → List Done → Type 0
 AreAnswered r [] = Unit {0}
@@ -62,7 +64,8 @@ abbrev pub log_line : (number : ℕ) → Instance → Op → Answer → Done
 log_line number me op a = record { number = number; instance = Some me; op = done.Op op; answer = a }
 
 abbrev pub trim_line : (number image object : ℕ) → Done
-trim_line number image object = record { number = number; instance = None; op = done.Trim image object; answer = answer.Done }
+trim_line number image object =
+    record { number = number; instance = None; op = done.Trim image object; answer = answer.Done }
 
 abbrev pub expire_line : (number image : ℕ) → Instance → Done
 expire_line number image i = record { number = number; instance = None; op = done.Expire image i; answer = answer.Done }

@@ -21,14 +21,23 @@ pub record Records : Type 0 where
   pub objects : (image number : ℕ) → Option Mapped
 
 abbrev pub no_records : Records
-no_records = record { directory = nothing_listed; children = finset.empty; blocklist = finset.empty; headers = λ image. None; watchers = λ image. []; maps = λ image view. None; objects = λ image number. None }
+no_records = record {
+  directory = nothing_listed;
+  children = finset.empty;
+  blocklist = finset.empty;
+  headers = λ image. None;
+  watchers = λ image. [];
+  maps = λ image view. None;
+  objects = λ image number. None;
+}
 
 -- f with another value at one place
 abbrev pub put : {T : Type 0} → (ℕ → T) → (place : ℕ) → T → ℕ → T
 put f place value n = if n == place then value else f n
 
 -- maps with another one of an image's head or of a snapshot
-abbrev pub put_map : {T : Type 0} → ((image : ℕ) (view : Option ℕ) → T) → (image : ℕ) (view : Option ℕ) → T → (image : ℕ) (view : Option ℕ) → T
+abbrev pub put_map : {T : Type 0} → ((image : ℕ) (view : Option ℕ) → T) → (image : ℕ) (view : Option ℕ) → T
+    → (image : ℕ) (view : Option ℕ) → T
 put_map maps image view map = put maps image (λ v. if option_eq nat_eq v view then map else maps image v)
 
 -- an object that nothing was done to is blank

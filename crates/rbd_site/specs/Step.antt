@@ -51,14 +51,16 @@ after_served r me (op.Directory o) = with_directory (directory_after r.directory
 after_served r me (op.Children o) = with_children (children_after r.children o) r
 after_served r me (op.BlockAdd instance) = with_blocklist (finset.insert r.blocklist instance) r
 after_served r me (op.Header image o) =
-    with_header image (header_after me (r.headers image) o) (with_watchers image (watchers_after me (r.headers image) (r.watchers image) o) r)
+    with_header image (header_after me (r.headers image) o)
+    (with_watchers image (watchers_after me (r.headers image) (r.watchers image) o) r)
 after_served r me (op.Data image number o) = with_object image number (data_after (r.objects image number) o) r
 after_served r me (op.Map image o) = with_map image (map_snap o) (map_after (r.maps image (map_snap o)) o) r
 after_served r me _ = r
 
 -- the notices of both sites, where a site's operation was served
 abbrev pub mail_served : SiteId → Records → Instance → Op → List Notice → List Notice
-mail_served site r me (op.Header image o) mail = notified site me image (receivers me (r.headers image) (r.watchers image)) o mail
+mail_served site r me (op.Header image o) mail =
+    notified site me image (receivers me (r.headers image) (r.watchers image)) o mail
 mail_served site r me _ mail = mail
 
 -- ---- an operation of any instance

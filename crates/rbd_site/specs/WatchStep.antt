@@ -28,6 +28,7 @@ receivers me (Some h) watchers = without me watchers
 receivers me None watchers = []
 
 -- the notices of both sites after an operation on a header: one more for each receiver
-abbrev pub notified : SiteId → Instance → (image : ℕ) → (receivers : List Instance) → HeaderOp → List Notice → List Notice
+abbrev pub notified : SiteId → Instance → (image : ℕ) → (receivers : List Instance) → HeaderOp → List Notice
+    → List Notice
 notified site me image to (Notify kind) mail = mail ++ notices (length mail + 1) site image me to kind
 notified site me image to op mail = mail

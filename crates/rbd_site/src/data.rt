@@ -36,8 +36,10 @@ pub fn change(
 ) -> Result<(), NoMemory>
     requires { MayDoOnData op.now }
     ensures ok { let there = object_in objects.old key.image in
-        OnOk result ((image number : ℕ) → object_in objects.new image number ≡ put (object_in objects.old) key.image (put there key.number (data_after (there key.number) op.now)) image number) }
-    ensures err { OnErr result ((image number : ℕ) → object_in objects.new image number ≡ object_in objects.old image number) }
+        OnOk result ((image number : ℕ) → object_in objects.new image number ≡ put (object_in objects.old) key.image
+        (put there key.number (data_after (there key.number) op.now)) image number) }
+    ensures err { OnErr result ((image number : ℕ)
+        → object_in objects.new image number ≡ object_in objects.old image number) }
 {
     let Some(object) = objects.get_mut(&key) else {
         return begin(alloc, objects, key, op);
@@ -49,7 +51,8 @@ pub fn change(
 /// Drops what an object keeps for snapshots that aren't live, if it is there. It takes no memory.
 pub fn trim(objects: &mut BTreeMap<ObjectKey, Object>, key: ObjectKey, live: &[SnapId])
     ensures { let there = object_in objects.old key.image in
-        (image number : ℕ) → object_in objects.new image number ≡ put (object_in objects.old) key.image (put there key.number (option_map (mapped_trim live.now) (there key.number))) image number }
+        (image number : ℕ) → object_in objects.new image number ≡ put (object_in objects.old) key.image
+        (put there key.number (option_map (mapped_trim live.now) (there key.number))) image number }
 {
     let Some(object) = objects.get_mut(&key) else {
         return;
@@ -67,8 +70,10 @@ fn begin(
     requires may { MayDoOnData op.now }
     requires missing { object_in objects.old key.image key.number ≡ None }
     ensures ok { let there = object_in objects.old key.image in
-        OnOk result ((image number : ℕ) → object_in objects.new image number ≡ put (object_in objects.old) key.image (put there key.number (data_after None op.now)) image number) }
-    ensures err { OnErr result ((image number : ℕ) → object_in objects.new image number ≡ object_in objects.old image number) }
+        OnOk result ((image number : ℕ) → object_in objects.new image number ≡ put (object_in objects.old) key.image
+        (put there key.number (data_after None op.now)) image number) }
+    ensures err { OnErr result ((image number : ℕ)
+        → object_in objects.new image number ≡ object_in objects.old image number) }
 {
     let mut object = Object::new(alloc);
     if change_of(&mut object, op)? {
@@ -106,7 +111,9 @@ fn answer_of(object: &Object, op: &DataOp) -> Result<Answer, NoMemory>
 /// Changes an object, and answers whether the operation was done; else nothing changed.
 fn change_of(object: &mut Object, op: &DataOp) -> Result<bool, NoMemory>
     requires { MayDoOnData op.now }
-    ensures ok { IfOk result (λ done. (old : Option Mapped) → where_object_done (blank_answer object.old op.now) (data_change object.old op.now) old ≡ (if done then Some object.new else old)) }
+    ensures ok { IfOk result (λ done. (old : Option Mapped)
+        → where_object_done (blank_answer object.old op.now) (data_change object.old op.now) old
+        ≡ (if done then Some object.new else old)) }
     ensures same { IfOk result (λ done. IsFalse done → object.new ≡ object.old) }
     ensures err { OnErr result (object.new ≡ object.old) }
 {

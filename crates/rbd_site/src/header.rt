@@ -26,7 +26,8 @@ pub fn answer(
 ) -> Result<Answer, NoMemory>
     requires may { MayDoOnHeader (header_in headers.now image) op.now }
     requires alone { IsToldAlone op.now }
-    ensures { (watchers : List Instance) → IfOk result (λ answer. answer ≡ header_answer instance (header_in headers.now image) watchers op.now) }
+    ensures { (watchers : List Instance)
+        → IfOk result (λ answer. answer ≡ header_answer instance (header_in headers.now image) watchers op.now) }
 {
     match headers.get(&image) {
         Some(header) => answer_there(alloc, header, instance, op),
@@ -80,7 +81,8 @@ pub fn change(
 ) -> Result<(), NoMemory>
     requires may { MayDoOnHeader (header_in headers.old image) op.now }
     requires generation { IfSome (header_in headers.old image) (λ h. h.generation + 1 < 2 ^ 64) }
-    ensures ok { OnOk result ((i : ℕ) → header_in headers.new i ≡ put (header_in headers.old) image (header_after instance (header_in headers.old image) op.now) i) }
+    ensures ok { OnOk result ((i : ℕ) → header_in headers.new i ≡ put (header_in headers.old) image
+        (header_after instance (header_in headers.old image) op.now) i) }
     ensures err { OnErr result ((i : ℕ) → header_in headers.new i ≡ header_in headers.old i) }
 {
     match op {
@@ -113,7 +115,8 @@ fn create(
     image: ImageId,
     view: &HeaderView,
 ) -> Result<(), NoMemory>
-    ensures ok { OnOk result ((i : ℕ) → header_in headers.new i ≡ put (header_in headers.old) image (Some (unwrap_or (header_in headers.old image) view.now)) i) }
+    ensures ok { OnOk result ((i : ℕ) → header_in headers.new i ≡ put (header_in headers.old) image
+        (Some (unwrap_or (header_in headers.old image) view.now)) i) }
     ensures err { OnErr result ((i : ℕ) → header_in headers.new i ≡ header_in headers.old i) }
 {
     if headers.contains_key(&image) {
@@ -132,7 +135,8 @@ fn change_kept(
 ) -> Result<(), NoMemory>
     requires may { MayDoOnHeader (header_in headers.old image) op.now }
     requires generation { IfSome (header_in headers.old image) (λ h. h.generation + 1 < 2 ^ 64) }
-    ensures ok { OnOk result ((i : ℕ) → header_in headers.new i ≡ put (header_in headers.old) image (option_map (λ h. header_then instance h op.now) (header_in headers.old image)) i) }
+    ensures ok { OnOk result ((i : ℕ) → header_in headers.new i ≡ put (header_in headers.old) image
+        (option_map (λ h. header_then instance h op.now) (header_in headers.old image)) i) }
     ensures err { OnErr result ((i : ℕ) → header_in headers.new i ≡ header_in headers.old i) }
 {
     let Some(header) = headers.get_mut(&image) else {
@@ -191,7 +195,8 @@ fn change_header(header: &mut Header, instance: Instance, op: &HeaderOp) -> Resu
 
 fn add_snap(header: &mut Header, name: &Name) -> Result<(), NoMemory>
     requires { header.old.generation + 1 < 2 ^ 64 }
-    ensures ok { OnOk result (header.new ≡ where_made (is_some (snap_named header.old.snaps name.now)) (is_full header.old) (with_snap name.now header.old) header.old) }
+    ensures ok { OnOk result (header.new ≡ where_made (is_some (snap_named header.old.snaps name.now))
+        (is_full header.old) (with_snap name.now header.old) header.old) }
     ensures err { OnErr result (header.new ≡ header.old) }
 {
     match header.snap_add(name) {
@@ -211,7 +216,8 @@ fn take_lock(header: &mut Header, instance: Instance)
 }
 
 fn leave_lock(header: &mut Header, owner: Instance)
-    ensures { header.new ≡ (if is_owner owner header.old.owner then record header.old { owner = None } else header.old) }
+    ensures { header.new ≡ (if is_owner owner header.old.owner then record header.old { owner = None }
+        else header.old) }
 {
     let _left = header.unlock(owner);
 }
@@ -225,7 +231,8 @@ fn answer_there(
 ) -> Result<Answer, NoMemory>
     requires may { MayDoOnHeader (Some header.now) op.now }
     requires alone { IsToldAlone op.now }
-    ensures { (watchers : List Instance) → IfOk result (λ answer. answer ≡ there_answer instance header.now watchers op.now) }
+    ensures { (watchers : List Instance)
+        → IfOk result (λ answer. answer ≡ there_answer instance header.now watchers op.now) }
 {
     match op {
         HeaderOp::Create { view: _ } => Ok(Answer::Exists),
@@ -260,7 +267,8 @@ fn answer_missing(op: &HeaderOp) -> Answer
 }
 
 fn snap_added(header: &Header, name: &Name) -> Answer
-    ensures { result ≡ snap_added (is_some (snap_named header.now.snaps name.now)) (is_full header.now) (header.now.snap_seq + 1) }
+    ensures { result ≡ snap_added (is_some (snap_named header.now.snaps name.now)) (is_full header.now)
+        (header.now.snap_seq + 1) }
 {
     if header.named(name).is_some() {
         return Answer::Exists;

@@ -45,22 +45,26 @@ pub fn operations_change_one_object()
 /// An operation of a listed instance is answered `fenced`, changes no record and posts no notice,
 /// whatever it is. No other operation is answered so.
 pub fn fenced_instances_do_nothing()
-    ensures answer { (r : Records) (me : Instance) (op : Op) → IsTrue (is_fenced r me) → answer_to r me op ≡ answer.Fenced }
+    ensures answer { (r : Records) (me : Instance) (op : Op) → IsTrue (is_fenced r me)
+        → answer_to r me op ≡ answer.Fenced }
 
     ensures records { (r : Records) (me : Instance) (op : Op) → IsTrue (is_fenced r me) → after r me op ≡ r }
 
     ensures mail { (site : SiteId) (r : Records) (me : Instance) (op : Op) (mail : List Notice)
         → IsTrue (is_fenced r me) → mail_after site r me op mail ≡ mail }
 
-    ensures others { (r : Records) (me : Instance) (op : Op) → answer_to r me op ≡ answer.Fenced → IsTrue (is_fenced r me) }
+    ensures others { (r : Records) (me : Instance) (op : Op) → answer_to r me op ≡ answer.Fenced
+        → IsTrue (is_fenced r me) }
 {}
 
 /// An instance that is listed in the blocklist stays listed, and only an operation that lists an
 /// instance lists it.
 pub fn the_fence_stays()
-    ensures listed { (r : Records) (me i : Instance) → IsFalse (is_fenced r me) → IsTrue (is_fenced (after r me (op_on.BlockAdd i)) i) }
+    ensures listed { (r : Records) (me i : Instance) → IsFalse (is_fenced r me)
+        → IsTrue (is_fenced (after r me (op_on.BlockAdd i)) i) }
 
-    ensures operation { (r : Records) (me i : Instance) (op : Op) → IsTrue (is_fenced r i) → IsTrue (is_fenced (after r me op) i) }
+    ensures operation { (r : Records) (me i : Instance) (op : Op) → IsTrue (is_fenced r i)
+        → IsTrue (is_fenced (after r me op) i) }
 
     ensures others { (r : Records) (me i other : Instance)
         → other ≢ i → is_fenced (after r me (op_on.BlockAdd i)) other ≡ is_fenced r other }
@@ -68,7 +72,8 @@ pub fn the_fence_stays()
 
 /// An operation changes something only if it is answered done, with an id, or with a snapshot.
 pub fn other_answers_change_nothing()
-    ensures { (r : Records) (me : Instance) (op : Op) → IsFalse (may_have_changed (answer_to r me op)) → after r me op ≡ r }
+    ensures { (r : Records) (me : Instance) (op : Op) → IsFalse (may_have_changed (answer_to r me op))
+        → after r me op ≡ r }
 {}
 
 /// A look changes nothing.
@@ -97,7 +102,8 @@ pub fn changes_raise_the_generation()
 pub fn operations_leave_snapshots()
     ensures { (r : Records) (me : Instance) (op : Op) (image number snap : ℕ)
         → snap ≤ (object_at r image number).seq
-        → view (versioned (object_at (after r me op) image number)) (Some snap) ≡ view (versioned (object_at r image number)) (Some snap) }
+        → view (versioned (object_at (after r me op) image number)) (Some snap)
+        ≡ view (versioned (object_at r image number)) (Some snap) }
 {}
 
 /// Headers and maps are in form at first, and each operation that may be done, each trim and each
@@ -109,9 +115,11 @@ pub fn headers_stay_in_form()
     ensures operation { (r : Records) (me : Instance) (op : Op) (most : ℕ)
         → AreInForm r most → MayDo r me op → AreInForm (after r me op) (most + 1) }
 
-    ensures trim { (r : Records) (image number most : ℕ) → AreInForm r most → AreInForm (trimmed image number r) (most + 1) }
+    ensures trim { (r : Records) (image number most : ℕ) → AreInForm r most
+        → AreInForm (trimmed image number r) (most + 1) }
 
-    ensures expiry { (r : Records) (image most : ℕ) (i : Instance) → AreInForm r most → AreInForm (expired image i r) (most + 1) }
+    ensures expiry { (r : Records) (image most : ℕ) (i : Instance) → AreInForm r most
+        → AreInForm (expired image i r) (most + 1) }
 {}
 
 /// What a look at an object map tells holds no state 3 and is of at most 2^20 objects. So it may be

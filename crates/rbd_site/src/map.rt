@@ -42,8 +42,11 @@ pub fn change(
     op: &MapOp,
 ) -> Result<(), NoMemory>
     requires { MayDoOnMap (map_in maps.old key.image key.snap) op.now }
-    ensures ok { OnOk result ((image : ℕ) (view : Option ℕ) → map_in maps.new image view ≡ put_map (map_in maps.old) key.image key.snap (map_after (map_in maps.old key.image key.snap) op.now) image view) }
-    ensures err { OnErr result ((image : ℕ) (view : Option ℕ) → map_in maps.new image view ≡ map_in maps.old image view) }
+    ensures ok { OnOk result ((image : ℕ) (view : Option ℕ)
+        → map_in maps.new image view ≡ put_map (map_in maps.old) key.image key.snap
+        (map_after (map_in maps.old key.image key.snap) op.now) image view) }
+    ensures err { OnErr result ((image : ℕ) (view : Option ℕ)
+        → map_in maps.new image view ≡ map_in maps.old image view) }
 {
     match op {
         MapOp::Resize { count } => resize(alloc, maps, key, *count),
@@ -82,8 +85,11 @@ fn resize(
     count: u64,
 ) -> Result<(), NoMemory>
     requires { count ≤ 2 ^ 20 }
-    ensures ok { OnOk result ((image : ℕ) (view : Option ℕ) → map_in maps.new image view ≡ put_map (map_in maps.old) key.image key.snap (Some (lengthened count (unwrap_or (map_in maps.old key.image key.snap) []))) image view) }
-    ensures err { OnErr result ((image : ℕ) (view : Option ℕ) → map_in maps.new image view ≡ map_in maps.old image view) }
+    ensures ok { OnOk result ((image : ℕ) (view : Option ℕ)
+        → map_in maps.new image view ≡ put_map (map_in maps.old) key.image key.snap
+        (Some (lengthened count (unwrap_or (map_in maps.old key.image key.snap) []))) image view) }
+    ensures err { OnErr result ((image : ℕ) (view : Option ℕ)
+        → map_in maps.new image view ≡ map_in maps.old image view) }
 {
     let Some(map) = maps.get_mut(&key) else {
         return make(alloc, maps, key, count);
@@ -99,8 +105,11 @@ fn make(
     count: u64,
 ) -> Result<(), NoMemory>
     requires { count ≤ 2 ^ 20 }
-    ensures ok { OnOk result ((image : ℕ) (view : Option ℕ) → map_in maps.new image view ≡ put_map (map_in maps.old) key.image key.snap (Some (lengthened count [])) image view) }
-    ensures err { OnErr result ((image : ℕ) (view : Option ℕ) → map_in maps.new image view ≡ map_in maps.old image view) }
+    ensures ok { OnOk result ((image : ℕ) (view : Option ℕ)
+        → map_in maps.new image view ≡ put_map (map_in maps.old) key.image key.snap
+        (Some (lengthened count [])) image view) }
+    ensures err { OnErr result ((image : ℕ) (view : Option ℕ)
+        → map_in maps.new image view ≡ map_in maps.old image view) }
 {
     let mut map = ObjectMap::new(alloc);
     map.resize(count)?;
@@ -117,8 +126,11 @@ fn put(
 ) -> Result<(), NoMemory>
     requires states { HoldStates bits.now }
     requires long { 4 * length bits.now ≤ 2 ^ 20 }
-    ensures ok { OnOk result ((image : ℕ) (view : Option ℕ) → map_in maps.new image view ≡ put_map (map_in maps.old) key.image key.snap (Some (states_of bits.now (4 * length bits.now))) image view) }
-    ensures err { OnErr result ((image : ℕ) (view : Option ℕ) → map_in maps.new image view ≡ map_in maps.old image view) }
+    ensures ok { OnOk result ((image : ℕ) (view : Option ℕ)
+        → map_in maps.new image view ≡ put_map (map_in maps.old) key.image key.snap
+        (Some (states_of bits.now (4 * length bits.now))) image view) }
+    ensures err { OnErr result ((image : ℕ) (view : Option ℕ)
+        → map_in maps.new image view ≡ map_in maps.old image view) }
 {
     let map = ObjectMap::from_bits(alloc, bits, 4 * bits.len() as u64)?;
     maps.insert(key, map)?;
@@ -129,7 +141,8 @@ fn put(
 fn set(maps: &mut BTreeMap<MapKey, ObjectMap>, key: MapKey, object: u64, state: u8)
     requires { MaySetState (map_in maps.old key.image key.snap) object state }
     ensures { let there = map_in maps.old key.image key.snap in
-        (image : ℕ) (view : Option ℕ) → map_in maps.new image view ≡ put_map (map_in maps.old) key.image key.snap (option_map (λ states. slice_set states object state) there) image view }
+        (image : ℕ) (view : Option ℕ) → map_in maps.new image view ≡ put_map (map_in maps.old) key.image key.snap
+        (option_map (λ states. slice_set states object state) there) image view }
 {
     let Some(map) = maps.get_mut(&key) else {
         return;

@@ -99,7 +99,8 @@ impl Site {
         requires { MayDo (records_of self.old) instance op }
         ensures answer { IfOk result (λ answer. answer ≡ answer_to (records_of self.old) instance op) }
         ensures ok { let number = length self.old.log + 1 in
-            IfOk result (λ answer. self.new ≡ record self.old { log = self.old.log ++ log_line number instance op answer ∷ [] }) }
+            IfOk result (λ answer. self.new
+            ≡ record self.old { log = self.old.log ++ log_line number instance op answer ∷ [] }) }
         ensures records { OnOk result (records_of self.new ≡ after (records_of self.old) instance op) }
         ensures mail { OnOk result (mail.new ≡ mail_after self.old.id (records_of self.old) instance op mail.old) }
         ensures form { AreInForm (records_of self.new) (length self.new.log) }
@@ -174,7 +175,8 @@ impl Site {
     pub fn trim(&mut self, image: ImageId, object: u64) -> Result<bool, NoMemory>
         ensures found { IfOk result (λ found. found ≡ is_some ((records_of self.old).objects image object)) }
         ensures ok { let line = trim_line (length self.old.log + 1) image object in
-            IfOk result (λ found. self.new ≡ (if found then record self.old { log = self.old.log ++ line ∷ [] } else self.old)) }
+            IfOk result (λ found. self.new
+            ≡ (if found then record self.old { log = self.old.log ++ line ∷ [] } else self.old)) }
         ensures records { OnOk result (records_of self.new ≡ trimmed image object (records_of self.old)) }
         ensures err { OnErr result (self.new ≡ self.old) }
     {
@@ -204,9 +206,13 @@ impl Site {
     /// `false` exactly where none watches, and then nothing is logged. Nobody is told (own).
     /// Refused memory, nothing changes.
     pub fn expire(&mut self, image: ImageId, session: SessionNo) -> Result<bool, NoMemory>
-        ensures found { IfOk result (λ found. found ≡ is_some (oldest_of session ((records_of self.old).watchers image))) }
+        ensures found { IfOk result (λ found. found
+            ≡ is_some (oldest_of session ((records_of self.old).watchers image))) }
         ensures ok { let oldest = oldest_of session ((records_of self.old).watchers image) in
-            OnOk result (self.new ≡ record self.old { log = log_with_expiry (length self.old.log + 1) image oldest self.old.log }) }
+            OnOk result (self.new ≡ record self.old {
+              log = log_with_expiry (length self.old.log
+                  + 1) image oldest self.old.log;
+            }) }
         ensures records { let oldest = oldest_of session ((records_of self.old).watchers image) in
             OnOk result (records_of self.new ≡ expired_by image oldest (records_of self.old)) }
         ensures err { OnErr result (self.new ≡ self.old) }
@@ -257,7 +263,8 @@ fn perform(
     mail: &mut Mail,
 ) -> Result<(), NoMemory>
     requires may { MayDo (kept store.old) me.now op.now }
-    requires generation { (image : ℕ) (h : HeaderShown) → (kept store.old).headers image ≡ Some h → h.generation + 1 < 2 ^ 64 }
+    requires generation { (image : ℕ) (h : HeaderShown) → (kept store.old).headers image ≡ Some h
+        → h.generation + 1 < 2 ^ 64 }
     ensures ok { OnOk result (kept store.new ≡ after (kept store.old) me.now op.now) }
     ensures mail { OnOk result (mail.new ≡ mail_after site (kept store.old) me.now op.now mail.old) }
     ensures log { log.new.items ≡ log.old.items }

@@ -100,7 +100,8 @@ impl Store {
         op: &HeaderOp,
     ) -> Result<Answer, NoMemory>
         requires { MayDoOnHeader ((kept self.now).headers image) op.now }
-        ensures { IfOk result (λ answer. answer ≡ header_answer instance ((kept self.now).headers image) ((kept self.now).watchers image) op.now) }
+        ensures { IfOk result (λ answer. answer ≡ header_answer instance ((kept self.now).headers image)
+            ((kept self.now).watchers image) op.now) }
     {
         match op {
             HeaderOp::WatchersGet => self.who_watches(image),
@@ -120,7 +121,9 @@ impl Store {
 
     /// Who watches the header of an image, if it is there.
     fn who_watches(&self, image: ImageId) -> Result<Answer, NoMemory>
-        ensures { (me : Instance) → IfOk result (λ answer. answer ≡ header_answer me ((kept self.now).headers image) ((kept self.now).watchers image) header_op.WatchersGet) }
+        ensures { (me : Instance) → IfOk result
+            (λ answer. answer ≡ header_answer me ((kept self.now).headers image)
+            ((kept self.now).watchers image) header_op.WatchersGet) }
     {
         if !self.headers.contains_key(&image) {
             return Ok(Answer::Absent);
@@ -137,7 +140,8 @@ impl Store {
         mail: &mut Mail,
     ) -> Result<(), NoMemory>
         requires may { MayDo (kept self.old) me.now op.now }
-        requires generation { (image : ℕ) (h : HeaderView) → (kept self.old).headers image ≡ Some h → h.generation + 1 < 2 ^ 64 }
+        requires generation { (image : ℕ) (h : HeaderView) → (kept self.old).headers image ≡ Some h
+            → h.generation + 1 < 2 ^ 64 }
         ensures ok { OnOk result (kept self.new ≡ after (kept self.old) me.now op.now) }
         ensures mail { OnOk result (mail.new ≡ mail_after site (kept self.old) me.now op.now mail.old) }
         ensures err { OnErr result (kept self.new ≡ kept self.old) }
@@ -170,7 +174,8 @@ impl Store {
         mail: &mut Mail,
     ) -> Result<(), NoMemory>
         requires may { MayServe (kept self.old) op.now }
-        requires generation { (image : ℕ) (h : HeaderView) → (kept self.old).headers image ≡ Some h → h.generation + 1 < 2 ^ 64 }
+        requires generation { (image : ℕ) (h : HeaderView) → (kept self.old).headers image ≡ Some h
+            → h.generation + 1 < 2 ^ 64 }
         ensures ok { OnOk result (kept self.new ≡ after_served (kept self.old) me.now op.now) }
         ensures mail { OnOk result (mail.new ≡ mail_served site (kept self.old) me.now op.now mail.old) }
         ensures err { OnErr result (kept self.new ≡ kept self.old) }
@@ -203,11 +208,14 @@ impl Store {
         mail: &mut Mail,
     ) -> Result<(), NoMemory>
         requires may { MayDoOnHeader ((kept self.old).headers image) op.now }
-        requires generation { (i : ℕ) (h : HeaderView) → (kept self.old).headers i ≡ Some h → h.generation + 1 < 2 ^ 64 }
+        requires generation { (i : ℕ) (h : HeaderView) → (kept self.old).headers i ≡ Some h
+            → h.generation + 1 < 2 ^ 64 }
         ensures ok { let r = kept self.old in
-            OnOk result (kept self.new ≡ with_header image (header_after me.now (r.headers image) op.now) (with_watchers image (watchers_after me.now (r.headers image) (r.watchers image) op.now) r)) }
+            OnOk result (kept self.new ≡ with_header image (header_after me.now (r.headers image) op.now)
+            (with_watchers image (watchers_after me.now (r.headers image) (r.watchers image) op.now) r)) }
         ensures mail { let r = kept self.old in
-            OnOk result (mail.new ≡ notified site me.now image (receivers me.now (r.headers image) (r.watchers image)) op.now mail.old) }
+            OnOk result (mail.new ≡ notified site me.now image
+            (receivers me.now (r.headers image) (r.watchers image)) op.now mail.old) }
         ensures err { OnErr result (kept self.new ≡ kept self.old) }
         ensures unsent { OnErr result (mail.new ≡ mail.old) }
     {
@@ -243,7 +251,8 @@ impl Store {
     /// An instance watches the header of an image, where it is there.
     fn watch(&mut self, me: Instance, image: ImageId) -> Result<(), NoMemory>
         ensures ok { let r = kept self.old in
-            OnOk result (kept self.new ≡ with_watchers image (watchers_after me (r.headers image) (r.watchers image) header_op.Watch) r) }
+            OnOk result (kept self.new ≡ with_watchers image
+            (watchers_after me (r.headers image) (r.watchers image) header_op.Watch) r) }
         ensures err { OnErr result (kept self.new ≡ kept self.old) }
     {
         if !self.headers.contains_key(&image) {
@@ -286,7 +295,8 @@ impl Store {
         mail: &mut Mail,
     ) -> Result<(), NoMemory>
         ensures ok { let r = kept self.now in
-            OnOk result (mail.new ≡ notified site me.now image (receivers me.now (r.headers image) (r.watchers image)) (header_op.Notify kind.now) mail.old) }
+            OnOk result (mail.new ≡ notified site me.now image (receivers me.now (r.headers image) (r.watchers image))
+            (header_op.Notify kind.now) mail.old) }
         ensures err { OnErr result (mail.new ≡ mail.old) }
     {
         if !self.headers.contains_key(&image) {

@@ -57,7 +57,8 @@ pub fn watch(
     image: ImageId,
     instance: Instance,
 ) -> Result<(), NoMemory>
-    ensures ok { OnOk result ((i : ℕ) → watchers_in watchers.new i ≡ put (watchers_in watchers.old) image (registered instance (watchers_in watchers.old image)) i) }
+    ensures ok { OnOk result ((i : ℕ) → watchers_in watchers.new i ≡ put (watchers_in watchers.old) image
+        (registered instance (watchers_in watchers.old image)) i) }
     ensures err { OnErr result ((i : ℕ) → watchers_in watchers.new i ≡ watchers_in watchers.old i) }
 {
     let Some(there) = watchers.get_mut(&image) else {
@@ -74,7 +75,8 @@ fn begin(
     instance: Instance,
 ) -> Result<(), NoMemory>
     requires { watchers_in watchers.old image ≡ [] }
-    ensures ok { OnOk result ((i : ℕ) → watchers_in watchers.new i ≡ put (watchers_in watchers.old) image (registered instance []) i) }
+    ensures ok { OnOk result ((i : ℕ) → watchers_in watchers.new i ≡ put (watchers_in watchers.old) image
+        (registered instance []) i) }
     ensures err { OnErr result ((i : ℕ) → watchers_in watchers.new i ≡ watchers_in watchers.old i) }
 {
     let mut first = Watchers::new(alloc);
@@ -85,7 +87,8 @@ fn begin(
 
 /// An instance doesn't watch an image any longer, where it did. It takes no memory.
 pub fn unwatch(watchers: &mut BTreeMap<ImageId, Watchers>, image: ImageId, instance: Instance)
-    ensures { (i : ℕ) → watchers_in watchers.new i ≡ put (watchers_in watchers.old) image (without instance (watchers_in watchers.old image)) i }
+    ensures { (i : ℕ) → watchers_in watchers.new i ≡ put (watchers_in watchers.old) image
+        (without instance (watchers_in watchers.old image)) i }
 {
     let Some(there) = watchers.get_mut(&image) else {
         return;

@@ -26,14 +26,14 @@ use Rattle.rbd_slots.specs.Advance.{objects_or_none, track_with, track_of, past_
 use Rattle.rbd_slots.specs.Lines.{LinesView, lines_of, room_of, CanOpen}
 use Rattle.rbd_slots.specs.OnTrack.{IsOnTrack, IsNowhereElse, AreFair, LeavesOthers}
 use Rattle.rbd_slots.specs.Track.{Track, line_in, line_changed_at, course_of, track_looked, passed_by, run, ended_by}
-use Rattle.rbd_slots.specs.Waits.{waits, awaits_line, awaits_turn, is_at_own}
+use Rattle.rbd_slots.specs.Waits.{waits, awaits_line, awaits_turn, awaits_look}
 use Rattle.rbd_slots.proofs.Fairness.{passed_by_fair, answered_by_fair, ended_by_fair}
 use Rattle.rbd_slots.proofs.Going.{IsGoing, begins_going, goes_past, stops_at_operation, ends_there}
 use Rattle.rbd_slots.proofs.Others.{answered_leaves, passed_leaves, ended_leaves, left_elsewhere}
 
 -- ---- its look under the lock
 
-own_waits : (site : SiteId) (image : ℕ) (place : _) → looks_under_lock_at site image place ≡ true → is_at_own place ≡ true
+own_waits : (site : SiteId) (image : ℕ) (place : _) → looks_under_lock_at site image place ≡ true → awaits_look place ≡ true
 own_waits site image None own = own
 own_waits site image (Some p) own = (and_parts (is_at site image p.site p.image) (is_waiting p.stage) own).1
 

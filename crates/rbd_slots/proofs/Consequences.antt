@@ -22,7 +22,7 @@ use Rattle.rbd_slots.specs.Lines.{LinesView, lines_of}
 use Rattle.rbd_slots.specs.OnTrack.{is_here}
 use Rattle.rbd_slots.specs.Session.{SessionView, IsSoundSession, running_in, running_at, held_in, going_in, kind_asked, kind_at, of_going}
 use Rattle.rbd_slots.specs.Track.{course_in, line_in, course_of, place_of_image}
-use Rattle.rbd_slots.specs.Waits.{waits, awaits_line, awaits_turn, lacks_turn, is_at_own}
+use Rattle.rbd_slots.specs.Waits.{waits, awaits_line, awaits_turn, lacks_turn, awaits_look}
 
 -- ---- who is alone
 
@@ -72,8 +72,8 @@ module _ {R : Type 0} (stands : R → Standing) where
       (apart_waits line one own here (subst (λ n. member_of n line ≡ Some own) (sym at) there) never
       (subst (λ n. is_member one.slot (ahead n line) ≡ true) (sym at) before)) in
       let held : awaits_line slot t ≡ true =
-      ap (λ q. is_at_own (course_in t.turn t.due q (member_of slot (line_in q (lines_of s.lines)))).place && not (may_pass slot (line_in q (lines_of s.lines)))) place
-      ∙ ap (λ o. is_at_own (course_in t.turn t.due (Some p) o).place && not (may_pass slot line)) there
+      ap (λ q. awaits_look (course_in t.turn t.due q (member_of slot (line_in q (lines_of s.lines)))).place && not (may_pass slot (line_in q (lines_of s.lines)))) place
+      ∙ ap (λ o. awaits_look (course_in t.turn t.due (Some p) o).place && not (may_pass slot line)) there
       ∙ ap (λ x. is_waiting x && not (may_pass slot line)) waiting
       ∙ ap not closed in
       held_up slot (held_in slot s.slots) s.lines r runs (ap (λ b. b || awaits_turn slot t) held)
@@ -119,7 +119,7 @@ module _ {R : Type 0} (stands : R → Standing) where
       ap (member_of m.slot) line ∙ ap (λ b. cond b (Some m) (member_of m.slot members)) (eq-eqb m.slot m.slot refl) in
       let place : r.place ≡ Some (record { site = site; image = image }) = place_is s m.slot site image m sound found r runs in
       let here : line_in r.place (lines_of s.lines) ≡ m ∷ members = ap (λ p. line_in p (lines_of s.lines)) place ∙ line in
-      both (is_at_own (course_of m.slot (track_of r s.lines)).place) (may_pass m.slot (line_in r.place (lines_of s.lines))) (awaits_turn m.slot (track_of r s.lines))
+      both (awaits_look (course_of m.slot (track_of r s.lines)).place) (may_pass m.slot (line_in r.place (lines_of s.lines))) (awaits_turn m.slot (track_of r s.lines))
       (ap (may_pass m.slot) here ∙ first_may m members)
       (turns r.turn refl here)
     where

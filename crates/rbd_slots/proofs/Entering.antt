@@ -5,7 +5,7 @@ use Rattle.std.proofs.Math.Seq.{drop-cons}
 use Rattle.std.proofs.lemmas.Bool.{eqb-false, ne_eqb, true≢false}
 use Rattle.std.specs.Option.{option_map}
 use Rattle.rbd_guard.specs.Order.{is_in, AreApart}
-use Rattle.rbd_queue.specs.Line.{Member, LineView, member_of, may_enter, none_past_behind, objects_of_slot, objects_in, is_shared_past_in, changed_member, entered}
+use Rattle.rbd_queue.specs.Line.{Member, LineView, member_of, may_enter, none_past_behind, objects_of_slot, objects_in, may_hold_objects_in, changed_member, entered}
 use Rattle.rbd_queue.specs.Steady.{IsSteady}
 use Rattle.rbd_queue.proofs.Passing.{own_changed, entered_is_steady}
 use Rattle.rbd_slots.specs.Lines.{MayEnter}
@@ -80,11 +80,11 @@ pub record IsEntering (slot : ℕ) (final : List Member) (rest : List ℕ) (now 
   pub apart : AreApart rest
   pub room : length rest ≤ now.reserved
 
-found_past : (slot : ℕ) (object : ℕ) (o : Option Member) → is_shared_past_in (option_map (entered object) o) ≡ is_shared_past_in o
+found_past : (slot : ℕ) (object : ℕ) (o : Option Member) → may_hold_objects_in (option_map (entered object) o) ≡ may_hold_objects_in o
 found_past slot object None = refl
 found_past slot object (Some m) = refl
 
-objects_more : (object : ℕ) (o : Option Member) → is_shared_past_in o ≡ true → objects_in (option_map (entered object) o) ≡ objects_in o ++ object ∷ []
+objects_more : (object : ℕ) (o : Option Member) → may_hold_objects_in o ≡ true → objects_in (option_map (entered object) o) ≡ objects_in o ++ object ∷ []
 objects_more object None may = cc
 objects_more object (Some m) may = refl
 
@@ -138,7 +138,7 @@ goes_on slot final object rest now new e is room =
           ap (changed_member slot (given_tickets rest)) is ∙ changed_twice slot (entered object) (given_tickets rest) (entered_is_steady object) now.members
           ∙ changed_same slot (λ m. given_tickets rest (entered object m)) (given_tickets (object ∷ rest)) (given_more object rest) now.members ∙ e.reaches;
       may = inr (
-        ap is_shared_past_in found ∙ found_past slot object (member_of slot now.members) ∙ may.member,
+        ap may_hold_objects_in found ∙ found_past slot object (member_of slot now.members) ∙ may.member,
         ap (none_past_behind slot) is ∙ none_past_changed (entered object) (entered_is_steady object) (entered_past object) slot now.members ∙ may.last,
       );
       new = subst (AreNew rest) (sym (ap objects_in found ∙ objects_more object (member_of slot now.members) may.member)) (still_new object rest (objects_of_slot slot now.members) e.apart.0 e.new.1);

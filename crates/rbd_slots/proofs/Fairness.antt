@@ -11,7 +11,7 @@ use Rattle.rbd_kinds.specs.declared.machine.Want.TheVariants as want
 use Rattle.rbd_kinds.specs.declared.operation.Op.{Op}
 use Rattle.rbd_kinds.specs.declared.operation.Op.TheVariants as op
 use Rattle.rbd_machine.specs.Course.{looks_under_lock_at}
-use Rattle.rbd_queue.specs.Line.{Member, LineView, changed_member, without, new_member, held, passed, entered, may_pass, is_shared_past_in, objects_in, IsFairLine}
+use Rattle.rbd_queue.specs.Line.{Member, LineView, changed_member, without, new_member, held, passed, entered, may_pass, may_hold_objects_in, objects_in, IsFairLine}
 use Rattle.rbd_queue.proofs.Fair.{joined_fair, held_fair, passed_fair, left_fair, entered_fair, next_fair}
 use Rattle.rbd_machine.specs.Knowledge.{is_at, same_site}
 use Rattle.rbd_kinds.specs.declared.image_at.ImageAt.{ImageAt}
@@ -61,7 +61,7 @@ noted_fair slot t fair (inr may) =
     (record { members = t.lines may.place.site may.place.image; reserved = length t.due })
     (begins slot t.due (record { members = t.lines may.place.site may.place.image; reserved = length t.due })
     (inr (record {
-      member = ap is_shared_past_in may.there.member ∙ may.shared;
+      member = ap may_hold_objects_in may.there.member ∙ may.shared;
       last = may.behind;
       none = ap objects_in may.there.member ∙ may.none;
       apart = may.apart;

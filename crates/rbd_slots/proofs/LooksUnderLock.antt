@@ -36,7 +36,7 @@ use Rattle.rbd_slots.specs.Lines.{LinesView, lines_of}
 use Rattle.rbd_slots.specs.OnTrack.{LeavesOthers}
 use Rattle.rbd_slots.specs.Session.{SessionView, IsAtLookUnderLock, OfRunning, IsReadied, IsFed, ComesToIn, held_in, running_in, running_at, going_in, kind_asked, is_look_at, look_under_lock_of, look_under_lock_in, look_under_lock_at}
 use Rattle.rbd_slots.specs.Track.{Track, Lines, line_changed_at, place_of_image, line_in, course_in, course_of, given_tickets, done_with, waited_by, track_noted, track_looked, answered_by, run}
-use Rattle.rbd_slots.specs.Waits.{waits, waits_at, awaits_turn, is_at_own}
+use Rattle.rbd_slots.specs.Waits.{waits, waits_at, awaits_turn, awaits_look}
 use Rattle.rbd_slots.proofs.Behind.{KeepsPast}
 use Rattle.rbd_slots.proofs.Consequences.{here_is}
 use Rattle.rbd_slots.proofs.Track.{done_steady, given_steady}
@@ -56,8 +56,8 @@ module _ {R : Type 0} (slot : ℕ) (s : SessionView R) (r : Running R) (q : Imag
   may_go m found awaits =
       may_of (may_pass slot (lines_of s.lines q.site q.image)) (awaits_turn slot (track_of r s.lines))
       (sym (
-      ap (λ p. (is_at_own (course_in r.turn [] p (member_of slot (line_in p (lines_of s.lines)))).place && not (may_pass slot (line_in p (lines_of s.lines)))) || awaits_turn slot (track_of r s.lines)) place
-      ∙ ap (λ o. (is_at_own (course_in r.turn [] (Some q) o).place && not (may_pass slot (lines_of s.lines q.site q.image))) || awaits_turn slot (track_of r s.lines)) found
+      ap (λ p. (awaits_look (course_in r.turn [] p (member_of slot (line_in p (lines_of s.lines)))).place && not (may_pass slot (line_in p (lines_of s.lines)))) || awaits_turn slot (track_of r s.lines)) place
+      ∙ ap (λ o. (awaits_look (course_in r.turn [] (Some q) o).place && not (may_pass slot (lines_of s.lines q.site q.image))) || awaits_turn slot (track_of r s.lines)) found
       ∙ ap (λ g. (is_waiting g && not (may_pass slot (lines_of s.lines q.site q.image))) || awaits_turn slot (track_of r s.lines)) awaits)
       ∙ goes)
 

@@ -34,7 +34,7 @@ use Rattle.rbd_slots.specs.Lines.{LinesView, lines_of}
 use Rattle.rbd_slots.specs.OnTrack.{LeavesOthers}
 use Rattle.rbd_slots.specs.Session.{SessionView, IsSoundSession, IsAtLookUnderLock, OfRunning, IsAlike, IsAlikeIn, IsFed, ComesToIn, held_in, running_in, running_at, going_in, kind_asked, is_look_at, look_under_lock_of, look_under_lock_in, look_under_lock_at}
 use Rattle.rbd_slots.specs.Track.{Track, Lines, line_changed_at, place_of_image, line_in, course_of, given_tickets, done_with, waited_by, track_noted, track_looked, answered_by, run, ended_by}
-use Rattle.rbd_slots.specs.Waits.{waits, waits_at, awaits_line, lacks_turn, is_at_own}
+use Rattle.rbd_slots.specs.Waits.{waits, waits_at, awaits_line, lacks_turn, awaits_look}
 use Rattle.rbd_slots.proofs.Behind.{holds_none}
 use Rattle.rbd_slots.proofs.Others.{ended_leaves}
 use Rattle.rbd_slots.proofs.LooksUnderLock.{at_look_under_lock}
@@ -111,9 +111,9 @@ module _ {R : Type 0} (stands : R → Standing) (s new : SessionView R) (sound :
   goes_on may =
       ap (λ b. awaits_line slot (track_of a.running new.lines) || b)
       (no_turn a.running.turn refl (line_in a.running.place (lines_of new.lines)))
-      ∙ ap (λ b. (is_at_own (course_of slot (track_of a.running new.lines)).place && not b) || false)
+      ∙ ap (λ b. (awaits_look (course_of slot (track_of a.running new.lines)).place && not b) || false)
       (ap (λ q. may_pass slot (line_in q (lines_of new.lines))) a.place ∙ may)
-      ∙ ap (λ b. b || false) (no_more (is_at_own (course_of slot (track_of a.running new.lines)).place))
+      ∙ ap (λ b. b || false) (no_more (awaits_look (course_of slot (track_of a.running new.lines)).place))
 
   look_stays : held_in slot new.slots ≡ held_in slot s.slots → IsSameMember slot s.lines new.lines → may_pass slot (lines_of new.lines p.site p.image) ≡ true
       → look_under_lock_at stands slot s ≡ Some p → look_under_lock_at stands slot new ≡ Some p

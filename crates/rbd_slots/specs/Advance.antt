@@ -72,13 +72,15 @@ look_of plan = None
 -- under the lock
 abbrev pub looked_for : (slot : ℕ) → Option Extent → Track → Plan → Fed → Option (List ℕ)
 looked_for slot e t (Ask site why (op.Header image header.Get) next) (fed.Answer (answer.Header h)) =
-    if looks_under_lock_at site image (course_of slot t).place then Some (due_of (course_of slot t).place (objects_asked h e)) else None
+    if looks_under_lock_at site image (course_of slot t).place
+    then Some (due_of (course_of slot t).place (objects_asked h e)) else None
 looked_for slot e t plan f = None
 
 -- the request goes past its look under the lock, and is due to take tickets for these objects
 abbrev pub past_its_look : (slot : ℕ) → Option (List ℕ) → Track → Track
 past_its_look slot None t = t
-past_its_look slot (Some objects) t = record t { due = objects; lines = line_changed_at t.place (changed_member slot passed) t.lines }
+past_its_look slot (Some objects) t =
+    record t { due = objects; lines = line_changed_at t.place (changed_member slot passed) t.lines }
 
 abbrev pub fed_by : (slot : ℕ) → Option Extent → Track → Plan → Fed → Track
 fed_by slot e t (Ask site why o next) (fed.Answer a) = answered_by slot e t site o a
@@ -128,7 +130,8 @@ MayPass slot t w = Unit {0}
 
 -- The request stands at an operation, doesn't wait, and is fed an answer to that operation for
 -- which everything is ready.
-pub record IsFedWell {R : Type 0} (stands : R → Standing) (is_ready : R → Answer → Type 0) (slot : ℕ) (r : Running R) (lines : LinesView) (f : Fed) : Type 0 where
+pub record IsFedWell {R : Type 0} (stands : R → Standing) (is_ready : R → Answer → Type 0) (slot : ℕ) (r : Running R)
+    (lines : LinesView) (f : Fed) : Type 0 where
   pub from : 1 ≤ slot
   pub to : slot ≤ 64
   pub asks : IsAsking (stands r.request).plan
@@ -150,7 +153,8 @@ pub record HasEnded (slot : ℕ) (last : Reply) (t : Track) (result : Option Rep
   pub left : lines_of lines ≡ (ended_by slot t).lines
   pub nowhere : IsNowhereElse slot None (lines_of lines)
 
-pub record GoesFurther {R : Type 0} (stands : R → Standing) (slot : ℕ) (to : Standing) (t : Track) (result : Option Reply) (old new : Running R) (lines : LinesView) : Type 0 where
+pub record GoesFurther {R : Type 0} (stands : R → Standing) (slot : ℕ) (to : Standing) (t : Track)
+    (result : Option Reply) (old new : Running R) (lines : LinesView) : Type 0 where
   pub none : result ≡ None
   pub line : new.line ≡ old.line
   pub extent : new.extent ≡ old.extent
@@ -160,6 +164,8 @@ pub record GoesFurther {R : Type 0} (stands : R → Standing) (slot : ℕ) (to :
   pub asks : IsAsking to.plan
   pub on : IsOnTrack slot old.extent true to t
 
-abbrev pub AdvancesTo : {R : Type 0} → (stands : R → Standing) → (slot : ℕ) → (labels : Label → Plan) → Plan → Track → Option Reply → (old new : Running R) → LinesView → Type 0
+abbrev pub AdvancesTo : {R : Type 0} → (stands : R → Standing) → (slot : ℕ) → (labels : Label → Plan) → Plan → Track
+    → Option Reply → (old new : Running R) → LinesView → Type 0
 AdvancesTo stands slot labels (Return reply) t result old new lines = HasEnded slot reply t result lines
-AdvancesTo stands slot labels plan t result old new lines = GoesFurther stands slot (record { labels = labels; plan = plan }) t result old new lines
+AdvancesTo stands slot labels plan t result old new lines =
+    GoesFurther stands slot (record { labels = labels; plan = plan }) t result old new lines

@@ -1,4 +1,4 @@
--- The lines of a session's images, in a table by image.
+-- The lines of the images that a session's requests change, in a table by image.
 use Rattle.std.specs.Prelude.{◌≡◌, ◌⊎◌, ◌≤◌, true, length, ℕ, ◌<◌, nat_eq, Bool, false, List, [], Option, Some, None, IsSome}
 use Rattle.std.specs.HashMap.{HashMap, get}
 use Rattle.std.specs.Map.{lookup}
@@ -71,7 +71,7 @@ CanOpen l = IsEmptyLine l.unused × (0 < l.room)
 
 -- A slot may take tickets for these objects where there is room and either there are none, or it
 -- goes beside others, is past its look under the lock, has no ticket yet, and nobody behind it is
--- past its own look.
+-- past its look under the lock.
 pub record MayEnter (slot : ℕ) (objects : List ℕ) (members : List Member) : Type 0 where
   pub member : may_enter slot members ≡ true
   pub last : none_past_behind slot members ≡ true

@@ -4,7 +4,7 @@ use Rattle.rbd_machine.specs.Orderly.{IsOrderlyFrom}
 use Rattle.rbd_guard.specs.Order.{AreApart}
 use Rattle.rbd_kinds.specs.declared.id.SiteId.{SiteId}
 use Rattle.rbd_kinds.specs.declared.layout.Extent.{Extent}
-use Rattle.rbd_queue.specs.Line.{Member, member_of, is_shared_past, none_past_behind, comes_next, IsFairLine}
+use Rattle.rbd_queue.specs.Line.{Member, member_of, may_hold_objects, none_past_behind, comes_next, IsFairLine}
 use Rattle.rbd_machine.specs.Knowledge.{is_at}
 use Rattle.rbd_machine.specs.Plan.{Standing}
 use Rattle.rbd_kinds.specs.declared.image_at.ImageAt.{ImageAt}
@@ -25,7 +25,8 @@ is_here (Some p) site image = is_at p.site p.image site image
 
 -- the request is a member of no other line
 abbrev pub IsNowhereElse : (slot : ℕ) → Option ImageAt → Lines → Type 0
-IsNowhereElse slot place lines = (site : SiteId) (image : ℕ) → is_here place site image ≡ false → member_of slot (lines site image) ≡ None
+IsNowhereElse slot place lines = (site : SiteId) (image : ℕ) → is_here place site image ≡ false
+    → member_of slot (lines site image) ≡ None
 
 -- The request may take its tickets: it goes beside others, has none yet, and nobody behind it is
 -- past its look under the lock.
@@ -33,7 +34,7 @@ pub record MayTakeTickets (slot : ℕ) (t : Track) : Type 0 where
   pub place : ImageAt
   pub member : Member
   pub there : IsThere slot place member t
-  pub shared : is_shared_past member ≡ true
+  pub shared : may_hold_objects member ≡ true
   pub none : member.objects ≡ []
   pub behind : none_past_behind slot (t.lines place.site place.image) ≡ true
   pub apart : AreApart t.due
@@ -55,4 +56,5 @@ AreFair lines = (site : SiteId) (image : ℕ) → IsFairLine (lines site image)
 
 -- each other slot stands in each line as it did
 abbrev pub LeavesOthers : (slot : ℕ) → (old new : Lines) → Type 0
-LeavesOthers slot old new = (other : ℕ) → other ≢ slot → (site : SiteId) (image : ℕ) → member_of other (new site image) ≡ member_of other (old site image)
+LeavesOthers slot old new = (other : ℕ) → other ≢ slot → (site : SiteId) (image : ℕ)
+    → member_of other (new site image) ≡ member_of other (old site image)

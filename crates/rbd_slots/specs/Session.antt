@@ -74,9 +74,11 @@ module _ {R : Type 0} where
     pub slots : length s.slots ≡ 65
     pub zero : held_in 0 s.slots ≡ None
     pub lowest : IsLowest s.lowest s.slots
-    pub runs : (slot : ℕ) (r : Running R) → running_at slot s ≡ Some r → IsOnTrack slot r.extent true (stands r.request) (track_of r s.lines)
+    pub runs : (slot : ℕ) (r : Running R) → running_at slot s ≡ Some r
+        → IsOnTrack slot r.extent true (stands r.request) (track_of r s.lines)
     pub asks : (slot : ℕ) (r : Running R) → running_at slot s ≡ Some r → IsAsking (stands r.request).plan
-    pub others : (slot : ℕ) → running_at slot s ≡ None → (site : SiteId) (image : ℕ) → member_of slot (lines_of s.lines site image) ≡ None
+    pub others : (slot : ℕ) → running_at slot s ≡ None → (site : SiteId) (image : ℕ)
+        → member_of slot (lines_of s.lines site image) ≡ None
     pub fair : AreFair (lines_of s.lines)
 
 -- the script's line of the request in a slot
@@ -91,7 +93,8 @@ seat_of s = record { session = s.instance.session; home = s.home }
 
 -- ---- what a request is in its slot at first
 
-pub record BeginsAt {R W : Type 0} (stands : R → Standing) (stands_for : Seat → W → Standing → Type 0) (extent_for : W → Option Extent) (seat : Seat) (line : ℕ) (work : W) (r : Running R) : Type 0 where
+pub record BeginsAt {R W : Type 0} (stands : R → Standing) (stands_for : Seat → W → Standing → Type 0)
+    (extent_for : W → Option Extent) (seat : Seat) (line : ℕ) (work : W) (r : Running R) : Type 0 where
   pub is_line : r.line ≡ line
   pub stands_there : stands_for seat work (stands r.request)
   pub asks : IsAsking (stands r.request).plan
@@ -100,9 +103,12 @@ pub record BeginsAt {R W : Type 0} (stands : R → Standing) (stands_for : Seat 
   pub turn : r.turn ≡ None
 
 -- it is refused where each request of its work has ended so, or runs from where it is to stand
-abbrev pub IsNewcomer : {R W : Type 0} → (stands : R → Standing) → (stands_for : Seat → W → Standing → Type 0) → (extent_for : W → Option Extent) → Seat → (line : ℕ) → W → Option (Occupant R) → Type 0
-IsNewcomer stands stands_for extent_for seat line work (Some (occupant.Refused number refusal)) = (number ≡ line) × ((s : Standing) → stands_for seat work s → s.plan ≡ refused refusal)
-IsNewcomer stands stands_for extent_for seat line work (Some (occupant.Running r)) = BeginsAt stands stands_for extent_for seat line work r
+abbrev pub IsNewcomer : {R W : Type 0} → (stands : R → Standing) → (stands_for : Seat → W → Standing → Type 0)
+    → (extent_for : W → Option Extent) → Seat → (line : ℕ) → W → Option (Occupant R) → Type 0
+IsNewcomer stands stands_for extent_for seat line work (Some (occupant.Refused number refusal)) = (number ≡ line)
+    × ((s : Standing) → stands_for seat work s → s.plan ≡ refused refusal)
+IsNewcomer stands stands_for extent_for seat line work (Some (occupant.Running r)) =
+    BeginsAt stands stands_for extent_for seat line work r
 IsNewcomer stands stands_for extent_for seat line work None = ⊥
 
 -- ---- what the request in a slot wants, where it may go on
@@ -119,7 +125,8 @@ abbrev pub op_asked : Plan → Option (SiteId × Op)
 op_asked (Ask site why o next) = Some (site, o)
 op_asked plan = None
 
-abbrev pub of_going : {R T : Type 0} → (stands : R → Standing) → (asked : Plan → Option T) → Option (Running R) → Option T
+abbrev pub of_going : {R T : Type 0} → (stands : R → Standing) → (asked : Plan → Option T) → Option (Running R)
+    → Option T
 of_going stands asked None = None
 of_going stands asked (Some r) = asked (stands r.request).plan
 
@@ -142,11 +149,15 @@ is_look_at site wanted = false
 -- for that look, and its next operation is a look at a header of the image's site.
 abbrev pub look_under_lock_of : (slot : ℕ) → Option (SiteId × OpKind) → Option ImageAt → LinesView → Option ImageAt
 look_under_lock_of slot wanted None lines = None
-look_under_lock_of slot wanted (Some p) lines = if is_look_at p.site wanted && waits_at (option_map (λ (m : Member). m.stage) (member_of slot (lines_of lines p.site p.image))) then Some p else None
+look_under_lock_of slot wanted (Some p) lines =
+    if is_look_at p.site wanted && waits_at
+    (option_map (λ (m : Member). m.stage) (member_of slot (lines_of lines p.site p.image))) then Some p else None
 
-abbrev pub look_under_lock_in : {R : Type 0} → (stands : R → Standing) → (slot : ℕ) → LinesView → Option (Running R) → Option ImageAt
+abbrev pub look_under_lock_in : {R : Type 0} → (stands : R → Standing) → (slot : ℕ) → LinesView → Option (Running R)
+    → Option ImageAt
 look_under_lock_in stands slot lines None = None
-look_under_lock_in stands slot lines (Some r) = look_under_lock_of slot (kind_asked (stands r.request).plan) r.place lines
+look_under_lock_in stands slot lines (Some r) =
+    look_under_lock_of slot (kind_asked (stands r.request).plan) r.place lines
 
 -- the image at whose look under the lock the request in a slot stands, where it may go on
 abbrev pub look_under_lock_at : {R : Type 0} → (stands : R → Standing) → (slot : ℕ) → SessionView R → Option ImageAt
@@ -181,7 +192,8 @@ OfRunning P (Some (occupant.Running r)) = P r
 OfRunning P o = ⊥
 
 -- the request may go on, and is fed an answer that its operation can give
-pub record IsAnswered {R : Type 0} (stands : R → Standing) (slot : ℕ) (lines : LinesView) (f : Fed) (r : Running R) : Type 0 where
+pub record IsAnswered {R : Type 0} (stands : R → Standing) (slot : ℕ) (lines : LinesView) (f : Fed)
+    (r : Running R) : Type 0 where
   pub goes : waits slot (track_of r lines) ≡ false
   pub can : CanBeFed (stands r.request).plan f
 
@@ -199,25 +211,35 @@ pub record IsAlike {R : Type 0} (stands : R → Standing) (old new : SessionView
   pub lines : lines_of new.lines ≡ lines_of old.lines
 
 -- everything is ready for an answer
-abbrev pub IsReadied : {R : Type 0} → (stands : R → Standing) → (is_ready : R → Answer → Type 0) → (slot : ℕ) → Fed → SessionView R → Type 0
+abbrev pub IsReadied : {R : Type 0} → (stands : R → Standing) → (is_ready : R → Answer → Type 0) → (slot : ℕ) → Fed
+    → SessionView R → Type 0
 IsReadied stands is_ready slot f s = OfRunning (λ r. IsFedWell stands is_ready slot r s.lines f) (held_in slot s.slots)
 
 -- What a feeding leaves of the request and its slot: the request stands at its next operation, past
 -- what it waited for before; or it has ended with its reply, and the slot is free.
-abbrev pub ComesToIn : {R : Type 0} → (stands : R → Standing) → (slot : ℕ) → LinesView → Fed → Option Reply → (r : Running R) → (new : Option (Occupant R)) → LinesView → Type 0
+abbrev pub ComesToIn : {R : Type 0} → (stands : R → Standing) → (slot : ℕ) → LinesView → Fed → Option Reply
+    → (r : Running R) → (new : Option (Occupant R)) → LinesView → Type 0
 ComesToIn stands slot lines f result r (Some (occupant.Running q)) after =
-    (result ≡ None) × AdvancesTo stands slot (stands r.request).labels (at_operation (stands r.request).labels (plan_after (stands r.request).plan f))
-    (run slot (plan_after (stands r.request).plan f) (fed_by slot r.extent (track_of r lines) (stands r.request).plan f)) result r q after
+    (result ≡ None) × AdvancesTo stands slot (stands r.request).labels
+    (at_operation (stands r.request).labels (plan_after (stands r.request).plan f))
+    (run slot (plan_after (stands r.request).plan f)
+    (fed_by slot r.extent (track_of r lines) (stands r.request).plan f)) result r q after
 ComesToIn stands slot lines f result r None after =
-    IsSome result × AdvancesTo stands slot (stands r.request).labels (at_operation (stands r.request).labels (plan_after (stands r.request).plan f))
-    (run slot (plan_after (stands r.request).plan f) (fed_by slot r.extent (track_of r lines) (stands r.request).plan f)) result r r after
+    IsSome result × AdvancesTo stands slot (stands r.request).labels
+    (at_operation (stands r.request).labels (plan_after (stands r.request).plan f))
+    (run slot (plan_after (stands r.request).plan f)
+    (fed_by slot r.extent (track_of r lines) (stands r.request).plan f)) result r r after
 ComesToIn stands slot lines f result r (Some (occupant.Refused line refusal)) after = ⊥
 
-abbrev pub IsFed : {R : Type 0} → (stands : R → Standing) → (slot : ℕ) → Fed → Option Reply → (old new : SessionView R) → Type 0
-IsFed stands slot f result old new = OfRunning (λ r. ComesToIn stands slot old.lines f result r (held_in slot new.slots) new.lines) (held_in slot old.slots)
+abbrev pub IsFed : {R : Type 0} → (stands : R → Standing) → (slot : ℕ) → Fed → Option Reply → (old new : SessionView R)
+    → Type 0
+IsFed stands slot f result old new =
+    OfRunning (λ r. ComesToIn stands slot old.lines f result r (held_in slot new.slots) new.lines)
+    (held_in slot old.slots)
 
 -- a request that was made ready for an answer
-pub record IsPrepared {R : Type 0} (stands : R → Standing) (is_ready : R → Answer → Type 0) (slot : ℕ) (old : Running R) (before : LinesView) (f : Fed) (new : Running R) (after : LinesView) : Type 0 where
+pub record IsPrepared {R : Type 0} (stands : R → Standing) (is_ready : R → Answer → Type 0) (slot : ℕ) (old : Running R)
+    (before : LinesView) (f : Fed) (new : Running R) (after : LinesView) : Type 0 where
   pub ready : IsReadyFor (is_ready new.request) f
   pub looked : new.looked ≡ looked_for slot old.extent (track_of old before) (stands old.request).plan f
   pub opens : CanOpen after

@@ -38,7 +38,8 @@ pub record Track : Type 0 where
 -- the line of one image changed, and of none where it is in no line
 abbrev pub line_changed_at : Option ImageAt → (List Member → List Member) → Lines → Lines
 line_changed_at None change lines = lines
-line_changed_at (Some p) change lines = λ site image. if is_at p.site p.image site image then change (lines site image) else lines site image
+line_changed_at (Some p) change lines = λ site image. if is_at p.site p.image site image then change (lines site image)
+    else lines site image
 
 abbrev pub place_of_image : SiteId → (image : ℕ) → ImageAt
 place_of_image site image = record { site = site; image = image }
@@ -51,7 +52,8 @@ line_in (Some p) lines = lines p.site p.image
 -- ---- its course
 
 abbrev pub place_in : Option ImageAt → Option Member → Option PlaceInLine
-place_in (Some p) (Some m) = Some (record { site = p.site; image = p.image; alone = is_alone m.sharing; stage = m.stage })
+place_in (Some p) (Some m) = Some
+    (record { site = p.site; image = p.image; alone = is_alone m.sharing; stage = m.stage })
 place_in _ _ = None
 
 -- how the request goes through its line, without the other members
@@ -74,24 +76,40 @@ done_with (Some object) m = next_piece m
 -- ---- its way
 
 abbrev pub waited_by : (slot : ℕ) → Track → Wait → Track
-waited_by slot t (wait.Join site image sharing) = record t { place = Some (place_of_image site image); lines = line_changed_at (Some (place_of_image site image)) (λ members. members ++ new_member slot sharing ∷ []) t.lines }
-waited_by slot t (wait.Hold site image) = record t { lines = line_changed_at t.place (changed_member slot held) t.lines }
-waited_by slot t (wait.Turn object) = record t { turn = Some object; lines = line_changed_at t.place (changed_member slot (done_with t.turn)) t.lines }
-waited_by slot t (wait.Applied site image) = record t { turn = None; lines = line_changed_at t.place (changed_member slot (done_with t.turn)) t.lines }
-waited_by slot t (wait.Leave site image) = record { place = None; turn = None; due = []; lines = line_changed_at t.place (without slot) t.lines }
+waited_by slot t (wait.Join site image sharing) =
+    record t {
+      place = Some (place_of_image site image);
+      lines = line_changed_at (Some (place_of_image site image))
+          (λ members. members ++ new_member slot sharing ∷ []) t.lines;
+    }
+waited_by slot t (wait.Hold site image) =
+    record t { lines = line_changed_at t.place (changed_member slot held) t.lines }
+waited_by slot t (wait.Turn object) =
+    record t { turn = Some object; lines = line_changed_at t.place (changed_member slot (done_with t.turn)) t.lines }
+waited_by slot t (wait.Applied site image) =
+    record t { turn = None; lines = line_changed_at t.place (changed_member slot (done_with t.turn)) t.lines }
+waited_by slot t (wait.Leave site image) =
+    record { place = None; turn = None; due = []; lines = line_changed_at t.place (without slot) t.lines }
 
 -- at the end of its note it gets its tickets
 abbrev pub track_noted : (slot : ℕ) → Track → Track
-track_noted slot t = record t { due = []; lines = line_changed_at t.place (changed_member slot (given_tickets t.due)) t.lines }
+track_noted slot t = record t {
+  due = [];
+  lines = line_changed_at t.place (changed_member slot (given_tickets t.due)) t.lines;
+}
 
 -- The request's look under the lock was answered: so it is past that look, and due to take its
 -- tickets if it goes beside others.
 abbrev pub track_looked : (slot : ℕ) → Option Extent → HeaderView → Track → Track
-track_looked slot e h t = record t { due = due_of (course_of slot t).place (objects_asked h e); lines = line_changed_at t.place (changed_member slot passed) t.lines }
+track_looked slot e h t = record t {
+  due = due_of (course_of slot t).place (objects_asked h e);
+  lines = line_changed_at t.place (changed_member slot passed) t.lines;
+}
 
 -- the track after an operation and its answer
 abbrev pub answered_by : (slot : ℕ) → Option Extent → Track → SiteId → Op → Answer → Track
-answered_by slot e t site (op.Header image header.Get) (answer.Header h) = if looks_under_lock_at site image (course_of slot t).place then track_looked slot e h t else t
+answered_by slot e t site (op.Header image header.Get) (answer.Header h) =
+    if looks_under_lock_at site image (course_of slot t).place then track_looked slot e h t else t
 answered_by slot e t site o a = t
 
 -- the track once the request has what it wanted beside an operation

@@ -5,13 +5,13 @@ use Rattle.rbd_machine.specs.declared.stage.Stage.{Stage}
 use Rattle.rbd_queue.specs.Line.{Member, may_pass, has_turn}
 use Rattle.rbd_slots.specs.Track.{Track, line_in, course_of}
 
-abbrev pub is_at_own : Option PlaceInLine → Bool
-is_at_own None = false
-is_at_own (Some p) = is_waiting p.stage
+abbrev pub awaits_look : Option PlaceInLine → Bool
+awaits_look None = false
+awaits_look (Some p) = is_waiting p.stage
 
 -- whether the line holds the request back from its look under the lock
 abbrev pub awaits_line : (slot : ℕ) → Track → Bool
-awaits_line slot t = is_at_own (course_of slot t).place && not (may_pass slot (line_in t.place t.lines))
+awaits_line slot t = awaits_look (course_of slot t).place && not (may_pass slot (line_in t.place t.lines))
 
 abbrev pub lacks_turn : (slot : ℕ) → (turn : Option ℕ) → List Member → Bool
 lacks_turn slot None members = false

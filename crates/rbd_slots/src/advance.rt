@@ -24,7 +24,9 @@ pub fn advance<R: Request>(
     requires { IsFedWell R.stands R.is_ready slot running.old lines.old fed.now }
     ensures comes { AdvancesTo R.stands slot (R.stands running.old.request).labels
         (at_operation (R.stands running.old.request).labels (plan_after (R.stands running.old.request).plan fed.now))
-        (run slot (plan_after (R.stands running.old.request).plan fed.now) (fed_by slot running.old.extent (track_of running.old lines.old) (R.stands running.old.request).plan fed.now))
+        (run slot (plan_after (R.stands running.old.request).plan fed.now)
+        (fed_by slot running.old.extent (track_of running.old lines.old)
+        (R.stands running.old.request).plan fed.now))
         result running.old running.new lines.new }
     ensures others { LeavesOthers slot (lines_of lines.old) (lines_of lines.new) }
     ensures fair { AreFair (lines_of lines.new) }
@@ -64,11 +66,12 @@ fn beside_operation(want: Want) -> Option<Want>
     }
 }
 
-/// The request goes past its look under the lock, where that was answered: the objects that it is
-/// due to take tickets for.
+/// The request goes past its look under the lock, where that was answered. Gives the objects for
+/// which it is due to take tickets.
 fn look<R>(running: &mut Running<R>, lines: &mut Lines, slot: Slot) -> Option<Sequence<u64>>
     requires { IsSome running.old.looked → IsTrue (may_pass slot (members_of running.old.place lines.old)) }
-    ensures track { track_with result running.new lines.new ≡ past_its_look slot running.old.looked (track_of running.old lines.old) }
+    ensures track { track_with result running.new lines.new ≡ past_its_look slot running.old.looked
+        (track_of running.old lines.old) }
     ensures running { running.new ≡ record running.old { looked = None } }
     ensures due { result ≡ running.old.looked }
     ensures open { CanOpen lines.old → CanOpen lines.new }
@@ -84,7 +87,9 @@ fn look<R>(running: &mut Running<R>, lines: &mut Lines, slot: Slot) -> Option<Se
 /// The request takes the tickets that it is due.
 fn note(place: Option<ImageAt>, lines: &mut Lines, slot: Slot, due: &mut Option<Sequence<u64>>)
     requires { MayEnterAll slot (objects_or_none due.old) (members_of place lines.old) (room_of place lines.old) }
-    ensures lines { (key : ℕ) → members_at key lines.new ≡ cond (is_key place key) (changed_member slot (given_tickets (objects_or_none due.old)) (members_at key lines.old)) (members_at key lines.old) }
+    ensures lines { (key : ℕ) → members_at key lines.new ≡ cond (is_key place key)
+        (changed_member slot (given_tickets (objects_or_none due.old)) (members_at key lines.old))
+        (members_at key lines.old) }
     ensures due { due.new ≡ None }
     ensures open { CanOpen lines.old → CanOpen lines.new }
 {
@@ -96,7 +101,8 @@ fn note(place: Option<ImageAt>, lines: &mut Lines, slot: Slot, due: &mut Option<
 
 /// The piece of a turn has ended, where there was one.
 fn end_piece(place: Option<ImageAt>, lines: &mut Lines, slot: Slot, turn: Option<u64>)
-    ensures lines { (key : ℕ) → members_at key lines.new ≡ cond (is_key place key) (changed_member slot (done_with turn) (members_at key lines.old)) (members_at key lines.old) }
+    ensures lines { (key : ℕ) → members_at key lines.new ≡ cond (is_key place key)
+        (changed_member slot (done_with turn) (members_at key lines.old)) (members_at key lines.old) }
     ensures room { (key : ℕ) → room_at key lines.old ≤ room_at key lines.new }
     ensures open { CanOpen lines.old → CanOpen lines.new }
 {
@@ -117,7 +123,8 @@ fn join<R>(
     requires to { slot ≤ 64 }
     requires other { IsFalse (is_member slot (lines_of lines.old place.site place.image)) }
     requires open { CanOpen lines.old }
-    ensures lines { lines_of lines.new ≡ line_changed_at (Some place) (λ members. members ++ new_member slot sharing ∷ []) (lines_of lines.old) }
+    ensures lines { lines_of lines.new ≡ line_changed_at (Some place)
+        (λ members. members ++ new_member slot sharing ∷ []) (lines_of lines.old) }
     ensures running { running.new ≡ record running.old { place = Some place } }
 {
     lines.join(&place, slot, sharing);
@@ -126,7 +133,8 @@ fn join<R>(
 
 /// The request awaits its next turn, or none, behind the piece of the one before.
 fn turn_to<R>(running: &mut Running<R>, lines: &mut Lines, slot: Slot, turn: Option<u64>)
-    ensures lines { lines_of lines.new ≡ line_changed_at running.old.place (changed_member slot (done_with running.old.turn)) (lines_of lines.old) }
+    ensures lines { lines_of lines.new ≡ line_changed_at running.old.place
+        (changed_member slot (done_with running.old.turn)) (lines_of lines.old) }
     ensures running { running.new ≡ record running.old { turn = turn } }
     ensures room { room_of running.old.place lines.old ≤ room_of running.old.place lines.new }
     ensures open { CanOpen lines.old → CanOpen lines.new }
@@ -159,7 +167,8 @@ fn pass<R>(
     requires may { MayPass slot (track_with due.old running.old lines.old) want }
     requires open { IsJoin want → CanOpen lines.old }
     requires room { length (objects_or_none due.old) ≤ room_of running.old.place lines.old }
-    ensures track { track_with due.new running.new lines.new ≡ passed_by slot (track_with due.old running.old lines.old) want }
+    ensures track { track_with due.new running.new lines.new ≡ passed_by slot
+        (track_with due.old running.old lines.old) want }
     ensures running { IsSameRequest running.old running.new }
     ensures open { (IsJoin want → ⊥) → CanOpen lines.old → CanOpen lines.new }
     ensures room { length (objects_or_none due.new) ≤ room_of running.new.place lines.new }

@@ -16,6 +16,7 @@ use rbd_machine::Request;
 use std::alloc::Global;
 
 /// Takes all memory that the feeding of the request in a slot needs, and changes nothing else.
+/// NoMemory where memory is refused.
 pub fn prepare_in<R: Request>(
     alloc: Global,
     occupant: &mut Option<Occupant<R>>,
@@ -23,9 +24,13 @@ pub fn prepare_in<R: Request>(
     slot: Slot,
     fed: &Fed,
 ) -> Result<(), NoMemory>
-    requires { OfRunning (λ r. IsAsking (R.stands r.request).plan × CanBeFed (R.stands r.request).plan fed.now × IsSomewhere slot (track_of r lines.old)) occupant.old }
+    requires { OfRunning (λ r. IsAsking (R.stands r.request).plan × CanBeFed (R.stands r.request).plan fed.now
+        × IsSomewhere slot (track_of r lines.old)) occupant.old }
     ensures lines { (key : ℕ) → members_at key lines.new ≡ members_at key lines.old }
-    ensures ready { OfRunning (λ r. OfRunning (λ q. IsSameStand R.stands r q × OnOk result (IsPrepared R.stands R.is_ready slot r lines.old fed.now q lines.new)) occupant.new) occupant.old }
+    ensures ready { OfRunning (λ r. OfRunning
+        (λ q. IsSameStand R.stands r q
+        × OnOk result (IsPrepared R.stands R.is_ready slot r lines.old fed.now q lines.new)) occupant.new)
+        occupant.old }
 {
     match occupant {
         Some(Occupant::Running(running)) => prepare(alloc, running, lines, slot, fed),
@@ -41,7 +46,8 @@ pub fn feed_in<R: Request>(
     fed: &Fed,
 ) -> Option<Reply>
     requires { OfRunning (λ r. IsFedWell R.stands R.is_ready slot r lines.old fed.now) occupant.old }
-    ensures comes { OfRunning (λ r. ComesToIn R.stands slot lines.old fed.now result r occupant.new lines.new) occupant.old }
+    ensures comes { OfRunning (λ r. ComesToIn R.stands slot lines.old fed.now result r occupant.new lines.new)
+        occupant.old }
     ensures others { LeavesOthers slot (lines_of lines.old) (lines_of lines.new) }
     ensures fair { AreFair (lines_of lines.new) }
 {

@@ -22,8 +22,10 @@ use rbd_machine::Request;
 pub fn alone_is_alone<R: Request>()
     ensures { (s : SessionView R) (site : Site) (image : ℕ) (one other : Member)
         → IsSoundSession R.stands s
-        → member_of one.slot (lines_of s.lines site image) ≡ Some one → member_of other.slot (lines_of s.lines site image) ≡ Some other
-        → one.slot ≢ other.slot → IsTrue (is_alone one.sharing) → IsTrue (is_past one.stage) → IsFalse (is_past other.stage) }
+        → member_of one.slot (lines_of s.lines site image) ≡ Some one
+        → member_of other.slot (lines_of s.lines site image) ≡ Some other
+        → one.slot ≢ other.slot → IsTrue (is_alone one.sharing) → IsTrue (is_past one.stage)
+        → IsFalse (is_past other.stage) }
 {}
 
 /// Two requests of an image that don't go together are never past their looks under the lock at
@@ -33,7 +35,8 @@ pub fn alone_is_alone<R: Request>()
 pub fn who_doesnt_go_together_waits<R: Request>()
     ensures past { (s : SessionView R) (site : Site) (image : ℕ) (one other : Member)
         → IsSoundSession R.stands s
-        → member_of one.slot (lines_of s.lines site image) ≡ Some one → member_of other.slot (lines_of s.lines site image) ≡ Some other
+        → member_of one.slot (lines_of s.lines site image) ≡ Some one
+        → member_of other.slot (lines_of s.lines site image) ≡ Some other
         → one.slot ≢ other.slot → IsFalse (go_together one.sharing other.sharing)
         → IsTrue (is_past one.stage) → IsFalse (is_past other.stage) }
 
@@ -75,7 +78,8 @@ pub fn members_run<R: Request>()
 /// A request that stands at its look under the lock is in the line of that image, waits there for
 /// this look, and may go past it.
 pub fn looks_under_lock_are_in_line<R: Request>()
-    ensures { (s : SessionView R) (slot : ℕ) (p : ImageAt) → look_under_lock_at R.stands slot s ≡ Some p → IsAtLookUnderLock slot p s }
+    ensures { (s : SessionView R) (slot : ℕ) (p : ImageAt) → look_under_lock_at R.stands slot s ≡ Some p
+        → IsAtLookUnderLock slot p s }
 {}
 
 /// A feeding takes only the request that is fed past its look under the lock, and only from that
@@ -95,7 +99,8 @@ pub fn passing_comes_by_looks_under_lock<R: Request>()
 pub fn looks_under_lock_stay<R: Request>()
     ensures stands { (s new : SessionView R) (slot other : ℕ) → slot ≢ other
         → held_in slot new.slots ≡ held_in slot s.slots → LeavesOthers other (lines_of s.lines) (lines_of new.lines)
-        → look_under_lock_in R.stands slot new.lines (running_at slot new) ≡ look_under_lock_in R.stands slot s.lines (running_at slot s) }
+        → look_under_lock_in R.stands slot new.lines (running_at slot new) ≡ look_under_lock_in R.stands slot s.lines
+        (running_at slot s) }
 
     ensures fed { (s new : SessionView R) (slot other : ℕ) (p : ImageAt) (f : Fed) (reply : Option Reply)
         → IsSoundSession R.stands s → slot ≢ other → held_in slot new.slots ≡ held_in slot s.slots
@@ -107,5 +112,6 @@ pub fn looks_under_lock_stay<R: Request>()
         → lines_of new.lines ≡ (ended_by other (track_of r s.lines)).lines
         → look_under_lock_at R.stands slot s ≡ Some p → look_under_lock_at R.stands slot new ≡ Some p }
 
-    ensures readied { (s new : SessionView R) (slot : ℕ) → IsAlike R.stands s new → look_under_lock_at R.stands slot new ≡ look_under_lock_at R.stands slot s }
+    ensures readied { (s new : SessionView R) (slot : ℕ) → IsAlike R.stands s new
+        → look_under_lock_at R.stands slot new ≡ look_under_lock_at R.stands slot s }
 {}

@@ -1,5 +1,5 @@
-//! The lines of a session's images.
-ghost use Rattle.std.specs.Prelude.{◌≡◌, ℕ, ◌<◌, ◌≤◌, ◌==◌, ◌&&◌, nat_eq, cond, [], ◌∷◌, ◌++◌, length, IsTrue, IsFalse, IsSome, OnOk, None, Some};
+//! The lines of the images that a session's requests change.
+ghost use Rattle.std.specs.Prelude.{◌≡◌, ℕ, ◌<◌, ◌≤◌, ◌==◌, ◌&&◌, not, nat_eq, cond, [], ◌∷◌, ◌++◌, length, IsTrue, IsFalse, IsSome, OnOk, None, Some};
 ghost use Rattle.std.specs.HashMap.{get, spare};
 ghost use Rattle.std.specs.Option.{option_map};
 ghost use Rattle.rbd_queue.specs.Line.{member_of, is_member, any_past, may_pass, has_turn, comes_next, new_member, held, passed, next_piece, changed_member, without};
@@ -7,7 +7,9 @@ ghost use Rattle.rbd_slots.specs.Lines.{members_in, room_in, members_at, room_at
 ghost use Rattle.rbd_kinds.specs.Sharing.{is_alone};
 ghost use Rattle.rbd_kinds.specs.declared.id.SiteId.{SiteId};
 ghost use Rattle.rbd_slots.specs.Track.{given_tickets};
+ghost use Rattle.rbd_slots.specs.Waits.{waits_at};
 
+use crate::prepare::awaits_look;
 use rbd_kinds::{ImageAt, NoMemory, Sharing, Slot};
 use rbd_machine::Stage;
 use rbd_queue::Line;
@@ -29,7 +31,8 @@ fn enter_all(line: &mut Line, slot: Slot, objects: &[u64])
 
 /// The request in a slot leaves the line.
 fn leave_in(lines: &mut HashMap<u64, Line>, key: u64, slot: Slot)
-    ensures members { (k : ℕ) → members_in lines.new k ≡ cond (nat_eq key k) (without slot (members_in lines.old k)) (members_in lines.old k) }
+    ensures members { (k : ℕ) → members_in lines.new k ≡ cond (nat_eq key k) (without slot (members_in lines.old k))
+        (members_in lines.old k) }
     ensures spare { spare lines.new ≡ spare lines.old }
 {
     let Some(line) = lines.get_mut(&key) else {
@@ -43,7 +46,9 @@ fn join_in(lines: &mut HashMap<u64, Line>, key: u64, slot: Slot, sharing: Sharin
     requires from { 1 ≤ slot }
     requires to { slot ≤ 64 }
     requires other { IsFalse (is_member slot (members_in lines.old key)) }
-    ensures held { IsTrue result → (k : ℕ) → members_in lines.new k ≡ cond (nat_eq key k) (members_in lines.old k ++ new_member slot sharing ∷ []) (members_in lines.old k) }
+    ensures held { IsTrue result → (k : ℕ)
+        → members_in lines.new k ≡ cond (nat_eq key k) (members_in lines.old k ++ new_member slot sharing ∷ [])
+        (members_in lines.old k) }
     ensures none { IsFalse result → (k : ℕ) → get nat_eq lines.new k ≡ get nat_eq lines.old k }
     ensures absent { IsFalse result → get nat_eq lines.old key ≡ None }
     ensures room { (k : ℕ) → room_in lines.new k ≡ room_in lines.old k }
@@ -110,7 +115,7 @@ fn is_empty_in(lines: &HashMap<u64, Line>, key: u64) -> bool
     }
 }
 
-/// The lines of a session's images, each under a key. A line is held while somebody is in it.
+/// The lines of images, each under a key. A line is held while somebody is in it.
 #[derive(Drop)]
 pub struct Lines {
     lines: HashMap<u64, Line>,
@@ -139,7 +144,7 @@ impl Lines {
     }
 
     /// Makes room for one more line, and for tickets in the line that a request is in. No line
-    /// changes.
+    /// changes. NoMemory where that room is refused.
     pub fn reserve(
         &mut self,
         alloc: Global,
@@ -164,7 +169,8 @@ impl Lines {
         requires to { slot ≤ 64 }
         requires other { IsFalse (is_member slot (lines_of self.old place.now.site place.now.image)) }
         requires open { CanOpen self.old }
-        ensures lines { (key : ℕ) → members_at key self.new ≡ cond (is_key (Some place.now) key) (members_at key self.old ++ new_member slot sharing ∷ []) (members_at key self.old) }
+        ensures lines { (key : ℕ) → members_at key self.new ≡ cond (is_key (Some place.now) key)
+            (members_at key self.old ++ new_member slot sharing ∷ []) (members_at key self.old) }
     {
         let key = place.key();
         if join_in(&mut self.lines, key, slot, sharing) {
@@ -177,7 +183,8 @@ impl Lines {
 
     /// A request waits for its look under the lock, in the line that it is in.
     pub fn hold(&mut self, place: Option<ImageAt>, slot: Slot)
-        ensures lines { (key : ℕ) → members_at key self.new ≡ cond (is_key place key) (changed_member slot held (members_at key self.old)) (members_at key self.old) }
+        ensures lines { (key : ℕ) → members_at key self.new ≡ cond (is_key place key)
+            (changed_member slot held (members_at key self.old)) (members_at key self.old) }
         ensures room { (key : ℕ) → room_at key self.old ≤ room_at key self.new }
         ensures open { CanOpen self.old → CanOpen self.new }
     {
@@ -193,7 +200,8 @@ impl Lines {
     /// A request goes past its look under the lock.
     pub fn pass(&mut self, place: Option<ImageAt>, slot: Slot)
         requires { IsTrue (may_pass slot (members_of place self.old)) }
-        ensures lines { (key : ℕ) → members_at key self.new ≡ cond (is_key place key) (changed_member slot passed (members_at key self.old)) (members_at key self.old) }
+        ensures lines { (key : ℕ) → members_at key self.new ≡ cond (is_key place key)
+            (changed_member slot passed (members_at key self.old)) (members_at key self.old) }
         ensures room { (key : ℕ) → room_at key self.old ≤ room_at key self.new }
         ensures open { CanOpen self.old → CanOpen self.new }
     {
@@ -209,7 +217,8 @@ impl Lines {
     /// A request takes a ticket for each object.
     pub fn enter(&mut self, place: Option<ImageAt>, slot: Slot, objects: &[u64])
         requires { MayEnterAll slot objects.now (members_of place self.old) (room_of place self.old) }
-        ensures lines { (key : ℕ) → members_at key self.new ≡ cond (is_key place key) (changed_member slot (given_tickets objects.now) (members_at key self.old)) (members_at key self.old) }
+        ensures lines { (key : ℕ) → members_at key self.new ≡ cond (is_key place key)
+            (changed_member slot (given_tickets objects.now) (members_at key self.old)) (members_at key self.old) }
         ensures open { CanOpen self.old → CanOpen self.new }
     {
         let Some(place) = place else {
@@ -223,7 +232,8 @@ impl Lines {
 
     /// A request has done a piece.
     pub fn end_piece(&mut self, place: Option<ImageAt>, slot: Slot)
-        ensures lines { (key : ℕ) → members_at key self.new ≡ cond (is_key place key) (changed_member slot next_piece (members_at key self.old)) (members_at key self.old) }
+        ensures lines { (key : ℕ) → members_at key self.new ≡ cond (is_key place key)
+            (changed_member slot next_piece (members_at key self.old)) (members_at key self.old) }
         ensures room { (key : ℕ) → room_at key self.old ≤ room_at key self.new }
         ensures open { CanOpen self.old → CanOpen self.new }
     {
@@ -238,7 +248,8 @@ impl Lines {
 
     /// A request leaves the line that it is in. The line goes with the last one.
     pub fn leave(&mut self, place: Option<ImageAt>, slot: Slot)
-        ensures lines { (key : ℕ) → members_at key self.new ≡ cond (is_key place key) (without slot (members_at key self.old)) (members_at key self.old) }
+        ensures lines { (key : ℕ) → members_at key self.new ≡ cond (is_key place key)
+            (without slot (members_at key self.old)) (members_at key self.old) }
         ensures open { CanOpen self.old → CanOpen self.new }
     {
         let Some(place) = place else {
@@ -249,15 +260,16 @@ impl Lines {
         forget_empty(&mut self.lines, &mut self.unused, key);
     }
 
-    /// Whether a request may go past its look under the lock.
-    pub fn may_pass(&self, place: Option<ImageAt>, slot: Slot) -> bool
-        ensures { result ≡ may_pass slot (members_of place self.now) }
+    /// Whether the line of a request holds it back from its look under the lock.
+    pub fn holds_back(&self, place: Option<ImageAt>, slot: Slot) -> bool
+        ensures { result ≡ (waits_at (option_map (λ m. m.stage) (member_of slot (members_of place self.now)))
+            && not (may_pass slot (members_of place self.now))) }
     {
         let Some(place) = place else {
             return false;
         };
         match self.lines.get(&place.key()) {
-            Some(line) => line.may_pass(slot),
+            Some(line) => awaits_look(line.stage(slot)) && !line.may_pass(slot),
             None => false,
         }
     }
@@ -274,7 +286,8 @@ impl Lines {
 
     /// Whether an object is the next one of a request, and the request has its turn there.
     pub fn has_turn(&self, place: Option<ImageAt>, slot: Slot, object: u64) -> bool
-        ensures { result ≡ (comes_next slot object (members_of place self.now) && has_turn slot object (members_of place self.now)) }
+        ensures { result ≡ (comes_next slot object (members_of place self.now) && has_turn slot object
+            (members_of place self.now)) }
     {
         let Some(place) = place else {
             return false;

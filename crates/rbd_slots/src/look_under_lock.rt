@@ -23,8 +23,8 @@ fn objects_within(
     Ok(Sequence::from_vec(touched))
 }
 
-/// The objects that a request changes beside others, by a header: none where its extent doesn't end
-/// within the size.
+/// The objects that a request changes beside others, by a header: none where it has no extent, or
+/// its extent doesn't end within the size. NoMemory where the memory for them is refused.
 pub fn objects_asked(
     alloc: Global,
     header: &HeaderView,

@@ -21,8 +21,14 @@ use rbd_kinds::{
 use rbd_machine::{Request, Stage};
 use std::alloc::Global;
 
-/// Whether the look at an image's header is the request's own.
-fn is_own<R>(running: &Running<R>, lines: &Lines, slot: Slot, site: SiteId, image: ImageId) -> bool
+/// Whether the look at an image's header is the request's look under the lock.
+fn is_look_under_lock<R>(
+    running: &Running<R>,
+    lines: &Lines,
+    slot: Slot,
+    site: SiteId,
+    image: ImageId,
+) -> bool
     ensures { result ≡ looks_under_lock_at site image (course_of slot (track_of running.now lines.now)).place }
 {
     let Some(place) = running.place else {
@@ -31,11 +37,11 @@ fn is_own<R>(running: &Running<R>, lines: &Lines, slot: Slot, site: SiteId, imag
     if place.site != site || place.image != image {
         return false;
     }
-    is_at_own(lines.stage(running.place, slot))
+    awaits_look(lines.stage(running.place, slot))
 }
 
 /// Whether a stage is that of waiting for the look under the lock.
-pub fn is_at_own(stage: Option<Stage>) -> bool
+pub fn awaits_look(stage: Option<Stage>) -> bool
     ensures { result ≡ waits_at stage }
 {
     match stage {
@@ -71,7 +77,8 @@ fn due<R>(
     slot: Slot,
 ) -> Result<Sequence<u64>, NoMemory>
     requires { IsHeaderInForm header.now }
-    ensures { IfOk result (λ objects. objects ≡ due_of (course_of slot (track_of running.now lines.now)).place (asked header.now running.now.extent)) }
+    ensures { IfOk result (λ objects. objects ≡ due_of (course_of slot (track_of running.now lines.now)).place
+        (asked header.now running.now.extent)) }
 {
     match lines.alone(running.place, slot) {
         Some(false) => objects_asked(alloc, header, running.extent),
@@ -89,7 +96,8 @@ fn due_behind<R: Request>(
 ) -> Result<Option<Sequence<u64>>, NoMemory>
     requires asks { IsAsking (R.stands running.now.request).plan }
     requires can { CanBeFed (R.stands running.now.request).plan fed.now }
-    ensures { IfOk result (λ looked. looked ≡ looked_for slot running.now.extent (track_of running.now lines.now) (R.stands running.now.request).plan fed.now) }
+    ensures { IfOk result (λ looked. looked ≡ looked_for slot running.now.extent (track_of running.now lines.now)
+        (R.stands running.now.request).plan fed.now) }
 {
     let Fed::Answer(Answer::Header(header)) = fed else {
         return Ok(None);
@@ -97,7 +105,7 @@ fn due_behind<R: Request>(
     let Some((site, image)) = header_looked_at(alloc, &running.request)? else {
         return Ok(None);
     };
-    if !is_own(running, lines, slot, site, image) {
+    if !is_look_under_lock(running, lines, slot, site, image) {
         return Ok(None);
     }
     Ok(Some(due(alloc, header, running, lines, slot)?))
@@ -116,7 +124,8 @@ fn tickets(looked: &Option<Sequence<u64>>) -> Result<u32, NoMemory>
     }
 }
 
-/// Takes all memory that the feeding needs, and changes nothing else, also where it is refused.
+/// Takes all memory that the feeding needs, and changes nothing else. NoMemory where memory is
+/// refused.
 pub fn prepare<R: Request>(
     alloc: Global,
     running: &mut Running<R>,
@@ -130,7 +139,8 @@ pub fn prepare<R: Request>(
     ensures running { IsSameStand R.stands running.old running.new }
     ensures lines { (key : ℕ) → members_at key lines.new ≡ members_at key lines.old }
     ensures ready { OnOk result (IsReadyFor (R.is_ready running.new.request) fed.now) }
-    ensures looked { OnOk result (running.new.looked ≡ looked_for slot running.old.extent (track_of running.old lines.old) (R.stands running.old.request).plan fed.now) }
+    ensures looked { OnOk result (running.new.looked ≡ looked_for slot running.old.extent
+        (track_of running.old lines.old) (R.stands running.old.request).plan fed.now) }
     ensures open { OnOk result (CanOpen lines.new) }
     ensures room { OnOk result (length (objects_or_none running.new.looked) ≤ room_of running.new.place lines.new) }
 {

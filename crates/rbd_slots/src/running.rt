@@ -6,6 +6,7 @@ use rbd_kinds::{Extent, ImageAt, Refusal, Sequence};
 pub enum Occupant<R> {
     /// A request that is refused before any operation.
     Refused { line: u32, refusal: Refusal },
+    /// A request that runs.
     Running(Running<R>),
 }
 
@@ -15,7 +16,7 @@ pub struct Running<R> {
     /// The number of its command's line in the script.
     pub line: u32,
     pub request: R,
-    /// What it changes piece by piece, beside others.
+    /// The extent that it changes piece by piece, beside others.
     pub extent: Option<Extent>,
     /// The image whose line it is in.
     pub place: Option<ImageAt>,

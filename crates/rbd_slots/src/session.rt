@@ -19,7 +19,7 @@ use rbd_machine::{Begun, Request, Seat};
 use std::alloc::Global;
 use std::marker::Model;
 
-/// One client: its requests, each in a slot.
+/// A session in one of its lives: the requests of that instance, each in a slot.
 #[derive(Drop)]
 pub struct Session<R: Request> {
     instance: Instance,
@@ -35,13 +35,21 @@ impl<R: Request> Model for Session<R> {
 
     ghost Value = { SessionView R };
 
-    ghost view = { λ s. record { instance = s.instance; home = s.home; slots = s.slots.items; lowest = s.lowest; lines = s.lines } };
+    ghost view = { λ s. record {
+      instance = s.instance;
+      home = s.home;
+      slots = s.slots.items;
+      lowest = s.lowest;
+      lines = s.lines;
+    } };
 
-    ghost invariant = { λ s. IsSoundSession R.stands (record { instance = s.instance; home = s.home; slots = s.slots.items; lowest = s.lowest; lines = s.lines }) };
+    ghost invariant = { λ s. IsSoundSession R.stands
+        (record { instance = s.instance; home = s.home; slots = s.slots.items; lowest = s.lowest; lines = s.lines }) };
 }
 
 impl<R: Request> Session<R> {
-    /// A session of a client's life at its home site, without requests.
+    /// A session in one of its lives, at its home site, without requests. NoMemory where the memory
+    /// for its slots is refused.
     pub fn new(alloc: Global, instance: Instance, home: SiteId) -> Result<Self, NoMemory>
         ensures who { IfOk result (λ s. (s.instance ≡ instance) × (s.home ≡ home)) }
         ensures slots { IfOk result (λ s. (slot : ℕ) → held_in slot s.slots ≡ None) }
@@ -58,14 +66,14 @@ impl<R: Request> Session<R> {
         })
     }
 
-    /// Which session this is, and in which of its lives.
+    /// Which session this is, and in which of its lives: the instance.
     pub fn instance(&self) -> Instance
         ensures { result ≡ self.now.instance }
     {
         self.instance
     }
 
-    /// The site at which the client is.
+    /// The site at which the session is at home.
     pub fn home(&self) -> SiteId
         ensures { result ≡ self.now.home }
     {
@@ -83,14 +91,17 @@ impl<R: Request> Session<R> {
         Some(Slot(self.lowest))
     }
 
-    /// A request takes the lowest free slot: that of the command in a line of the script, or
-    /// another's. Refused memory, nothing changes.
+    /// A request of some work takes the lowest free slot, with the number of its script's line.
+    /// There is a free slot. NoMemory where the memory for the request is refused; then nothing
+    /// changes.
     pub fn submit(&mut self, alloc: Global, line: u32, work: R::Work) -> Result<Slot, NoMemory>
         requires free { self.old.lowest ≤ 64 }
         requires serves { R.serves work }
         ensures slot { IfOk result (λ slot. slot ≡ self.old.lowest) }
-        ensures held { OnOk result (IsNewcomer R.stands R.stands_for R.extent_for (seat_of self.old) line work (held_in self.old.lowest self.new.slots)) }
-        ensures others { (slot : ℕ) → slot ≢ self.old.lowest → held_in slot self.new.slots ≡ held_in slot self.old.slots }
+        ensures held { OnOk result (IsNewcomer R.stands R.stands_for R.extent_for (seat_of self.old) line work
+            (held_in self.old.lowest self.new.slots)) }
+        ensures others { (slot : ℕ) → slot ≢ self.old.lowest
+            → held_in slot self.new.slots ≡ held_in slot self.old.slots }
         ensures lines { self.new.lines ≡ self.old.lines }
         ensures who { (self.new.instance ≡ self.old.instance) × (self.new.home ≡ self.old.home) }
         ensures err { OnErr result (self.new ≡ self.old) }
@@ -131,7 +142,7 @@ impl<R: Request> Session<R> {
     }
 
     /// The operation that the request in a slot wants, and its site: `None` as by
-    /// [`Session::kind`].
+    /// [`Session::kind`]. NoMemory where the memory for the operation is refused.
     pub fn next(&self, alloc: Global, slot: Slot) -> Result<Option<(SiteId, Op)>, NoMemory>
         ensures op { IfOk result (λ told. told ≡ op_at R.stands slot self.now) }
         ensures sound { IsSoundSession R.stands self.now }
@@ -178,7 +189,7 @@ impl<R: Request> Session<R> {
     }
 
     /// Makes everything ready for an answer to the request in a slot, which may go on: all memory
-    /// that [`Session::feed`] needs. Nothing else changes, also where memory is refused.
+    /// that [`Session::feed`] needs. Nothing else changes. NoMemory where memory is refused.
     pub fn ready(&mut self, alloc: Global, slot: Slot, fed: &Fed) -> Result<(), NoMemory>
         requires { OfRunning (IsAnswered R.stands slot self.old.lines fed.now) (held_in slot self.old.slots) }
         ensures alike { IsAlike R.stands self.old self.new }
@@ -218,7 +229,8 @@ impl<R: Request> Session<R> {
         ensures free { IsSome (running_at slot self.old) → held_in slot self.new.slots ≡ None }
         ensures none { running_at slot self.old ≡ None → self.new ≡ self.old }
         ensures others { (other : ℕ) → other ≢ slot → held_in other self.new.slots ≡ held_in other self.old.slots }
-        ensures left { (r : Running R) → running_at slot self.old ≡ Some r → lines_of self.new.lines ≡ (ended_by slot (track_of r self.old.lines)).lines }
+        ensures left { (r : Running R) → running_at slot self.old ≡ Some r
+            → lines_of self.new.lines ≡ (ended_by slot (track_of r self.old.lines)).lines }
         ensures lines { LeavesOthers slot (lines_of self.old.lines) (lines_of self.new.lines) }
         ensures who { (self.new.instance ≡ self.old.instance) × (self.new.home ≡ self.old.home) }
         ensures sound { IsSoundSession R.stands self.new }

@@ -6,7 +6,7 @@ ghost use Rattle.rbd_slots.specs.Session.{held_in, IsLowest};
 use rbd_kinds::{NoMemory, Slot};
 use std::alloc::Global;
 
-/// Slots that are all free.
+/// Slots that are all free. NoMemory where the memory for them is refused.
 pub fn empty_slots<T: Drop>(alloc: Global) -> Result<Vec<Option<T>>, NoMemory>
     ensures { IfOk result (λ slots. slots.items ≡ replicate 65 None) }
 {
@@ -34,7 +34,7 @@ pub fn next_free<T>(slots: &[Option<T>], from: u8) -> u8
     65
 }
 
-/// What a slot holds: `None` where it is free, or no slot.
+/// What a slot holds: `None` where it is free, or there is no such slot.
 pub fn held_at<T>(slots: &[Option<T>], slot: Slot) -> Option<&T>
     ensures { option_map (λ r. r.now) result ≡ held_in slot slots.now }
 {

@@ -5,7 +5,6 @@ ghost use Rattle.rbd_slots.specs.OnTrack.{HasNext};
 ghost use Rattle.rbd_slots.specs.Waits.{awaits_line, awaits_turn, waits as is_held_up};
 
 use crate::lines::Lines;
-use crate::prepare::is_at_own;
 use crate::running::Running;
 use rbd_kinds::Slot;
 
@@ -13,7 +12,7 @@ use rbd_kinds::Slot;
 fn is_held_back<R>(running: &Running<R>, lines: &Lines, slot: Slot) -> bool
     ensures { result ≡ awaits_line slot (track_of running.now lines.now) }
 {
-    is_at_own(lines.stage(running.place, slot)) && !lines.may_pass(running.place, slot)
+    lines.holds_back(running.place, slot)
 }
 
 /// Whether another request's ticket is first at the object of its piece.

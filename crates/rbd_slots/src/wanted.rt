@@ -7,7 +7,7 @@ ghost use Rattle.rbd_slots.specs.OnTrack.{HasNext};
 ghost use Rattle.rbd_slots.specs.Session.{held_in, running_in, going_in, of_going, kind_asked, op_asked, is_look_at, look_under_lock_in, look_under_lock_of};
 
 use crate::lines::Lines;
-use crate::prepare::is_at_own;
+use crate::prepare::awaits_look;
 use crate::running::{Occupant, Running};
 use crate::slots::held_at;
 use crate::waits::is_waiting;
@@ -89,7 +89,8 @@ pub fn kind_in<R: Request>(
     }
 }
 
-/// The operation that the request in a slot wants, and its site, where it doesn't wait.
+/// The operation that the request in a slot wants, and its site, where it doesn't wait. NoMemory
+/// where the memory for the operation is refused.
 pub fn op_in<R: Request>(
     alloc: Global,
     slots: &[Option<Occupant<R>>],
@@ -98,7 +99,8 @@ pub fn op_in<R: Request>(
 ) -> Result<Option<(SiteId, Op)>, NoMemory>
     requires next { (r : _) → running_in (held_in slot slots.now) ≡ Some r → HasNext slot (track_of r lines.now) }
     requires asks { (r : _) → running_in (held_in slot slots.now) ≡ Some r → IsAsking (R.stands r.request).plan }
-    ensures { IfOk result (λ told. told ≡ of_going R.stands op_asked (going_in slot (held_in slot slots.now) lines.now)) }
+    ensures { IfOk result (λ told. told ≡ of_going R.stands op_asked
+        (going_in slot (held_in slot slots.now) lines.now)) }
 {
     match going(slots, lines, slot) {
         Some(running) => wanted_op(alloc, &running.request),
@@ -124,13 +126,14 @@ fn look_under_lock_of<R: Request>(
     slot: Slot,
 ) -> Option<ImageAt>
     requires { IsAsking (R.stands running.now.request).plan }
-    ensures { result ≡ look_under_lock_of slot (kind_asked (R.stands running.now.request).plan) running.now.place lines.now }
+    ensures { result ≡ look_under_lock_of slot
+        (kind_asked (R.stands running.now.request).plan) running.now.place lines.now }
 {
     let place = running.place?;
     if !is_look_at(place.site, wanted_kind(&running.request)) {
         return None;
     }
-    if !is_at_own(lines.stage(running.place, slot)) {
+    if !awaits_look(lines.stage(running.place, slot)) {
         return None;
     }
     Some(place)

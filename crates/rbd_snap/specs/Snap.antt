@@ -82,7 +82,8 @@ abbrev pub remove_snap_plan : SiteId → (snap : List ℕ) → (image : ℕ) →
 remove_snap_plan site snap image h = remove_listed site snap image (snap_named h.snaps snap)
 
 abbrev pub snap_plan : SiteId → Command → Plan
-snap_plan site (command.SnapCreate image snap) = change_plan site image sharing.Alone (create_refuses snap) (take site snap)
+snap_plan site (command.SnapCreate image snap) = change_plan site image sharing.Alone (create_refuses snap)
+    (take site snap)
 snap_plan site (command.SnapRemove image snap) =
     change_plan site image sharing.Alone (remove_refuses snap) (remove_snap_plan site snap)
 snap_plan site _ = refused refusal.NoImage

@@ -43,8 +43,8 @@ pub enum Stage {
 }
 
 impl RemoveSnap {
-    /// The removal of a snapshot. The header is passed to prove that `listed` is in it. It takes
-    /// no memory.
+    /// The removal of a snapshot that the header lists. (The header is passed to prove that.) It
+    /// takes no memory.
     pub fn new(site: SiteId, image: ImageId, header: &HeaderView, listed: &SnapView) -> Self
         requires { Contains header.now.snaps listed.now }
         ensures { (next : Plan) → rest_of_removing result next ≡ removing site image listed.now.id next }
@@ -69,7 +69,7 @@ impl RemoveSnap {
         Want::Op { site, kind }
     }
 
-    /// The operation that it wants.
+    /// The operation that it wants. NoMemory where memory for it is refused.
     pub fn next(&self) -> Result<Op, NoMemory>
         ensures { (next : Plan) → IfOk result (Asks (rest_of_removing self.now next)) }
     {
@@ -79,7 +79,8 @@ impl RemoveSnap {
         }
     }
 
-    /// Goes on with an answer. It needs no memory for one.
+    /// Goes on with an answer. Refused with NoImage where the header isn't there, and with Fenced
+    /// by `fenced`. It takes no memory.
     pub fn feed(&mut self, answer: &Answer) -> Progress<()>
         requires { TellsRemoving self.old.stage answer.now }
         ensures { ProgressesBy rest_of_removing answer.now result self.old self.new }

@@ -90,7 +90,8 @@ impl Model for Restore {
 
 impl Restore {
     /// All objects of an image's head, by its header, with the bytes that they have at a snapshot:
-    /// `None` where the head has no object.
+    /// `None` where the head has no object. NoMemory where their pieces or the snapshot context are
+    /// refused.
     pub fn new(
         alloc: Global,
         site: SiteId,
@@ -137,7 +138,7 @@ impl Restore {
         }
     }
 
-    /// The operation that it wants.
+    /// The operation that it wants. NoMemory where memory for it is refused.
     pub fn next(&self, alloc: Global) -> Result<Op, NoMemory>
         ensures { (next : Plan) → IfOk result (Asks (rest_of_restore self.now next)) }
     {
@@ -159,6 +160,7 @@ impl Restore {
     }
 
     /// Takes the memory for an answer: where the object's bytes are told, that of what replaces it.
+    /// NoMemory where that is refused.
     pub fn ready(&mut self, alloc: Global, answer: &Answer) -> Result<(), NoMemory>
         ensures rest { (next : Plan) → rest_of_restore self.new next ≡ rest_of_restore self.old next }
         ensures ready { OnOk result (of_restore.IsReady self.new answer.now) }
@@ -203,7 +205,8 @@ impl Restore {
         self.full(&Bytes::from_vec(Vec::new(alloc)))
     }
 
-    /// Goes on with an answer that it has the memory for.
+    /// Goes on with an answer that it has the memory for. Refused with NoImage by `none`, unless it
+    /// reads, and with Fenced by `fenced`. It takes no memory.
     pub fn feed(&mut self, answer: &Answer) -> Progress<()>
         requires tells { of_restore.Tells self.old.stage answer.now }
         requires ready { of_restore.IsReady self.old answer.now }

@@ -47,7 +47,8 @@ pub enum Stage {
 }
 
 impl Rollback {
-    /// A rollback of an image's head, by its header, to a snapshot that the header lists.
+    /// A rollback of an image's head, by its header, to a snapshot that the header lists. NoMemory
+    /// where the copy of the header or the pieces of the objects are refused.
     pub fn new(
         alloc: Global,
         site: SiteId,

@@ -11,7 +11,7 @@ use rbd_kinds::{Command, HeaderView, ImageId, Name, NoMemory, Refusal, SiteId};
 use rbd_machine::{Refuses, non_primary};
 use std::alloc::Global;
 
-/// Makes an image's head what it was at a snapshot.
+/// The request of a `snap rollback`: makes an image's head what it was at a snapshot.
 ///
 /// ```text
 /// Approaching   to its look under the lock, alone in the image's line   (see `Approach`)

@@ -18,7 +18,7 @@ use rbd_kinds::{
 use rbd_machine::{Progress, Refuses, non_primary};
 use std::alloc::Global;
 
-/// Takes a snapshot of an image, or removes one.
+/// The request of a `snap create` or a `snap rm`: takes a snapshot of an image, or removes one.
 ///
 /// ```text
 /// Approaching   to its look under the lock, alone in the image's line   (see `Approach`)
@@ -36,7 +36,7 @@ use std::alloc::Global;
 /// Each operation may be answered `fenced`, which ends the request with Fenced.
 pub type SnapRequest = ChangeRequest<SnapChange, SnapPart>;
 
-/// What is to be done to the snapshot of a name.
+/// What is to be done to the snapshot of a name: it is taken, or removed.
 #[derive(Drop)]
 pub struct SnapChange {
     kind: ChangeKind,
@@ -52,7 +52,9 @@ enum ChangeKind {
 /// What is done behind the event of a change of a snapshot.
 #[derive(Drop)]
 pub enum SnapPart {
+    /// The snapshot is taken.
     Take(TakeSnap),
+    /// The snapshot is removed.
     Remove(RemoveSnap),
 }
 

@@ -81,7 +81,7 @@ impl TakeSnap {
         Want::Op { site, kind }
     }
 
-    /// The operation that it wants.
+    /// The operation that it wants. NoMemory where memory for its names or bits is refused.
     pub fn next(&self) -> Result<Op, NoMemory>
         ensures { (next : Plan) → IfOk result (Asks (rest_of_taking self.now next)) }
     {
@@ -93,7 +93,7 @@ impl TakeSnap {
     }
 
     /// Takes the memory for an answer: where the bits of the head's map are told, theirs, unless
-    /// they are shared.
+    /// they are shared. NoMemory where that is refused.
     pub fn ready(&mut self, answer: &Answer) -> Result<(), NoMemory>
         ensures rest { (next : Plan) → rest_of_taking self.new next ≡ rest_of_taking self.old next }
         ensures ready { OnOk result (HasBits self.new answer.now) }
@@ -102,7 +102,8 @@ impl TakeSnap {
         Ok(())
     }
 
-    /// Goes on with an answer that it has the memory for.
+    /// Goes on with an answer that it has the memory for. Refused with NoImage by `none`, and with
+    /// Fenced by `fenced`. It takes no memory.
     pub fn feed(&mut self, answer: &Answer) -> Progress<()>
         requires tells { TellsTaking self.old.stage answer.now }
         requires ready { HasBits self.old answer.now }

@@ -55,7 +55,8 @@ NamesOther image snap (Some link) = (link.image ≡ image) → (link.snap ≡ sn
 
 -- no header has a view whose parent is this snapshot, and no clone that is being made awaits it
 pub record IsUnnamed (pending : List Pending) (r : Records) (image snap : ℕ) : Type 0 where
-  pub views : (child : ℕ) (h : HeaderView) → r.headers child ≡ Some h → EachView h (λ v shape. NamesOther image snap shape.parent)
+  pub views : (child : ℕ) (h : HeaderView) → r.headers child ≡ Some h
+      → EachView h (λ v shape. NamesOther image snap shape.parent)
   pub awaited : (k : ℕ) (p : Pending) → slice_get pending k ≡ Some p → NamesOther image snap (Some p.link)
 
 -- the parts are all places of an object below the image's size, in order
@@ -64,27 +65,35 @@ AreWhole h number parts = IsPartsOf h.layout (record { at = 0; len = h.size }) n
 
 -- bytes that become an object's head are zeros at places past the size
 abbrev pub IsZeroPast : HeaderView → (number : ℕ) → (bytes : List ℕ) → Type 0
-IsZeroPast h number bytes = (x : ℕ) → h.size ≤ x → object_of h.layout x ≡ number → slice_index bytes (offset_of h.layout x) ≡ 0
+IsZeroPast h number bytes = (x : ℕ) → h.size ≤ x → object_of h.layout x ≡ number
+    → slice_index bytes (offset_of h.layout x) ≡ 0
 
 -- What a shrink does before it sets the size: at each place from the new size on the head is zero,
 -- and an object that the size cuts inside the overlap was copied up.
 pub record IsZeroedFrom (h : HeaderView) (size : ℕ) (objects : ℕ → Mapped) : Type 0 where
-  pub zeros : (x : ℕ) → size ≤ x → x < h.size → slice_index (unwrap_or (objects (object_of h.layout x)).head []) (offset_of h.layout x) ≡ 0
-  pub copied_up : (x : ℕ) → size ≤ x → x < h.size → IsInOverlap (cut size h.parent) (byte_at h.layout (object_of h.layout x) 0) → IsSome (objects (object_of h.layout x)).head
+  pub zeros : (x : ℕ) → size ≤ x → x < h.size → slice_index (unwrap_or (objects (object_of h.layout x)).head [])
+      (offset_of h.layout x) ≡ 0
+  pub copied_up : (x : ℕ) → size ≤ x → x < h.size
+      → IsInOverlap (cut size h.parent) (byte_at h.layout (object_of h.layout x) 0)
+      → IsSome (objects (object_of h.layout x)).head
 
 -- The flat bytes after an object's head became `new`: at its places what it shows now, elsewhere
 -- the old ones. Inside the overlap a head doesn't become absent, since the parent's bytes would
 -- show again.
-pub record ChangesObject (below : Snapshots) (h : HeaderView) (n : ℕ) (new : Option (List ℕ)) (old bytes : List ℕ) : Type 0 where
+pub record ChangesObject (below : Snapshots) (h : HeaderView) (n : ℕ) (new : Option (List ℕ))
+    (old bytes : List ℕ) : Type 0 where
   pub long : length bytes ≡ length old
-  pub here : (x : ℕ) → x < h.size → object_of h.layout x ≡ n → slice_index bytes x ≡ shown below h.parent new (offset_of h.layout x) x
+  pub here : (x : ℕ) → x < h.size → object_of h.layout x ≡ n
+      → slice_index bytes x ≡ shown below h.parent new (offset_of h.layout x) x
   pub elsewhere : (x : ℕ) → x < h.size → object_of h.layout x ≢ n → slice_index bytes x ≡ slice_index old x
-  pub clear : (x : ℕ) → h.size ≤ x → object_of h.layout x ≡ n → slice_index (unwrap_or new []) (offset_of h.layout x) ≡ 0
+  pub clear : (x : ℕ) → h.size ≤ x → object_of h.layout x ≡ n → slice_index (unwrap_or new []) (offset_of h.layout x)
+      ≡ 0
   pub there : IsInside h n → IsSome new
 
 -- the bytes are those that the head inherits at an object's places
 abbrev pub IsGathered : Snapshots → HeaderView → (number : ℕ) → (bytes : List ℕ) → Type 0
-IsGathered below h number bytes = (x : ℕ) → object_of h.layout x ≡ number → slice_index bytes (offset_of h.layout x) ≡ inherited below h.parent x
+IsGathered below h number bytes = (x : ℕ) → object_of h.layout x ≡ number → slice_index bytes (offset_of h.layout x)
+    ≡ inherited below h.parent x
 
 -- What a copy-up has to meet, if the head is still absent: the object is inside the overlap, and
 -- the bytes are those that it inherits. If the head is there, nothing is done.
@@ -104,4 +113,5 @@ pub record IsCloneHeader (view : HeaderView) (link : ParentLink) : Type 0 where
 -- awaits it.
 pub record IsFree (pending : List Pending) (r : Records) (parent snap child : ℕ) : Type 0 where
   pub views : (h : HeaderView) → r.headers child ≡ Some h → EachView h (λ v shape. NamesOther parent snap shape.parent)
-  pub awaited : (k : ℕ) (p : Pending) → slice_get pending k ≡ Some p → p.child ≡ child → NamesOther parent snap (Some p.link)
+  pub awaited : (k : ℕ) (p : Pending) → slice_get pending k ≡ Some p → p.child ≡ child
+      → NamesOther parent snap (Some p.link)

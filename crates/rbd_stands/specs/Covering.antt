@@ -52,7 +52,8 @@ IsRaised (Some states) number = slice_index states number ≢ 0
 -- at each view.
 abbrev pub KeepsDataCover : HeaderView → Maps → (number : ℕ) → Mapped → DataOp → Type 0
 KeepsDataCover h maps number o (data_op.Read snap parts) = Unit {0}
-KeepsDataCover h maps number o (data_op.Write context must parts bytes) = IsContextOf h context × IsRaised (maps None) number
+KeepsDataCover h maps number o (data_op.Write context must parts bytes) = IsContextOf h context
+    × IsRaised (maps None) number
 KeepsDataCover h maps number o (data_op.WriteFull context bytes) = IsContextOf h context × IsRaised (maps None) number
 KeepsDataCover h maps number o (data_op.Zero context must parts) = IsContextOf h context
 KeepsDataCover h maps number o (data_op.Empty context) = IsContextOf h context × IsRaised (maps None) number
@@ -64,14 +65,16 @@ KeepsDataCover h maps number o (data_op.CopyUp bytes) = o.head ≡ None → Each
 abbrev pub KeepsHeaderCover : (header : Option HeaderView) → Maps → (objects : ℕ → Mapped) → HeaderOp → Type 0
 KeepsHeaderCover None maps objects (header_op.Create view) = (number : ℕ) → objects number ≡ mapped_blank
 KeepsHeaderCover None maps objects o = Unit {0}
-KeepsHeaderCover (Some h) maps objects (header_op.SnapAdd name) = IsCovered (maps (Some (h.snap_seq + 1))) (exists_at objects None)
+KeepsHeaderCover (Some h) maps objects (header_op.SnapAdd name) =
+    IsCovered (maps (Some (h.snap_seq + 1))) (exists_at objects None)
 KeepsHeaderCover (Some h) maps objects o = Unit {0}
 
 -- A head's first map is made while no object exists. A map that is put at a view covers it. State 0
 -- is set of an object that is absent at the view.
 abbrev pub KeepsMapCover : (header : Option HeaderView) → Maps → (objects : ℕ → Mapped) → MapOp → Type 0
 KeepsMapCover None maps objects o = Unit {0}
-KeepsMapCover (Some h) maps objects (map_op.Resize count) = maps None ≡ None → (number : ℕ) → IsFalse (exists_at objects None number)
+KeepsMapCover (Some h) maps objects (map_op.Resize count) = maps None ≡ None → (number : ℕ)
+    → IsFalse (exists_at objects None number)
 KeepsMapCover (Some h) maps objects (map_op.Get snap) = Unit {0}
 KeepsMapCover (Some h) maps objects (map_op.Put snap bits) =
     (shape : Shape) → shape_of h snap ≡ Some shape → Covers (states_of bits (4 * length bits)) (exists_at objects snap)
@@ -80,6 +83,7 @@ KeepsMapCover (Some h) maps objects (map_op.Remove snap) = Unit {0}
 
 abbrev pub KeepsCover : Records → Op → Type 0
 KeepsCover r (op.Header image o) = KeepsHeaderCover (r.headers image) (r.maps image) (object_at r image) o
-KeepsCover r (op.Data image number o) = (h : HeaderView) → r.headers image ≡ Some h → KeepsDataCover h (r.maps image) number (object_at r image number) o
+KeepsCover r (op.Data image number o) = (h : HeaderView) → r.headers image ≡ Some h
+    → KeepsDataCover h (r.maps image) number (object_at r image number) o
 KeepsCover r (op.Map image o) = KeepsMapCover (r.headers image) (r.maps image) (object_at r image) o
 KeepsCover r o = Unit {0}

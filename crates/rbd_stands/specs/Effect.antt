@@ -48,7 +48,8 @@ whole_object l size number = joined_extents l (places_in l (record { at = 0; len
 -- the bytes that go to places below a size, where each part has as many as its length
 abbrev pub bytes_below : Layout → (size number : ℕ) → List Part → (bytes : List ℕ) → List ℕ
 bytes_below l size number [] bytes = []
-bytes_below l size number (p ∷ parts) bytes = take (length (places_below l size number p)) bytes ++ bytes_below l size number parts (drop p.len bytes)
+bytes_below l size number (p ∷ parts) bytes = take (length (places_below l size number p)) bytes
+    ++ bytes_below l size number parts (drop p.len bytes)
 
 -- ---- effects
 
@@ -65,9 +66,12 @@ effect_of_naming image (Some name) = None
 -- the effect of a change of an object of an image that has this header
 abbrev pub effect_of_data : (image number : ℕ) → HeaderView → DataOp → Option Effect
 effect_of_data image number h (data_op.Write context must parts bytes) =
-    Some (effect.Piece image (extents_below h.layout h.size number parts) (bytes_below h.layout h.size number parts bytes))
-effect_of_data image number h (data_op.WriteFull context bytes) = Some (effect.Piece image (whole_object h.layout h.size number) bytes)
-effect_of_data image number h (data_op.Zero context must parts) = Some (effect.Zero image (extents_below h.layout h.size number parts))
+    Some (effect.Piece image (extents_below h.layout h.size number parts)
+    (bytes_below h.layout h.size number parts bytes))
+effect_of_data image number h (data_op.WriteFull context bytes) =
+    Some (effect.Piece image (whole_object h.layout h.size number) bytes)
+effect_of_data image number h (data_op.Zero context must parts) =
+    Some (effect.Zero image (extents_below h.layout h.size number parts))
 effect_of_data image number h (data_op.Empty context) = Some (effect.Zero image (whole_object h.layout h.size number))
 effect_of_data image number h (data_op.Remove context) = Some (effect.Zero image (whole_object h.layout h.size number))
 effect_of_data image number h o = None
@@ -79,12 +83,15 @@ effect_of_op header (op.Directory (directory_op.Add name)) (answer.Id image) = S
 effect_of_op header (op.Directory (directory_op.Remove image)) answer.Done = Some (effect.NameFree image)
 effect_of_op header (op.Directory (directory_op.Rename from to)) answer.Done = Some (effect.Rename from to)
 effect_of_op header (op.Children (children_op.Add parent snap child)) answer.Done = Some (effect.Link parent snap child)
-effect_of_op header (op.Children (children_op.Remove parent snap child)) answer.Done = Some (effect.Unlink parent snap child)
-effect_of_op header (op.Header image (header_op.Create view)) answer.Done = Some (effect_of_making image view.size view.role view.parent)
+effect_of_op header (op.Children (children_op.Remove parent snap child)) answer.Done =
+    Some (effect.Unlink parent snap child)
+effect_of_op header (op.Header image (header_op.Create view)) answer.Done =
+    Some (effect_of_making image view.size view.role view.parent)
 effect_of_op header (op.Header image (header_op.SetSize size)) answer.Done = Some (effect.Size image size)
 effect_of_op header (op.Header image (header_op.SnapAdd name)) (answer.Snap snap) = Some (effect.Snap image snap name)
 effect_of_op header (op.Header image (header_op.SnapRemove snap)) answer.Done = Some (effect.Unsnap image snap)
-effect_of_op header (op.Header image (header_op.SnapStatus snap status)) answer.Done = Some (effect.Status image snap status)
+effect_of_op header (op.Header image (header_op.SnapStatus snap status)) answer.Done =
+    Some (effect.Status image snap status)
 effect_of_op header (op.Header image (header_op.Role role)) answer.Done = Some (effect.Role image role)
 effect_of_op (Some h) (op.Header image header_op.Mirror) answer.Done = effect_of_naming image h.global
 effect_of_op header (op.Header image header_op.Remove) answer.Done = Some (effect.Gone image)

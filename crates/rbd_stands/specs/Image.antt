@@ -26,7 +26,8 @@ line_of_flat s = record { id = s.id; name = s.name; status = s.status }
 -- each byte of a view below its size is what the object that holds it shows at that view
 abbrev pub IsViewShown : Snapshots → HeaderView → (objects : ℕ → Mapped) → FlatImage → Option ℕ → Shape → Type 0
 IsViewShown below h objects i v shape = (x : ℕ) → x < shape.size
-    → slice_index (flat_bytes i v) x ≡ shown below shape.parent (view (versioned (objects (object_of h.layout x))) v) (offset_of h.layout x) x
+    → slice_index (flat_bytes i v) x ≡ shown below shape.parent (view (versioned (objects (object_of h.layout x))) v)
+    (offset_of h.layout x) x
 
 -- a snapshot's id was drawn by the header
 abbrev pub IsNumbered : HeaderView → Option ℕ → Type 0
@@ -40,10 +41,12 @@ IsInside h number = IsInOverlap h.parent (byte_at h.layout number 0)
 -- where an object inside the head's overlap is absent, a view inherits the bytes that the head
 -- inherits
 abbrev pub InheritsAlike : Snapshots → HeaderView → (objects : ℕ → Mapped) → Shape → Type 0
-InheritsAlike below h objects shape = (x : ℕ) → IsInside h (object_of h.layout x) → (objects (object_of h.layout x)).head ≡ None
+InheritsAlike below h objects shape = (x : ℕ) → IsInside h (object_of h.layout x)
+    → (objects (object_of h.layout x)).head ≡ None
     → inherited below shape.parent x ≡ inherited below h.parent x
 
-pub record ImageStands (below : Snapshots) (linked : Links) (h : HeaderView) (objects : ℕ → Mapped) (i : FlatImage) : Type 0 where
+pub record ImageStands (below : Snapshots) (linked : Links) (h : HeaderView) (objects : ℕ → Mapped)
+    (i : FlatImage) : Type 0 where
   -- the snapshots are the flat image's, in order
   pub same : map line_of_snap h.snaps ≡ map line_of_flat i.snaps
   pub role : h.role ≡ i.role
@@ -55,7 +58,8 @@ pub record ImageStands (below : Snapshots) (linked : Links) (h : HeaderView) (ob
   pub parents : EachView h (λ v shape. HasParent below linked shape.parent)
   pub within : EachView h (λ v shape. IsOverlapWithin shape.size shape.parent)
   -- a head's bytes past the image's size are zeros
-  pub clear : (x : ℕ) → h.size ≤ x → slice_index (unwrap_or (objects (object_of h.layout x)).head []) (offset_of h.layout x) ≡ 0
+  pub clear : (x : ℕ) → h.size ≤ x → slice_index (unwrap_or (objects (object_of h.layout x)).head [])
+      (offset_of h.layout x) ≡ 0
   -- An object that is absent inside the head's overlap was never changed, and there each view
   -- inherits what the head does. So a copy-up fills the head and each snapshot with what they
   -- showed.

@@ -16,7 +16,8 @@ pub record IsHeldBelow (l : Layout) (number size held : ℕ) : Type 0 where
 -- How many bytes of the unit at a position of a stripe lie below the size, whose byte is of that
 -- stripe, at another position.
 abbrev pub held_in_stripe : (unit position last size : ℕ) → ℕ
-held_in_stripe unit position last size = if nat_lt position last then unit else (if nat_lt last position then 0 else size % unit)
+held_in_stripe unit position last size = if nat_lt position last then unit
+    else (if nat_lt last position then 0 else size % unit)
 
 -- how many of a part's bytes are kept
 abbrev pub kept_len : (held : ℕ) → Part → ℕ

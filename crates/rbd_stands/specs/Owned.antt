@@ -81,7 +81,8 @@ IsOwner (Some h) me = h.owner ≡ Some me
 -- that moment, and a lock is broken only once its owner is listed.
 pub record IsOwnedStep (r : Records) (me : Instance) (op : Op) (a : Answer) : Type 0 where
   pub change : (image : ℕ) → IsTrue (changes_image image op) → IsTrue (was_done a) → IsOwner (r.headers image) me
-  pub broken : (image : ℕ) (owner : Instance) → op ≡ on.Header image (header.LockBreak owner) → a ≡ answer.Done → IsTrue (is_fenced r owner)
+  pub broken : (image : ℕ) (owner : Instance) → op ≡ on.Header image (header.LockBreak owner) → a ≡ answer.Done
+      → IsTrue (is_fenced r owner)
 
 -- a line of a log is an owned step; a step of the store is nobody's
 abbrev pub IsOwnedLine : Records → Option Instance → DoneOp → Answer → Type 0
@@ -123,7 +124,8 @@ IsLetGo image me d = IsDoneBy d me (on.Header image header.LockDrop) ⊎ IsDoneB
 
 -- somebody took the lock away: broke it, or removed the header with it
 abbrev pub IsTakenAway : (image : ℕ) → Instance → Done → Type 0
-IsTakenAway image me d = IsDoneBySome d (on.Header image (header.LockBreak me)) ⊎ IsDoneBySome d (on.Header image header.Remove)
+IsTakenAway image me d = IsDoneBySome d (on.Header image (header.LockBreak me))
+    ⊎ IsDoneBySome d (on.Header image header.Remove)
 
 -- a line that was answered fenced, changed no record and had no effect
 pub record IsNothing (r : Records) (d : Done) : Type 0 where

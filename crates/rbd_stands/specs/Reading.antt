@@ -24,9 +24,11 @@ pub record IsToldBy (h : HeaderView) (i : FlatImage) : Type 0 where
   pub size : length i.bytes ≡ h.size
   pub role : i.role ≡ h.role
   pub snaps : map line_of_flat i.snaps ≡ map line_of_snap h.snaps
-  pub by_name : (name : List ℕ) → option_map line_of_flat (flat_snap_named i.snaps name) ≡ option_map line_of_snap (snap_named h.snaps name)
+  pub by_name : (name : List ℕ) → option_map line_of_flat (flat_snap_named i.snaps name) ≡ option_map line_of_snap
+      (snap_named h.snaps name)
   pub by_id : (t : ℕ) → option_map line_of_flat (flat_snap_in i.snaps t) ≡ option_map line_of_snap (snap_in h.snaps t)
-  pub snap_sizes : (t : ℕ) → option_map (λ s. length s.bytes) (flat_snap_in i.snaps t) ≡ option_map (λ s. s.size) (snap_in h.snaps t)
+  pub snap_sizes : (t : ℕ) → option_map (λ s. length s.bytes) (flat_snap_in i.snaps t) ≡ option_map (λ s. s.size)
+      (snap_in h.snaps t)
 
 abbrev pub TellsFlatImage : HeaderView → Option FlatImage → Type 0
 TellsFlatImage h None = ⊥
@@ -49,7 +51,8 @@ pub record AreFlatBytes (f : Flat) (image : ℕ) (v : Option ℕ) (parts : List 
 
 -- The flat image's view has at the parts what it inherits of its parent, and zeros outside the
 -- overlap.
-pub record AreInherited (f : Flat) (image : ℕ) (v : Option ℕ) (parent : Option ParentLink) (parts : List Part) : Type 0 where
+pub record AreInherited (f : Flat) (image : ℕ) (v : Option ℕ) (parent : Option ParentLink)
+    (parts : List Part) : Type 0 where
   pub flat : List ℕ
   pub is : view_at (image_at f image) v ≡ Some flat
   pub covered : (x : ℕ) → IsAt parts x → IsInOverlap parent x → slice_index flat x ≡ inherited (snapshots_of f) parent x

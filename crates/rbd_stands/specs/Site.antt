@@ -42,14 +42,17 @@ pub record IsAwaited (below : Snapshots) (linked : Links) (link : ParentLink) : 
 
 -- the flat site's links are the entries of the list of children
 abbrev pub AreChildrenLinked : Records → Flat → Type 0
-AreChildrenLinked r f = (parent snap child : ℕ) → finset.contains r.children (record { parent = parent; snap = snap; child = child }) ≡ links_of f child parent snap
+AreChildrenLinked r f = (parent snap child : ℕ)
+    → finset.contains r.children (record { parent = parent; snap = snap; child = child }) ≡ links_of f child parent snap
 
 -- The records stand for the flat site, while these clones are being made.
 pub record StandsFor (pending : List Pending) (r : Records) (f : Flat) : Type 0 where
   -- the directory's names are the flat site's
   pub names : r.directory.names ≡ f.names
   pub links : AreChildrenLinked r f
-  pub images : (image : ℕ) → StandsAt (snapshots_of f) (links_of f image) (r.headers image) (object_at r image) (image_at f image)
-  pub awaited : (k : ℕ) (p : Pending) → slice_get pending k ≡ Some p → IsAwaited (snapshots_of f) (links_of f p.child) p.link
+  pub images : (image : ℕ) → StandsAt (snapshots_of f) (links_of f image) (r.headers image) (object_at r image)
+      (image_at f image)
+  pub awaited : (k : ℕ) (p : Pending) → slice_get pending k ≡ Some p
+      → IsAwaited (snapshots_of f) (links_of f p.child) p.link
   -- an id that the directory hasn't drawn is untouched
   pub fresh : (image : ℕ) → r.directory.drawn < image → IsUntouched r f image

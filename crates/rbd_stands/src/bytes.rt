@@ -9,7 +9,7 @@ use rbd_kinds::{Bytes, HeaderView, NoMemory, Part, TryClone};
 use std::alloc::Global;
 
 /// Those of the bytes that go to places below the size. Where all do, as they mostly will, nothing
-/// is copied of bytes that are shared.
+/// is copied of bytes that are shared. NoMemory where a copy is refused.
 pub fn bytes_below(
     alloc: Global,
     header: &HeaderView,
@@ -18,7 +18,8 @@ pub fn bytes_below(
     bytes: &Bytes,
 ) -> Result<Bytes, NoMemory>
     requires form { IsHeaderInForm header.now }
-    ensures { IfOk result (λ kept. kept ≡ of_effect.bytes_below header.now.layout header.now.size object parts.now bytes.now) }
+    ensures { IfOk result (λ kept. kept
+        ≡ of_effect.bytes_below header.now.layout header.now.size object parts.now bytes.now) }
 {
     let held = held_below(&header.layout, object, header.size);
     if keeps_all(held, parts, bytes.as_slice()) {

@@ -10,7 +10,8 @@ use rbd_kinds::ChildrenOp;
 
 /// The effect of an operation that was done.
 pub fn of_done(op: &ChildrenOp) -> Option<Effect>
-    ensures { (header : Option of_header.HeaderView) → result ≡ effect_of_op header (of_op.Children op.now) of_answer.Done }
+    ensures { (header : Option of_header.HeaderView)
+        → result ≡ effect_of_op header (of_op.Children op.now) of_answer.Done }
 {
     match op {
         ChildrenOp::Add {

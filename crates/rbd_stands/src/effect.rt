@@ -13,9 +13,10 @@ use rbd_flat::Effect;
 use rbd_kinds::{Answer, HeaderView, ImageId, NoMemory, Op, SnapId};
 use std::alloc::Global;
 
-/// The effect of an operation that was answered so, told with the header that its image had at that
+/// The effect of an operation that was answered so, by the header that its image had at that
 /// moment: `None` where it has none. What isn't answered done, with an id or with a snapshot has
-/// none, and nor has a change of an object whose image has no header.
+/// none, and nor has a change of an object whose image has no header. NoMemory where memory for the
+/// effect is refused.
 ///
 /// Only operations on a header or on a data object need the header of their image.
 pub fn effect_of(
@@ -58,7 +59,8 @@ fn of_done(alloc: Global, op: &Op, header: Option<&HeaderView>) -> Result<Option
 
 /// The effect of an operation that was answered with an id.
 fn of_id(op: &Op, image: ImageId) -> Result<Option<Effect>, NoMemory>
-    ensures { IfOk result (λ effect. (header : Option of_header.HeaderView) → effect ≡ effect_of_op header op.now (of_answer.Id image)) }
+    ensures { IfOk result (λ effect. (header : Option of_header.HeaderView)
+        → effect ≡ effect_of_op header op.now (of_answer.Id image)) }
 {
     match op {
         Op::Directory(op) => directory::of_id(op, image),
@@ -77,7 +79,8 @@ fn of_id(op: &Op, image: ImageId) -> Result<Option<Effect>, NoMemory>
 
 /// The effect of an operation that was answered with a snapshot.
 fn of_snap(op: &Op, snap: SnapId) -> Result<Option<Effect>, NoMemory>
-    ensures { IfOk result (λ effect. (header : Option of_header.HeaderView) → effect ≡ effect_of_op header op.now (of_answer.Snap snap)) }
+    ensures { IfOk result (λ effect. (header : Option of_header.HeaderView)
+        → effect ≡ effect_of_op header op.now (of_answer.Snap snap)) }
 {
     match op {
         Op::Header { image, op } => header::of_snap(*image, op, snap),

@@ -11,7 +11,8 @@ use rbd_flat::Extents;
 use rbd_kinds::{Extent, HeaderView, Layout, NoMemory, Part};
 use std::alloc::Global;
 
-/// The image bytes below the size of parts of an object, in the order of the parts.
+/// The image bytes below the size of parts of an object, in the order of the parts. NoMemory where
+/// memory for them is refused.
 pub fn extents_below(
     alloc: Global,
     header: &HeaderView,
@@ -29,7 +30,7 @@ pub fn extents_below(
     Ok(Extents::from_vec(found))
 }
 
-/// The image bytes of a whole object below the size.
+/// The image bytes of a whole object below the size. NoMemory where memory for them is refused.
 pub fn whole_object(alloc: Global, header: &HeaderView, object: u64) -> Result<Extents, NoMemory>
     requires form { IsHeaderInForm header.now }
     ensures { IfOk result (λ at. at ≡ of_effect.whole_object header.now.layout header.now.size object) }
@@ -51,7 +52,8 @@ fn push_part(
     requires layout { IsLayout layout.now }
     requires within { (offset : ℕ) → offset < held → byte_at layout.now object offset < 2 ^ 63 }
     ensures { OnOk result ((size : ℕ) → IsHeldBelow layout.now object size held
-        → found.new.items ≡ found.old.items ++ of_effect.joined_extents layout.now (of_effect.places_below layout.now size object part.now)) }
+        → found.new.items ≡ found.old.items ++ of_effect.joined_extents layout.now
+        (of_effect.places_below layout.now size object part.now)) }
 {
     let kept = kept_len(held, part);
     if kept == 0 {

@@ -20,7 +20,8 @@ ghost use Rattle.rbd_stands.specs.Owned.{AreOwned, DoesNothing, HasLock, IsDoneB
 /// A log to which one line is added is owned where it was and the line is. So it is enough to look
 /// at each operation when it is done.
 pub fn logs_stay_owned()
-    ensures { (r : Records) (log : List Done) (d : Done) → AreOwned r log → IsOwnedLine (after_all r log) d.instance d.op d.answer
+    ensures { (r : Records) (log : List Done) (d : Done) → AreOwned r log
+        → IsOwnedLine (after_all r log) d.instance d.op d.answer
         → AreOwned r (log ++ d ∷ []) }
 {}
 
@@ -34,8 +35,10 @@ pub fn each_line_is_owned()
 /// store is.
 pub fn what_is_owned_anyway()
     ensures look { (r : Records) (me : Instance) (op : Op) (a : Answer) → IsTrue (is_look op) → IsOwnedStep r me op a }
-    ensures refused { (r : Records) (me : Instance) (op : Op) (a : Answer) → IsFalse (was_done a) → IsOwnedStep r me op a }
-    ensures fenced { (r : Records) (me : Instance) (op : Op) → IsTrue (is_fenced r me) → IsOwnedStep r me op (answer_to r me op) }
+    ensures refused { (r : Records) (me : Instance) (op : Op) (a : Answer) → IsFalse (was_done a)
+        → IsOwnedStep r me op a }
+    ensures fenced { (r : Records) (me : Instance) (op : Op) → IsTrue (is_fenced r me)
+        → IsOwnedStep r me op (answer_to r me op) }
     ensures store { (r : Records) (op : DoneOp) (a : Answer) → IsOwnedLine r None op a }
 {}
 
@@ -43,15 +46,19 @@ pub fn what_is_owned_anyway()
 /// then on each of its operations is answered `fenced`, changes no record and has no effect, and a
 /// lock that it has stays its own, until another one breaks it or removes the header.
 pub fn who_is_listed_does_nothing()
-    ensures listed { (r : Records) (log : List Done) (me : Instance) → IsTrue (is_fenced r me) → IsTrue (is_fenced (after_all r log) me) }
-    ensures nothing { (r : Records) (log : List Done) (me : Instance) → AreAnswered r log → IsTrue (is_fenced r me) → DoesNothing me r log }
-    ensures lock { (r : Records) (log : List Done) (image : ℕ) (me : Instance) → AreAnswered r log → IsTrue (is_fenced r me) → HasLock image me r
+    ensures listed { (r : Records) (log : List Done) (me : Instance) → IsTrue (is_fenced r me)
+        → IsTrue (is_fenced (after_all r log) me) }
+    ensures nothing { (r : Records) (log : List Done) (me : Instance) → AreAnswered r log → IsTrue (is_fenced r me)
+        → DoesNothing me r log }
+    ensures lock { (r : Records) (log : List Done) (image : ℕ) (me : Instance) → AreAnswered r log
+        → IsTrue (is_fenced r me) → HasLock image me r
         → HasLock image me (after_all r log) ⊎ SomeLine (IsTakenAway image me) log }
 {}
 
 /// Only a `block-add` that was done lists an instance.
 pub fn who_is_listed_was_added()
-    ensures { (log : List Done) (me : Instance) → AreAnswered no_records log → IsTrue (is_fenced (after_all no_records log) me)
+    ensures { (log : List Done) (me : Instance) → AreAnswered no_records log
+        → IsTrue (is_fenced (after_all no_records log) me)
         → SomeLine (λ d. IsDoneBySome d (op_on.BlockAdd me)) log }
 {}
 
@@ -59,14 +66,19 @@ pub fn who_is_listed_was_added()
 pub fn who_is_broken_was_listed_before()
     ensures { (before rest : List Done) (d : Done) (image : ℕ) (owner : Instance)
         → AreAnswered no_records (before ++ d ∷ rest) → AreOwned no_records (before ++ d ∷ rest)
-        → IsDoneBySome d (op_on.Header image (header_op.LockBreak owner)) → SomeLine (λ e. IsDoneBySome e (op_on.BlockAdd owner)) before }
+        → IsDoneBySome d (op_on.Header image (header_op.LockBreak owner))
+        → SomeLine (λ e. IsDoneBySome e (op_on.BlockAdd owner)) before }
 {}
 
 /// Who has a lock keeps it, in a log that is owned, until it lets go of it itself or is listed. So
 /// where another one has the lock, and it didn't let go of it, it does nothing any more.
 pub fn who_loses_a_lock_is_listed()
-    ensures keeps { (r : Records) (log : List Done) (image : ℕ) (me : Instance) → AreAnswered r log → AreOwned r log → HasLock image me r
-        → HasLock image me (after_all r log) ⊎ (SomeLine (IsLetGo image me) log ⊎ IsTrue (is_fenced (after_all r log) me)) }
-    ensures another { (r : Records) (log : List Done) (image : ℕ) (me : Instance) (h : HeaderView) → AreAnswered r log → AreOwned r log → HasLock image me r
-        → (after_all r log).headers image ≡ Some h → h.owner ≢ Some me → SomeLine (IsLetGo image me) log ⊎ IsTrue (is_fenced (after_all r log) me) }
+    ensures keeps { (r : Records) (log : List Done) (image : ℕ) (me : Instance) → AreAnswered r log → AreOwned r log
+        → HasLock image me r
+        → HasLock image me (after_all r log)
+        ⊎ (SomeLine (IsLetGo image me) log ⊎ IsTrue (is_fenced (after_all r log) me)) }
+    ensures another { (r : Records) (log : List Done) (image : ℕ) (me : Instance) (h : HeaderView) → AreAnswered r log
+        → AreOwned r log → HasLock image me r
+        → (after_all r log).headers image ≡ Some h → h.owner ≢ Some me → SomeLine (IsLetGo image me) log
+        ⊎ IsTrue (is_fenced (after_all r log) me) }
 {}

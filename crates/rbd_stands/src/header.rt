@@ -91,7 +91,8 @@ fn of_making(image: ImageId, view: &HeaderView) -> Effect
 /// The effect of a mirror enable: an image that gets its global name becomes the primary, and one
 /// that had it stays.
 fn of_mirror(image: ImageId, header: Option<&HeaderView>) -> Option<Effect>
-    ensures { result ≡ effect_of_op (option_copied header.entry) (of_op.Header image of_header_op.Mirror) of_answer.Done }
+    ensures { result ≡ effect_of_op (option_copied header.entry)
+        (of_op.Header image of_header_op.Mirror) of_answer.Done }
 {
     let header = header?;
     match &header.global {

@@ -19,9 +19,11 @@ ghost use Rattle.rbd_stands.specs.Site.{StandsFor, Pending};
 
 /// A flat site has no object maps: any operation on one leaves it, and has no effect.
 pub fn maps_are_unseen()
-    ensures stands { (pending : List Pending) (r : Records) (f : Flat) (me : Instance) (image : ℕ) (o : MapOp) → StandsFor pending r f
+    ensures stands { (pending : List Pending) (r : Records) (f : Flat) (me : Instance) (image : ℕ) (o : MapOp)
+        → StandsFor pending r f
         → StandsFor pending (after r me (op.Map image o)) f }
-    ensures effect { (r : Records) (image : ℕ) (o : MapOp) (a : Answer) → effect_of r (done.Op (op.Map image o)) a ≡ None }
+    ensures effect { (r : Records) (image : ℕ) (o : MapOp) (a : Answer) → effect_of r (done.Op (op.Map image o)) a
+        ≡ None }
 {}
 
 /// Maps cover the objects at first, and each operation leaves them so that meets its condition
@@ -31,17 +33,20 @@ pub fn maps_are_unseen()
 pub fn maps_go_on_to_cover()
     ensures first { MapsCover no_records }
 
-    ensures operation { (pending : List Pending) (r : Records) (f : Flat) (me : Instance) (o : Op) → StandsFor pending r f → MapsCover r
+    ensures operation { (pending : List Pending) (r : Records) (f : Flat) (me : Instance) (o : Op)
+        → StandsFor pending r f → MapsCover r
         → MayDo r me o → (IsFalse (is_fenced r me) → KeepsCover r o) → MapsCover (after r me o) }
 
     ensures trim { (r : Records) (image number : ℕ) → MapsCover r → MapsCover (trimmed image number r) }
 
-    ensures expiry { (r : Records) (image : ℕ) (oldest : Option Instance) → MapsCover r → MapsCover (expired_by image oldest r) }
+    ensures expiry { (r : Records) (image : ℕ) (oldest : Option Instance) → MapsCover r
+        → MapsCover (expired_by image oldest r) }
 {}
 
 /// A head has zeros at each place at and past the image's size. So a size may grow at any moment,
 /// and what it gains is zeros.
 pub fn past_the_size_are_zeros()
-    ensures { (pending : List Pending) (r : Records) (f : Flat) (image x : ℕ) (h : HeaderView) → StandsFor pending r f → r.headers image ≡ Some h → h.size ≤ x
+    ensures { (pending : List Pending) (r : Records) (f : Flat) (image x : ℕ) (h : HeaderView) → StandsFor pending r f
+        → r.headers image ≡ Some h → h.size ≤ x
         → slice_index (unwrap_or (object_at r image (object_of h.layout x)).head []) (offset_of h.layout x) ≡ 0 }
 {}

@@ -34,11 +34,15 @@ effect_word (effect.Role image role) = codes "role"
 effect_word (effect.Gone image) = codes "gone"
 
 abbrev pub entry_text : List Declared → Entry → List ℕ
-entry_text sessions (entry.Start line instance) = codes "start " ++ decimal line ++ codes " " ++ instance_text sessions instance
-entry_text sessions (entry.Effect cause site number e) = codes "effect " ++ cause_text sessions cause ++ codes " " ++ numbered site number ++ codes " " ++ effect_word e
-entry_text sessions (entry.Look cause site number) = codes "look " ++ cause_text sessions cause ++ codes " " ++ numbered site number
+entry_text sessions (entry.Start line instance) = codes "start " ++ decimal line ++ codes " "
+    ++ instance_text sessions instance
+entry_text sessions (entry.Effect cause site number e) = codes "effect " ++ cause_text sessions cause ++ codes " "
+    ++ numbered site number ++ codes " " ++ effect_word e
+entry_text sessions (entry.Look cause site number) = codes "look " ++ cause_text sessions cause ++ codes " "
+    ++ numbered site number
 entry_text sessions (entry.Fence cause site number instance) =
-    codes "fence " ++ cause_text sessions cause ++ codes " " ++ numbered site number ++ codes " " ++ instance_text sessions instance
+    codes "fence " ++ cause_text sessions cause ++ codes " " ++ numbered site number ++ codes " "
+    ++ instance_text sessions instance
 entry_text sessions (entry.Reply line reply) = codes "reply " ++ decimal line
 entry_text sessions (entry.Stop session) = codes "stop " ++ session_name sessions session
 entry_text sessions (entry.Lost line) = codes "lost " ++ decimal line

@@ -28,7 +28,8 @@ operation_text done = done_word done.op ++ codes " " ++ done_object done.op ++ c
 
 -- `o a1 c1.0 dir-add rbd_directory id`
 abbrev pub done_line : List Declared → SiteId → Done → List ℕ
-done_line sessions site done = codes "o " ++ numbered site done.number ++ codes " " ++ doer_text sessions done.instance ++ codes " " ++ operation_text done ++ 10 ∷ []
+done_line sessions site done = codes "o " ++ numbered site done.number ++ codes " " ++ doer_text sessions done.instance
+    ++ codes " " ++ operation_text done ++ 10 ∷ []
 
 -- a site's log
 abbrev pub log_text : List Declared → SiteId → List Done → List ℕ

@@ -60,7 +60,8 @@ layout_text layout = decimal layout.object ++ codes "/" ++ decimal layout.unit +
 -- `1@1 overlap 5000`
 abbrev pub parent_text : Option ParentLink → List ℕ
 parent_text None = codes "none"
-parent_text (Some link) = decimal link.image ++ codes "@" ++ decimal link.snap ++ codes " overlap " ++ decimal link.overlap
+parent_text (Some link) = decimal link.image ++ codes "@" ++ decimal link.snap ++ codes " overlap "
+    ++ decimal link.overlap
 
 abbrev pub lock_text : List Declared → Option Instance → List ℕ
 lock_text sessions None = codes "none"
@@ -80,7 +81,8 @@ extent_text view =
 -- `parent 1@1 overlap 5000 lock c1.0 role none`
 abbrev pub standing_text : List Declared → HeaderView → List ℕ
 standing_text sessions view =
-    codes "parent " ++ parent_text view.parent ++ codes " lock " ++ lock_text sessions view.owner ++ codes " role " ++ role_word view.role
+    codes "parent " ++ parent_text view.parent ++ codes " lock " ++ lock_text sessions view.owner ++ codes " role "
+    ++ role_word view.role
 
 abbrev pub info_text : List Declared → HeaderView → List ℕ
 info_text sessions view = codes "ok " ++ extent_text view ++ codes " " ++ standing_text sessions view

@@ -35,7 +35,8 @@ speaker_name sessions (Some session) = session_name sessions session
 
 -- `4 c1 ok 68656c6c6f`
 abbrev pub spoken_line : List Declared → Option ℕ → (line : ℕ) → Reply → List ℕ
-spoken_line sessions session line reply = decimal line ++ codes " " ++ speaker_name sessions session ++ codes " " ++ reply_text sessions reply ++ 10 ∷ []
+spoken_line sessions session line reply = decimal line ++ codes " " ++ speaker_name sessions session ++ codes " "
+    ++ reply_text sessions reply ++ 10 ∷ []
 
 -- the line of a reply, and nothing of another entry
 abbrev pub reply_line : List Declared → List Line → Entry → List ℕ
@@ -45,11 +46,13 @@ reply_line sessions lines e = []
 -- the replies in the order of the history, then the commands without a reply in the order of the
 -- script
 abbrev pub replies_text : Script → List Entry → (a b : List Done) → List ℕ
-replies_text script history a b = flat_map (reply_line script.sessions script.lines) history ++ flat_map (unanswered_line script.sessions a b history) script.lines
+replies_text script history a b = flat_map (reply_line script.sessions script.lines) history
+    ++ flat_map (unanswered_line script.sessions a b history) script.lines
 
 -- the history, the logs of both sites, and then the replies
 abbrev pub trace_text : Script → List Entry → (a b : List Done) → List ℕ
-trace_text script history a b = history_text script.sessions history ++ log_text script.sessions A a ++ log_text script.sessions B b ++ replies_text script history a b
+trace_text script history a b = history_text script.sessions history ++ log_text script.sessions A a
+    ++ log_text script.sessions B b ++ replies_text script history a b
 
 abbrev pub usage_text : List ℕ
 usage_text = codes "usage: rbd_lab run [--trace] | threads [--trace] [--turns N] | gen --seed N --clients C --commands K" ++ 10 ∷ []

@@ -110,12 +110,15 @@ waiting_text sessions None = codes "unfinished"
 waiting_text sessions (Some owner) = codes "unfinished waiting " ++ instance_text sessions owner
 
 abbrev pub progress_text : List Declared → CommandProgress → List ℕ
-progress_text sessions progress = if progress.lost then codes "lost" else (if progress.started then waiting_text sessions progress.holder else codes "unsent")
+progress_text sessions progress = if progress.lost then codes "lost"
+    else (if progress.started then waiting_text sessions progress.holder else codes "unsent")
 
 -- `6 c2 unfinished waiting c1.0`
 abbrev pub progress_line : List Declared → (line session : ℕ) → CommandProgress → List ℕ
 progress_line sessions line session progress =
-    if progress.answered then [] else (decimal line ++ codes " " ++ session_name sessions session ++ codes " " ++ progress_text sessions progress ++ 10 ∷ [])
+    if progress.answered then [] else
+    (decimal line ++ codes " " ++ session_name sessions session ++ codes " " ++ progress_text sessions progress
+    ++ 10 ∷ [])
 
 -- the line of a command without a reply
 abbrev pub said_line : List Declared → (line : ℕ) → Said → CommandProgress → List ℕ
@@ -123,4 +126,5 @@ said_line sessions line (Command session beside command) progress = progress_lin
 said_line sessions line said progress = []
 
 abbrev pub unanswered_line : List Declared → (a b : List Done) → List Entry → Line → List ℕ
-unanswered_line sessions a b history line = said_line sessions line.number line.said (progress_of a b history line.number)
+unanswered_line sessions a b history line =
+    said_line sessions line.number line.said (progress_of a b history line.number)

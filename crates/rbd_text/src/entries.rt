@@ -90,7 +90,8 @@ fn push_effect(
     number: u64,
     effect: &Effect,
 ) -> Result<(), NoMemory>
-    ensures { OnOk result (text.new.items ≡ text.old.items ++ entry_text sessions.now (Entry.Effect cause site number effect.now)) }
+    ensures { OnOk result (text.new.items ≡ text.old.items ++ entry_text sessions.now
+        (Entry.Effect cause site number effect.now)) }
 {
     text.extend_from_slice(b"effect ")?;
     push_cause(text, sessions, cause)?;
@@ -124,7 +125,8 @@ fn push_fence(
     number: u64,
     instance: Instance,
 ) -> Result<(), NoMemory>
-    ensures { OnOk result (text.new.items ≡ text.old.items ++ entry_text sessions.now (Entry.Fence cause site number instance)) }
+    ensures { OnOk result (text.new.items ≡ text.old.items ++ entry_text sessions.now
+        (Entry.Fence cause site number instance)) }
 {
     text.extend_from_slice(b"fence ")?;
     push_cause(text, sessions, cause)?;
@@ -179,7 +181,8 @@ fn push_by(
 }
 
 fn push_replay(text: &mut Vec<u8>, line: u32, seq: u64) -> Result<(), NoMemory>
-    ensures { OnOk result (text.new.items ≡ text.old.items ++ (codes "replay:" ++ decimal line ++ codes ":" ++ decimal seq)) }
+    ensures { OnOk result (text.new.items ≡ text.old.items
+        ++ (codes "replay:" ++ decimal line ++ codes ":" ++ decimal seq)) }
 {
     text.extend_from_slice(b"replay:")?;
     push_number(text, line)?;

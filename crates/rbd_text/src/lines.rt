@@ -24,7 +24,8 @@ pub fn push_reply_line(
     entry: &Entry,
 ) -> Result<(), NoMemory>
     requires { IsShownEntry entry.now }
-    ensures { (lines : List Line) → AreSpeakersOf lines speakers.now → OnOk result (text.new.items ≡ text.old.items ++ reply_line sessions.now lines entry.now) }
+    ensures { (lines : List Line) → AreSpeakersOf lines speakers.now
+        → OnOk result (text.new.items ≡ text.old.items ++ reply_line sessions.now lines entry.now) }
 {
     match entry {
         Entry::Reply { line, reply } => push_spoken(
@@ -79,7 +80,8 @@ pub fn push_unanswered(
     line: u32,
     said: &Said,
 ) -> Result<(), NoMemory>
-    ensures { OnOk result (text.new.items ≡ text.old.items ++ said_line sessions.now line said.now (progress_at all.now line)) }
+    ensures { OnOk result (text.new.items ≡ text.old.items ++ said_line sessions.now line said.now
+        (progress_at all.now line)) }
 {
     match session_of(said) {
         None => Ok(()),

@@ -82,7 +82,8 @@ fn push_commands(
 
 fn push_replied(text: &mut Vec<u8>, script: &Script, history: &[Entry]) -> Result<(), NoMemory>
     requires { AreShown history.now }
-    ensures { OnOk result (text.new.items ≡ text.old.items ++ flat_map (reply_line script.now.sessions script.now.lines) history.now) }
+    ensures { OnOk result (text.new.items ≡ text.old.items
+        ++ flat_map (reply_line script.now.sessions script.now.lines) history.now) }
 {
     let speakers = Speakers::of(*text.allocator(), script.lines.as_slice())?;
     let sessions = script.sessions.as_slice();
@@ -99,7 +100,8 @@ fn push_unreplied(
     a: &[Done],
     b: &[Done],
 ) -> Result<(), NoMemory>
-    ensures { OnOk result (text.new.items ≡ text.old.items ++ flat_map (unanswered_line script.now.sessions a.now b.now history.now) script.now.lines) }
+    ensures { OnOk result (text.new.items ≡ text.old.items
+        ++ flat_map (unanswered_line script.now.sessions a.now b.now history.now) script.now.lines) }
 {
     let all = Progresses::of(*text.allocator(), history, a, b)?;
     let sessions = script.sessions.as_slice();

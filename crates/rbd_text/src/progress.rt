@@ -64,7 +64,8 @@ impl Progresses {
     }
 
     fn hear(&mut self, a: &[Done], b: &[Done], entry: &Entry) -> Result<(), NoMemory>
-        ensures { OnOk result ((line : ℕ) → progress_at self.new line ≡ progress_after a.now b.now line entry.now (progress_at self.old line)) }
+        ensures { OnOk result ((line : ℕ) → progress_at self.new line ≡ progress_after a.now b.now line entry.now
+            (progress_at self.old line)) }
     {
         match entry {
             Entry::Start { line, instance: _ } => note(&mut self.started, *line),
@@ -104,7 +105,10 @@ fn find(
     cause: Cause,
     done: Option<&Done>,
 ) -> Result<(), NoMemory>
-    ensures { OnOk result ((q : ℕ) → unwrap_or (known_at holders.new q) None ≡ unwrap_or (where_for q (line_of_cause cause) (found_by (option_copied done.entry))) (unwrap_or (known_at holders.old q) None)) }
+    ensures { OnOk result ((q : ℕ)
+        → unwrap_or (known_at holders.new q) None
+        ≡ unwrap_or (where_for q (line_of_cause cause) (found_by (option_copied done.entry)))
+        (unwrap_or (known_at holders.old q) None)) }
 {
     let Some(line) = line(cause) else {
         return Ok(());

@@ -38,7 +38,8 @@ impl Speakers {
     }
 
     fn read(&mut self, line: &Line) -> Result<(), NoMemory>
-        ensures { OnOk result ((q : ℕ) → known_at self.new.lines q ≡ option_or (speaks q line.now) (known_at self.old.lines q)) }
+        ensures { OnOk result ((q : ℕ) → known_at self.new.lines q ≡ option_or (speaks q line.now)
+            (known_at self.old.lines q)) }
     {
         match session_of(&line.said) {
             None => Ok(()),

@@ -3,6 +3,7 @@ ghost use Rattle.rbd_values.specs.Held.{bytes_held};
 
 use crate::copies::TryClone;
 use crate::memory::NoMemory;
+use crate::window::Window;
 use std::alloc::Global;
 use std::fmt;
 use std::marker::Model;
@@ -17,7 +18,7 @@ pub struct Bytes {
 
 enum Held {
     Own(Vec<u8>),
-    Shared(bytes::Bytes),
+    Shared(Window),
 }
 
 // (written out, so that it is a call where bytes are let go, and not a choice of two)
@@ -35,7 +36,7 @@ impl Held {
         ensures { IfOk result (λ shared. bytes_held shared ≡ bytes_held self) }
     {
         match self {
-            Held::Own(bytes) => Ok(Held::Shared(bytes::Bytes::from_vec(bytes)?)),
+            Held::Own(bytes) => Ok(Held::Shared(Window::new(bytes)?)),
             Held::Shared(bytes) => Ok(Held::Shared(bytes)),
         }
     }
@@ -93,7 +94,7 @@ impl Bytes {
         match &self.held {
             Held::Own(bytes) => Bytes::from_slice(*bytes.allocator(), &bytes[at..at + len]),
             Held::Shared(bytes) => Ok(Bytes {
-                held: Held::Shared(bytes.slice(at..at + len)?),
+                held: Held::Shared(bytes.part(at, len)?),
             }),
         }
     }
@@ -128,7 +129,7 @@ impl TryClone for Bytes {
     fn try_clone(&self) -> Result<Self, NoMemory> {
         let held = match &self.held {
             Held::Own(bytes) => Held::Own(bytes.clone()?),
-            Held::Shared(bytes) => Held::Shared(bytes.clone()?),
+            Held::Shared(bytes) => Held::Shared(bytes.try_clone()?),
         };
         Ok(Bytes { held })
     }

@@ -34,6 +34,7 @@ mod name;
 mod number;
 mod sequence;
 mod shared;
+mod window;
 
 pub use asked_name::AskedName;
 pub use byte_string::Bytes;

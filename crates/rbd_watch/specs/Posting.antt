@@ -6,7 +6,8 @@ use Rattle.rbd_kinds.specs.declared.notice.Notice.{Notice}
 use Rattle.rbd_kinds.specs.declared.notice.NoticeKind.{NoticeKind}
 
 -- one notice for each receiver, in their order, numbered from a number on
-abbrev pub notices : (number : ℕ) → SiteId → (image : ℕ) → (from : Instance) → (receivers : List Instance) → NoticeKind → List Notice
+abbrev pub notices : (number : ℕ) → SiteId → (image : ℕ) → (from : Instance) → (receivers : List Instance) → NoticeKind
+    → List Notice
 notices number site image from [] kind = []
 notices number site image from (to ∷ receivers) kind =
     record { number = number; to = to; from = from; site = site; image = image; kind = kind }

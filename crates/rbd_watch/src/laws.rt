@@ -11,12 +11,14 @@ ghost use Rattle.rbd_watch.specs.Watching.{oldest_of, watches, without};
 /// A notice stays for good: after a post each older number shows the same notice.
 pub fn notices_stay()
     ensures { (mail posted : List Notice) (number : ℕ)
-        → AreNumberedFrom 1 mail → 1 ≤ number → number ≤ length mail → notice_numbered number (mail ++ posted) ≡ notice_numbered number mail }
+        → AreNumberedFrom 1 mail → 1 ≤ number → number ≤ length mail
+        → notice_numbered number (mail ++ posted) ≡ notice_numbered number mail }
 {}
 
 /// After a post each receiver finds its notice, numbered by its place among them.
 pub fn receivers_find_their_notices()
-    ensures { (mail : List Notice) (site : SiteId) (image : ℕ) (from to : Instance) (receivers : List Instance) (kind : NoticeKind) (place : ℕ)
+    ensures { (mail : List Notice) (site : SiteId) (image : ℕ) (from to : Instance) (receivers : List Instance)
+        (kind : NoticeKind) (place : ℕ)
         → AreNumberedFrom 1 mail → slice_get receivers place ≡ Some to
         → notice_numbered (length mail + 1 + place) (mail ++ notices (length mail + 1) site image from receivers kind)
         ≡ Some (record { number = length mail + 1 + place; to = to; from = from; site = site; image = image; kind = kind }) }
@@ -31,7 +33,8 @@ pub fn one_notice_for_each()
 /// The sender of a notice isn't among its receivers. Each other instance is a receiver exactly if
 /// it watches.
 pub fn the_sender_gets_no_notice()
-    ensures sender { (sender : Instance) (watchers : List Instance) → IsFalse (watches sender (without sender watchers)) }
+    ensures sender { (sender : Instance) (watchers : List Instance)
+        → IsFalse (watches sender (without sender watchers)) }
 
     ensures others { (sender other : Instance) (watchers : List Instance)
         → other ≢ sender → watches other (without sender watchers) ≡ watches other watchers }
@@ -49,5 +52,6 @@ pub fn the_oldest_watches()
         → oldest.life ≤ other.life }
 
     ensures none { (session : ℕ) (watchers : List Instance)
-        → (oldest_of session watchers ≡ None) ↔ ((instance : Instance) → IsTrue (watches instance watchers) → instance.session ≢ session) }
+        → (oldest_of session watchers ≡ None)
+        ↔ ((instance : Instance) → IsTrue (watches instance watchers) → instance.session ≢ session) }
 {}

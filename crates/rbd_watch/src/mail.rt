@@ -48,7 +48,8 @@ impl Mail {
         to: &[Instance],
         kind: &NoticeKind,
     ) -> Result<(), NoMemory>
-        ensures ok { OnOk result (self.new ≡ self.old ++ notices (length self.old + 1) site image from to.now kind.now) }
+        ensures ok { OnOk result (self.new ≡ self.old
+            ++ notices (length self.old + 1) site image from to.now kind.now) }
         ensures err { OnErr result (self.new ≡ self.old) }
     {
         let mut posted = self.notices_to(site, image, from, to, kind)?;
@@ -65,7 +66,8 @@ impl Mail {
         receivers: &[Instance],
         kind: &NoticeKind,
     ) -> Result<Vec<Notice>, NoMemory>
-        ensures { IfOk result (λ made. made.items ≡ notices (length self.now + 1) site image from receivers.now kind.now) }
+        ensures { IfOk result (λ made. made.items
+            ≡ notices (length self.now + 1) site image from receivers.now kind.now) }
     {
         let first = self.notices.len() as u64 + 1;
         let mut made = Vec::with_capacity(self.alloc, receivers.len())?;

@@ -30,11 +30,13 @@ abbrev pub run_command : App
 run_command = with_rule (new_app (codes "run")) (flag_rule (codes "trace"))
 
 abbrev pub gen_command : App
-gen_command = with_rule (with_rule (with_rule (new_app (codes "gen")) (valued (codes "seed"))) (valued (codes "clients"))) (valued (codes "commands"))
+gen_command = with_rule (with_rule (with_rule (new_app (codes "gen")) (valued (codes "seed")))
+    (valued (codes "clients"))) (valued (codes "commands"))
 
 -- the words have no program's name before them, and none asks for help
 abbrev pub lab_alone : App
-lab_alone = on_top (λ s. record s { no_binary_name = true; disable_help_flag = true; disable_help_subcommand = true }) (new_app (codes "rbd_lab"))
+lab_alone = on_top (λ s. record s { no_binary_name = true; disable_help_flag = true; disable_help_subcommand = true })
+    (new_app (codes "rbd_lab"))
 
 abbrev pub lab_command : App
 lab_command = with_subcommand (with_subcommand lab_alone run_command.top) gen_command.top
@@ -57,7 +59,8 @@ read None = Some None
 read (Some value) = option_map Some (once None (number value))
 
 abbrev pub options_by_numbers : (seed clients commands : Option (Option ℕ)) → Option Options
-options_by_numbers (Some seed) (Some clients) (Some commands) = Some (record { seed = seed; clients = clients; commands = commands })
+options_by_numbers (Some seed) (Some clients) (Some commands) =
+    Some (record { seed = seed; clients = clients; commands = commands })
 options_by_numbers seed clients commands = None
 
 abbrev pub numbers_of : (seed clients commands : Option Text) → Option Options
@@ -65,4 +68,5 @@ numbers_of seed clients commands = options_by_numbers (read seed) (read clients)
 
 -- the options that were told, none where a value isn't a number
 abbrev pub told_options : List Row → Option Options
-told_options rows = numbers_of (first_of (codes "seed") rows) (first_of (codes "clients") rows) (first_of (codes "commands") rows)
+told_options rows = numbers_of (first_of (codes "seed") rows) (first_of (codes "clients") rows)
+    (first_of (codes "commands") rows)

@@ -9,7 +9,8 @@ IsOption name n words = (words ≡ name ∷ decimal n ∷ []) ⊎ (words ≡ (na
 -- the three one after another, in any order
 abbrev pub AreInAnyOrder : (a b c words : List (List ℕ)) → Type 0
 AreInAnyOrder a b c words =
-    (words ≡ a ++ (b ++ c)) ⊎ (words ≡ a ++ (c ++ b)) ⊎ (words ≡ b ++ (a ++ c)) ⊎ (words ≡ b ++ (c ++ a)) ⊎ (words ≡ c ++ (a ++ b)) ⊎ (words ≡ c ++ (b ++ a))
+    (words ≡ a ++ (b ++ c)) ⊎ (words ≡ a ++ (c ++ b)) ⊎ (words ≡ b ++ (a ++ c)) ⊎ (words ≡ b ++ (c ++ a))
+    ⊎ (words ≡ c ++ (a ++ b)) ⊎ (words ≡ c ++ (b ++ a))
 
 -- The words are the three options of a load, behind `gen`.
 pub record SpellsLoad (load : Load) (words : List (List ℕ)) : Type 0 where

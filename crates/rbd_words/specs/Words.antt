@@ -31,8 +31,10 @@ number value = number_between 0 4294967295 value
 abbrev pub with_option : Options → (name value : List ℕ) → Option Options
 with_option told name value =
     if is (codes "--seed") name then option_map (λ n. record told { seed = Some n }) (once told.seed (number value))
-    else if is (codes "--clients") name then option_map (λ n. record told { clients = Some n }) (once told.clients (number value))
-    else if is (codes "--commands") name then option_map (λ n. record told { commands = Some n }) (once told.commands (number value))
+    else if is (codes "--clients") name then option_map (λ n. record told { clients = Some n })
+    (once told.clients (number value))
+    else if is (codes "--commands") name then option_map (λ n. record told { commands = Some n })
+    (once told.commands (number value))
     else None
 
 abbrev pub is_equals : ℕ → Bool
@@ -58,7 +60,8 @@ with_words told (word ∷ next ∷ words) =
 -- all three options, where their numbers are in their ranges
 abbrev pub load_by : (seed clients commands : Option ℕ) → Option Load
 load_by (Some seed) (Some clients) (Some commands) =
-    if nat_le 1 clients && nat_le clients 16 && nat_le commands 10000 then Some (record { seed = seed; clients = clients; commands = commands }) else None
+    if nat_le 1 clients && nat_le clients 16 && nat_le commands 10000
+    then Some (record { seed = seed; clients = clients; commands = commands }) else None
 load_by seed clients commands = None
 
 abbrev pub load_of : Options → Option Load
@@ -79,7 +82,8 @@ load_asked words = option_map Generate (option_and_then load_of (with_words no_o
 -- what the words ask for, none where they are others
 abbrev pub asked_for_by : List (List ℕ) → Option Asked
 asked_for_by [] = None
-asked_for_by (word ∷ words) = if is (codes "run") word then run_asked words else if is (codes "gen") word then load_asked words else None
+asked_for_by (word ∷ words) = if is (codes "run") word then run_asked words else if is (codes "gen") word
+    then load_asked words else None
 
 -- what is asked for is in its range
 abbrev pub IsInRange : Asked → Type 0

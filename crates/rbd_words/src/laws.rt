@@ -9,10 +9,12 @@ ghost use Rattle.rbd_words.specs.declared.load.Load.{Load};
 /// A load is asked for by its three options, in each order, with each value as the next word or
 /// behind `=`.
 pub fn loads_are_spelled()
-    ensures { (load : Load) (words : List (List ℕ)) → IsLoad load → SpellsLoad load words → asked_for_by (codes "gen" ∷ words) ≡ Some (Generate load) }
+    ensures { (load : Load) (words : List (List ℕ)) → IsLoad load → SpellsLoad load words
+        → asked_for_by (codes "gen" ∷ words) ≡ Some (Generate load) }
 {}
 
 /// No other words ask for a load, and none for one that is out of its range.
 pub fn only_such_words_ask_for_loads()
-    ensures { (load : Load) (words : List (List ℕ)) → asked_for_by words ≡ Some (Generate load) → AsksForLoad load words × IsLoad load }
+    ensures { (load : Load) (words : List (List ℕ)) → asked_for_by words ≡ Some (Generate load) → AsksForLoad load words
+        × IsLoad load }
 {}

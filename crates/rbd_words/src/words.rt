@@ -58,8 +58,10 @@ fn asked<'a>(matches: &ArgMatches<'a>) -> Option<Asked>
 
 /// What the options of `run` ask for.
 fn mode<'a>(matches: &ArgMatches<'a>) -> Mode
-    ensures trace { one_of (codes "trace") (rows_of (found_of matches.now)) ≡ Some (codes "true") → result ≡ Mode.Trace }
-    ensures replies { one_of (codes "trace") (rows_of (found_of matches.now)) ≡ Some (codes "false") → result ≡ Mode.Replies }
+    ensures trace { one_of (codes "trace") (rows_of (found_of matches.now)) ≡ Some (codes "true")
+        → result ≡ Mode.Trace }
+    ensures replies { one_of (codes "trace") (rows_of (found_of matches.now)) ≡ Some (codes "false")
+        → result ≡ Mode.Replies }
 {
     if matches.get_flag("trace") {
         Mode::Trace

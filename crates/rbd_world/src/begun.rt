@@ -29,7 +29,7 @@ impl BegunLines {
         self.lines.has(line)
     }
 
-    /// Makes room for a line. No line changes, also where memory is refused.
+    /// Makes room for a line. No line changes. NoMemory where that room is refused.
     pub fn reserve(&mut self, line: u32) -> Result<(), NoMemory>
         ensures lines { (other : ℕ) → has_line other self.new ≡ has_line other self.old }
         ensures ok { OnOk result (HasRoomToBegin line self.new) }

@@ -16,7 +16,7 @@ use rbd_machine::Request;
 use rbd_watch::Mail;
 
 /// The instance that a notice is for hears it: nothing where there is no such notice, or that
-/// instance doesn't run. Refused memory, nothing changes.
+/// instance doesn't run. NoMemory where memory is refused; then nothing changes.
 pub fn deliver<R: Request>(
     mail: &Mail,
     lives: &mut Vec<Lives<R>>,

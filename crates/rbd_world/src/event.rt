@@ -20,7 +20,7 @@ pub enum Event {
     Deliver {
         number: u64,
     },
-    /// The store ends the watch of an image by a session.
+    /// The store ends a session's watch of an image: that of its oldest instance that watches.
     Expire {
         session: SessionNo,
         site: SiteId,
@@ -30,7 +30,7 @@ pub enum Event {
     Stop {
         session: SessionNo,
     },
-    /// An operation comes that a slot of a session wanted when the session was last stopped.
+    /// An operation comes, once, that a slot of a session wanted when the session was last stopped.
     Late {
         session: SessionNo,
         slot: Slot,
@@ -54,8 +54,8 @@ pub enum Outcome {
     Nothing,
     /// The command has this slot.
     Submitted(Slot),
-    /// The slot waits: the line of its image, another's turn, a quiesce, or another one that wants
-    /// the lock holds its request back; or at slot 0 no lock is to be let go.
+    /// The slot waits: the line of its image, another's turn, a quiesce, or another client that
+    /// wants the lock holds its request back; or at slot 0 no lock is to be let go.
     Waits,
     /// One operation was done, with this number in its site's log. A request that is refused before
     /// any operation has its reply in a step with the number 0.

@@ -63,7 +63,8 @@ impl Foreseen {
     }
 }
 
-/// What an operation will come to at its site. Nothing changes.
+/// What an operation will come to at its site. Nothing changes. NoMemory where memory for it is
+/// refused.
 pub fn foresee(alloc: Global, sites: &Sites, due: &Due) -> Result<Foreseen, NoMemory>
     requires permitted { IsPermitted sites.now due.now.who due.now.site due.now.op }
     ensures fed { IfOk result (λ f. f.fed ≡ of_fed.Answer (answer_to (records_in due.now.site sites.now) due.now.who due.now.op)) }

@@ -20,7 +20,8 @@ use rbd_machine::Request;
 use std::alloc::Global;
 
 /// What a slot of a session wanted when it was stopped last comes, and doesn't again: nothing where
-/// it wanted nothing, or that has come. Refused memory, nothing was done, and it may still come.
+/// it wanted nothing, or that has come. NoMemory where memory is refused; then nothing was done,
+/// and it may still come.
 pub fn come<R: Request>(
     alloc: Global,
     sites: &mut Sites,

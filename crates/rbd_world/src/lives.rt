@@ -24,7 +24,7 @@ impl Model for Late {
 /// The lives of a session, one after another, each an instance of its own.
 #[derive(Drop)]
 pub struct Lives<R: Request> {
-    /// The site at which the session is.
+    /// The site at which the session is at home.
     pub home: SiteId,
     /// Its latest life.
     pub latest: Instance,

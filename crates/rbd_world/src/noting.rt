@@ -114,7 +114,8 @@ fn unfenced(cause: Cause, site: SiteId, number: u64, effect: Option<Shared<Effec
     }
 }
 
-/// Notes a stop, and each line that it lost. Refused memory, nothing is noted.
+/// Notes a stop, and each line that it lost. NoMemory where memory is refused; then nothing is
+/// noted.
 pub fn note_stop(history: &mut Vec<Entry>, who: &Instance, lost: &[u32]) -> Result<(), NoMemory>
     ensures ok { OnOk result (history.new.items ≡ history.old.items ++ of_entry.Stop who.now.session ∷ map of_entry.Lost lost.now) }
     ensures err { OnErr result (history.new.items ≡ history.old.items) }

@@ -40,8 +40,8 @@ pub struct Acting {
 }
 
 /// Does the operation that is wanted where somebody acts, at its site, feeds who acts there, and
-/// notes it in the history: nothing where none is wanted. Refused memory, nothing was done, and the
-/// client is where it was.
+/// notes it in the history: nothing where none is wanted. NoMemory where memory is refused; then
+/// nothing was done, and the client is where it was.
 pub fn operate<R: Request>(
     alloc: Global,
     sites: &mut Sites,
@@ -92,7 +92,7 @@ pub fn operate<R: Request>(
 }
 
 /// Does an operation of an instance that was stopped, which nobody is fed, and notes it in the
-/// history. Refused memory, nothing was done.
+/// history. NoMemory where memory is refused; then nothing was done.
 pub fn send(
     alloc: Global,
     sites: &mut Sites,

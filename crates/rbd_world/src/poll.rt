@@ -25,7 +25,8 @@ use rbd_machine::Request;
 use std::alloc::Global;
 
 /// The client of a session that runs is polled at a slot: nothing where none does. The history has
-/// room for what comes of it. Refused memory, nothing was done, and the client is where it was.
+/// room for what comes of it. NoMemory where memory is refused; then nothing was done, and the
+/// client is where it was.
 pub fn poll<R: Request>(
     alloc: Global,
     sites: &mut Sites,

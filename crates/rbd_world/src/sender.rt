@@ -14,7 +14,7 @@ pub enum Sender {
     Itself(u32),
     /// The command of a line, on its way to the lock of its image.
     OnWay(u32),
-    /// An instance that lets a lock go.
+    /// The house of an instance, which lets a lock go.
     House,
     /// An instance that was stopped, whose slot wanted it then.
     AfterStop(Slot),
@@ -33,7 +33,7 @@ impl Sender {
         }
     }
 
-    /// Why its request asks for it.
+    /// Why the operation is asked for.
     pub fn reason(&self) -> Reason
         ensures { result ≡ reason_of (doer_of self.now) }
     {

@@ -14,8 +14,8 @@ use rbd_site::{Done, DoneOp, Site};
 use rbd_watch::Mail;
 use std::alloc::Global;
 
-/// Both sites (clusters), each with its own records and its own log, and what both told those that
-/// watch: one numbering of notices serves both.
+/// Both sites (clusters), each with its own records and its own log, and the notices that both
+/// posted: one numbering serves both.
 #[derive(Drop)]
 pub struct Sites {
     pub a: Site,
@@ -65,8 +65,8 @@ pub fn latest(log: &[Done]) -> Option<&Op>
     }
 }
 
-/// The operation that is due is done at its site, and its answer is what its sender is fed. Refused
-/// memory, nothing was done.
+/// The operation that is due is done at its site, and its answer is what its sender is fed.
+/// NoMemory where memory is refused; then nothing was done.
 pub fn apply(sites: &mut Sites, due: Due, fed: &Fed) -> Result<(), NoMemory>
     requires may { MayDo (records_in due.site sites.old) due.who due.op }
     requires fed { fed.now ≡ of_fed.Answer (answer_to (records_in due.site sites.old) due.who due.op) }

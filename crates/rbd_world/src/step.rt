@@ -25,7 +25,8 @@ use rbd_kinds::NoMemory;
 use rbd_machine::Machine;
 use std::alloc::Global;
 
-/// Does what an event does, notes it, and keeps its call. Refused memory, nothing happened.
+/// Does what an event does, notes it, and keeps its call. NoMemory where memory is refused; then
+/// nothing happened.
 pub fn step_parts(
     alloc: Global,
     sites: &mut Sites,

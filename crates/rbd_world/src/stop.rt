@@ -17,7 +17,8 @@ use rbd_machine::Request;
 use std::alloc::Global;
 
 /// The client of a session is gone, with its lines that have no reply: nothing where none runs.
-/// What each of its slots wants may still come. Refused memory, nothing changes.
+/// What each of its slots wants may still come. NoMemory where memory is refused; then nothing
+/// changes.
 pub fn stop<R: Request>(
     alloc: Global,
     lives: &mut Vec<Lives<R>>,
@@ -58,7 +59,8 @@ fn stop_life<R: Request>(
     Ok(Outcome::Stopped)
 }
 
-/// What a client leaves behind, and what is noted of its stop. Refused memory, nothing is noted.
+/// What a client leaves behind, and what is noted of its stop. NoMemory where memory is refused;
+/// then nothing is noted.
 fn leave<R: Request>(
     alloc: Global,
     client: &Client<R>,
@@ -122,8 +124,8 @@ fn place_of(lines: &[u32], line: u32) -> usize
 }
 
 /// A session that doesn't run begins its next life, whose client knows nothing: nothing where there
-/// is no such session, where it runs, or where there is no number for the life. Refused memory,
-/// nothing changes.
+/// is no such session, where it runs, or where there is no number for the life. NoMemory where
+/// memory is refused; then nothing changes.
 pub fn restart<R: Request>(
     alloc: Global,
     lives: &mut Vec<Lives<R>>,

@@ -1,4 +1,4 @@
-//! A client begins a command.
+//! A session begins a command.
 ghost use Rattle.std.specs.Prelude.{◌≡◌, ◌+◌, ◌≤◌, ℕ, true, Some, IfOk, OnOk, OnErr};
 ghost use Rattle.std.specs.Vec.{vec_capacity, vec_len};
 ghost use Rattle.rbd_client.specs.Sound.{IsSoundClient};
@@ -28,9 +28,9 @@ pub struct SessionLine {
     pub line: u32,
 }
 
-/// A client begins the command of a line, in its lowest free slot: nothing where no client of the
-/// session runs, where it has no free slot, or where the line was begun before. Refused memory,
-/// nothing changes.
+/// A session begins the command of a line, in its lowest free slot: nothing where it doesn't run,
+/// has no free slot, or the line was begun before. NoMemory where memory is refused; then nothing
+/// changes.
 pub fn submit(
     alloc: Global,
     lives: &mut Vec<Lives<SessionRequest>>,
@@ -119,7 +119,7 @@ fn begin(
     Ok(Outcome::Submitted(slot))
 }
 
-/// Whether a client began a command.
+/// Whether a command was begun.
 fn has_begun(outcome: &Outcome) -> bool
     ensures { result ≡ is_start outcome.now }
 {

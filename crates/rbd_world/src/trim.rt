@@ -8,8 +8,8 @@ use crate::sites::Sites;
 use rbd_kinds::{ImageId, NoMemory, SessionNo, SiteId};
 use rbd_site::Site;
 
-/// The store trims an object: nothing where there is no such object. Refused memory, nothing
-/// changes.
+/// The store trims an object: nothing where there is no such object. NoMemory where memory is
+/// refused; then nothing changes.
 pub fn trim(
     sites: &mut Sites,
     site: SiteId,
@@ -39,7 +39,7 @@ fn trim_at(at: &mut Site, site: SiteId, image: ImageId, object: u64) -> Result<O
 }
 
 /// The store ends the watch of an image by a session, which is that of its oldest instance that
-/// watches: nothing where none does. Refused memory, nothing changes.
+/// watches: nothing where none does. NoMemory where memory is refused; then nothing changes.
 pub fn expire(
     sites: &mut Sites,
     session: SessionNo,

@@ -70,8 +70,8 @@ impl Model for World {
 }
 
 impl World {
-    /// A world of sessions at these sites, at most 32, each in its first life. The sites are empty,
-    /// and nothing happened.
+    /// A world of sessions that are at home at these sites, at most 32, each in its first life. The
+    /// sites are empty, and nothing happened. NoMemory where memory for it is refused.
     pub fn new(alloc: Global, homes: &[SiteId]) -> Result<Self, NoMemory>
         requires { length homes.now ≤ 32 }
         ensures new { IfOk result (λ w. IsNewWorld as_is (seen w)) }
@@ -111,9 +111,9 @@ impl World {
         drop(book);
     }
 
-    /// One event. What it does, and what comes of it, is a function of the world (`happening`).
-    /// Refused memory, nothing happened; and the event behind 2^59 - 1 others is refused so. A
-    /// command that isn't built is ruled out.
+    /// One event. What it does, and what comes of it, is a function of the world (`happening`). A
+    /// command that isn't built is ruled out. NoMemory where memory is refused, and for the event
+    /// behind 2^59 - 1 others; then nothing happened.
     pub fn step(&mut self, alloc: Global, event: &Event) -> Result<Outcome, NoMemory>
         requires built { IsBuiltEvent event.now }
         ensures step { IfOk result (λ outcome. IsWorldStep as_is event.now (seen self.old) outcome (seen self.new)) }
@@ -131,7 +131,7 @@ impl World {
         Ok(outcome)
     }
 
-    /// The event of a poll: as [`World::step`], for who has no event at hand.
+    /// The event of a poll: as [`World::step`], for whoever has no event at hand.
     pub fn poll(
         &mut self,
         alloc: Global,

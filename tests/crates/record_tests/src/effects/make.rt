@@ -50,7 +50,7 @@ fn directory(rt: &impl Abort, alloc: Global, kind: OpKind) -> Result<DirectoryOp
         OpKind::DirRemove => DirectoryOp::Remove { image: DISK },
         OpKind::DirRename => DirectoryOp::Rename {
             from: old,
-            to: name(rt, alloc, b"new")?,
+            to: Shared::new(alloc, name(rt, alloc, b"new")?)?,
         },
         _ => DirectoryOp::List,
     })
@@ -173,15 +173,15 @@ fn map(alloc: Global, kind: OpKind) -> MapOp {
     }
 }
 
-fn journal(alloc: Global, kind: OpKind) -> JournalOp {
-    match kind {
+fn journal(alloc: Global, kind: OpKind) -> Result<JournalOp, NoMemory> {
+    Ok(match kind {
         OpKind::JournalCreate => JournalOp::Create {
             spans: Spans::new(alloc),
         },
         OpKind::JournalTag => JournalOp::Tag,
         OpKind::JournalAppend => JournalOp::Append {
             position: Position { tag: TAG, seq: 1 },
-            frame: Bytes::new(alloc),
+            frame: Shared::new(alloc, Bytes::new(alloc))?,
         },
         OpKind::JournalRead => JournalOp::Read { seq: 1 },
         OpKind::JournalSpans => JournalOp::Spans,
@@ -191,7 +191,7 @@ fn journal(alloc: Global, kind: OpKind) -> JournalOp {
             seq: 1,
         },
         _ => JournalOp::Remove,
-    }
+    })
 }
 
 /// An operation of a kind, by the begin of its word.
@@ -218,7 +218,7 @@ pub fn op(rt: &impl Abort, alloc: Global, kind: OpKind) -> Result<Op, NoMemory> 
     if word.starts_with("journal-") {
         return Ok(Op::Journal {
             image: DISK,
-            op: journal(alloc, kind),
+            op: journal(alloc, kind)?,
         });
     }
     Ok(Op::Header {

@@ -204,7 +204,7 @@ fn a_secondary_shows_how_it_follows(rt: HostRuntime) -> Result<(), Fail> {
 
 #[test]
 fn a_stuck_secondary_names_the_snapshot(rt: HostRuntime) -> Result<(), Fail> {
-    let state = MirrorState::Stuck(name(&rt, rt.alloc(), b"s")?);
+    let state = MirrorState::Stuck(Shared::new(rt.alloc(), name(&rt, rt.alloc(), b"s")?)?);
     assert!(rt; secondary_shows(&rt, rt.alloc(), state, "ok secondary 5 stuck s"));
     Ok(())
 }

@@ -2,7 +2,7 @@
 use super::operations::image;
 use crate::fixtures::{ME, OWNER};
 use rbd_client::Client;
-use rbd_kinds::{Bytes, NoMemory, Notice, NoticeKind, SiteId};
+use rbd_kinds::{Bytes, NoMemory, Notice, NoticeKind, Shared, SiteId};
 use rbd_machine::Request;
 use std::alloc::Global;
 
@@ -11,7 +11,7 @@ fn said(alloc: Global, word: &str) -> Result<NoticeKind, NoMemory> {
     Ok(match word {
         "RequestLock" => NoticeKind::RequestLock,
         "ReleasedLock" => NoticeKind::ReleasedLock,
-        _ => NoticeKind::Custom(Bytes::from_slice(alloc, word.as_bytes())?),
+        _ => NoticeKind::Custom(Shared::new(alloc, Bytes::from_slice(alloc, word.as_bytes())?)?),
     })
 }
 

@@ -1,7 +1,7 @@
 //! Steps by their words: an operation with its answer, a notice, a quiesce and its end.
 use rbd_kinds::{
     Answer, Bytes, HeaderOp, ImageAt, ImageId, Instance, NoMemory, Notice, NoticeKind, Op,
-    SessionNo, SiteId,
+    SessionNo, Shared, SiteId,
 };
 use rbd_lock::Locks;
 use std::alloc::Global;
@@ -90,7 +90,7 @@ pub fn step(alloc: Global, locks: &mut Locks, at: &ImageAt, words: &str) -> Resu
         "Custom" => hear(
             locks,
             at,
-            NoticeKind::Custom(Bytes::from_slice(alloc, b"lock")?),
+            NoticeKind::Custom(Shared::new(alloc, Bytes::from_slice(alloc, b"lock")?)?),
         ),
         "quiesce" => quiesce(locks, at),
         "resume" => resume(locks, at),
