@@ -34,7 +34,8 @@ each_is_lawful seat = record {
   snaps = λ c is. at_plan (snap_plan seat.home c) (lawful_snap nothing_at seat.home c);
   resizes = λ c is. lawful_resize_request seat.home c;
   rollbacks = λ c is. lawful_rollback_request seat.home c;
-  removes = λ c is. at_plan (remove_plan seat.home seat.session c) (lawful_remove_plan nothing_at seat.home seat.session c);
+  removes = λ c is. at_plan (remove_plan seat.home seat.session c)
+      (lawful_remove_plan nothing_at seat.home seat.session c);
   closes = λ c is. lawful_request seat.home c;
 }
 

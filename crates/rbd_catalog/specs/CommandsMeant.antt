@@ -49,21 +49,30 @@ journalless (step ∷ steps) (is, are) = (no_journal step.answer is, journalless
 
 -- ---- the commands whose replies are meant of such images
 
-module _ (seat : Seat) (feds : List Fed) (steps : List Answered) (r : Reply) (given : AreGiven steps) (standalone : TellAllStandalone steps) where
-  discard_plan_means : (c : Command) → is_discard c ≡ true → IsWalk Goto (discard_plan seat.home c) feds steps (Return r) → IsMeantBy seat c steps r
-  discard_plan_means (command.Discard image at len) is walk = discard_means seat.home image at len feds steps r given (parentless steps standalone) walk
+module _ (seat : Seat) (feds : List Fed) (steps : List Answered) (r : Reply) (given : AreGiven steps)
+    (standalone : TellAllStandalone steps) where
+  discard_plan_means : (c : Command) → is_discard c ≡ true
+      → IsWalk Goto (discard_plan seat.home c) feds steps (Return r) → IsMeantBy seat c steps r
+  discard_plan_means (command.Discard image at len) is walk = discard_means seat.home image at len feds steps r given
+      (parentless steps standalone) walk
   discard_plan_means _ is walk = cc
 
-  resize_plan_means : (c : Command) → is_resize c ≡ true → IsWalk Goto (resize_plan seat.home c) feds steps (Return r) → IsMeantBy seat c steps r
-  resize_plan_means (command.Resize image size) is walk = resize_means seat.home image size feds steps r given (parentless steps standalone) walk
+  resize_plan_means : (c : Command) → is_resize c ≡ true → IsWalk Goto (resize_plan seat.home c) feds steps (Return r)
+      → IsMeantBy seat c steps r
+  resize_plan_means (command.Resize image size) is walk = resize_means seat.home image size feds steps r given
+      (parentless steps standalone) walk
   resize_plan_means _ is walk = cc
 
-  rollback_plan_means : (c : Command) → is_rollback c ≡ true → IsWalk Goto (rollback_plan seat.home c) feds steps (Return r) → IsMeantBy seat c steps r
-  rollback_plan_means (command.SnapRollback image snap) is walk = rollback_means seat.home image snap feds steps r given (parentless steps standalone) walk
+  rollback_plan_means : (c : Command) → is_rollback c ≡ true
+      → IsWalk Goto (rollback_plan seat.home c) feds steps (Return r) → IsMeantBy seat c steps r
+  rollback_plan_means (command.SnapRollback image snap) is walk = rollback_means seat.home image snap feds steps r given
+      (parentless steps standalone) walk
   rollback_plan_means _ is walk = cc
 
-  remove_plan_means : (c : Command) → is_remove c ≡ true → IsWalk Goto (remove_plan seat.home seat.session c) feds steps (Return r) → IsMeantBy seat c steps r
-  remove_plan_means (command.Remove image) is walk = remove_means_without seat.home seat.session image feds steps r given (journalless steps standalone) walk
+  remove_plan_means : (c : Command) → is_remove c ≡ true → IsWalk Goto (remove_plan seat.home seat.session c) feds steps
+      (Return r) → IsMeantBy seat c steps r
+  remove_plan_means (command.Remove image) is walk =
+      remove_means_without seat.home seat.session image feds steps r given (journalless steps standalone) walk
   remove_plan_means _ is walk = cc
 
   -- ---- all of them
@@ -83,6 +92,8 @@ module _ (seat : Seat) (feds : List Fed) (steps : List Answered) (r : Reply) (gi
   }
 
 pub command_is_meant : (seat : Seat) (c : Command) (s : Standing) (feds : List Fed) (steps : List Answered) (r : Reply)
-    → IsPlanFor seat c s → AreGiven steps → TellAllStandalone steps → IsWalk s.labels s.plan feds steps (Return r) → IsMeantBy seat c steps r
+    → IsPlanFor seat c s → AreGiven steps → TellAllStandalone steps → IsWalk s.labels s.plan feds steps (Return r)
+    → IsMeantBy seat c steps r
 command_is_meant seat c s feds steps r is given standalone walk =
-    of_command seat (λ (of : Command) (at : Standing). IsWalk at.labels at.plan feds steps (Return r) → IsMeantBy seat of steps r) (each_is_meant seat feds steps r given standalone) c s is walk
+    of_command seat (λ (of : Command) (at : Standing). IsWalk at.labels at.plan feds steps (Return r)
+    → IsMeantBy seat of steps r) (each_is_meant seat feds steps r given standalone) c s is walk

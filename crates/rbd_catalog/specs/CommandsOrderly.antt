@@ -33,8 +33,10 @@ use Rattle.rbd_catalog.specs.Plans.{IsPlanFor, planned}
 use Rattle.rbd_catalog.specs.Profile.{between, extent_beside, profile}
 
 -- a request without labels stands at an orderly plan
-at_plan : (e : Option Extent) (plan : Plan) → IsOrderly e begins_in_no_line true beginning plan → IsClosed Goto plan → IsOrderlyFrom e true beginning (without_labels plan)
-at_plan e plan orderly closed = record { at = begins_in_no_line; orderly = orderly; closed = closed; labels = λ label asks. absurd asks }
+at_plan : (e : Option Extent) (plan : Plan) → IsOrderly e begins_in_no_line true beginning plan → IsClosed Goto plan
+    → IsOrderlyFrom e true beginning (without_labels plan)
+at_plan e plan orderly closed =
+    record { at = begins_in_no_line; orderly = orderly; closed = closed; labels = λ label asks. absurd asks }
 
 -- ---- who changes no extent beside others takes no turns
 
@@ -46,28 +48,40 @@ each_is_orderly seat = record {
   writes = λ c is writes discards. cc;
   discards = λ c is writes discards. cc;
   reads = λ c s is writes discards. orderly_read seat.home c s is;
-  creates = λ c plan is writes discards. at_plan None plan (orderly_create seat.home c plan is) (closed_create seat.home c plan is);
-  lists = λ c is writes discards. at_plan None (listing_plan seat.home c) (orderly_listing None seat.home c) (closed_listing seat.home c);
-  snaps = λ c is writes discards. at_plan None (snap_plan seat.home c) (orderly_snap seat.home c) (closed_snap seat.home c);
-  resizes = λ c is writes discards. at_plan None (resize_plan seat.home c) (orderly_size seat.home c) (closed_resize_plan seat.home c);
-  rollbacks = λ c is writes discards. at_plan None (rollback_plan seat.home c) (orderly_rollback seat.home c) (closed_rollback_plan seat.home c);
-  removes = λ c is writes discards. at_plan None (remove_plan seat.home seat.session c) (orderly_remove seat.home seat.session c) (closed_request seat.home seat.session c);
+  creates = λ c plan is writes discards. at_plan None plan (orderly_create seat.home c plan is)
+      (closed_create seat.home c plan is);
+  lists = λ c is writes discards. at_plan None (listing_plan seat.home c) (orderly_listing None seat.home c)
+      (closed_listing seat.home c);
+  snaps = λ c is writes discards. at_plan None (snap_plan seat.home c) (orderly_snap seat.home c)
+      (closed_snap seat.home c);
+  resizes = λ c is writes discards. at_plan None (resize_plan seat.home c) (orderly_size seat.home c)
+      (closed_resize_plan seat.home c);
+  rollbacks = λ c is writes discards. at_plan None (rollback_plan seat.home c) (orderly_rollback seat.home c)
+      (closed_rollback_plan seat.home c);
+  removes = λ c is writes discards. at_plan None (remove_plan seat.home seat.session c)
+      (orderly_remove seat.home seat.session c) (closed_request seat.home seat.session c);
   closes = λ c is writes discards. orderly_from seat.home c;
 }
 
 -- ---- all of them
 
-beside : (e : Extent) (plan : Plan) (s : Standing) → IsOrderly (Some e) begins_in_no_line true beginning plan → IsClosed Goto plan → planned plan ≡ Some s → IsOrderlyFrom (Some e) true beginning s
-beside e plan s orderly closed is = of_plan (IsOrderlyFrom (Some e) true beginning) plan s is (at_plan (Some e) plan orderly closed)
+beside : (e : Extent) (plan : Plan) (s : Standing) → IsOrderly (Some e) begins_in_no_line true beginning plan
+    → IsClosed Goto plan → planned plan ≡ Some s → IsOrderlyFrom (Some e) true beginning s
+beside e plan s orderly closed is = of_plan (IsOrderlyFrom (Some e) true beginning) plan s is
+    (at_plan (Some e) plan orderly closed)
 
-pub command_is_orderly : (seat : Seat) (c : Command) (s : Standing) → IsPlanFor seat c s → IsOrderlyFrom (extent_beside (profile c)) true beginning s
+pub command_is_orderly : (seat : Seat) (c : Command) (s : Standing) → IsPlanFor seat c s
+    → IsOrderlyFrom (extent_beside (profile c)) true beginning s
 command_is_orderly seat (command.Write name from bytes) s is =
     let c = command.Write name from bytes in
-    beside (extent_at from bytes) (write_plan seat.home c) s (orderly_write seat.home name from bytes) (closed_write_plan seat.home c) is
+    beside (extent_at from bytes) (write_plan seat.home c) s (orderly_write seat.home name from bytes)
+    (closed_write_plan seat.home c) is
 command_is_orderly seat (command.Fill name from len byte) s is =
     let c = command.Fill name from len byte in
-    beside (between from len) (write_plan seat.home c) s (orderly_fill seat.home name from len byte) (closed_write_plan seat.home c) is
+    beside (between from len) (write_plan seat.home c) s (orderly_fill seat.home name from len byte)
+    (closed_write_plan seat.home c) is
 command_is_orderly seat (command.Discard name from len) s is =
     let c = command.Discard name from len in
-    beside (between from len) (discard_plan seat.home c) s (orderly_discard seat.home name (between from len)) (closed_discard_plan seat.home c) is
+    beside (between from len) (discard_plan seat.home c) s (orderly_discard seat.home name (between from len))
+    (closed_discard_plan seat.home c) is
 command_is_orderly seat c s is = of_command seat IsOrderlyAlone (each_is_orderly seat) c s is refl refl

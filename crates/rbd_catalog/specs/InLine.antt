@@ -28,7 +28,8 @@ IsAtTurn site image turn s o = ⊥
 -- Whatever it is answered, the plan looks at headers, and sets states and changes objects of the
 -- image at their turns; it joins no line, and leaves none before it ends.
 abbrev pub KeepsTo : SiteId → (image : ℕ) → (turn : Option ℕ) → Plan → Type 0
-KeepsTo site image turn (Ask s why o next) = IsAtTurn site image turn s o × ((answer : Answer) → KeepsTo site image turn (next answer))
+KeepsTo site image turn (Ask s why o next) = IsAtTurn site image turn s o
+    × ((answer : Answer) → KeepsTo site image turn (next answer))
 KeepsTo site image turn (Await (wait.Hold s i) next) = KeepsTo site image turn next
 KeepsTo site image turn (Await (wait.Turn number) next) = KeepsTo site image (Some number) next
 KeepsTo site image turn (Await (wait.Applied s i) next) = KeepsTo site image None next

@@ -39,10 +39,12 @@ wider exponent many value later =
 
 is_power : (exponent many value : ℕ) → is_power_from exponent many value ≡ true → IsPowerIn exponent many value
 is_power exponent zero value told = cc
-is_power exponent (suc many) value told = go (value == 2 ^ exponent) refl told (λ is. wider exponent many value (is_power (suc exponent) many value is))
+is_power exponent (suc many) value told =
+    go (value == 2 ^ exponent) refl told (λ is. wider exponent many value (is_power (suc exponent) many value is))
   where
     go : (b : Bool) → (value == 2 ^ exponent) ≡ b → (b || is_power_from (suc exponent) many value) ≡ true
-        → (is_power_from (suc exponent) many value ≡ true → IsPowerIn exponent (suc many) value) → IsPowerIn exponent (suc many) value
+        → (is_power_from (suc exponent) many value ≡ true → IsPowerIn exponent (suc many) value)
+        → IsPowerIn exponent (suc many) value
     go true here told later = record {
       power = exponent;
       least = (let le : exponent ≤ exponent = omega arith in le);
@@ -51,19 +53,24 @@ is_power exponent (suc many) value told = go (value == 2 ^ exponent) refl told (
     }
     go false here told later = later told
 
-tells_power : (exponent many value power : ℕ) → exponent ≤ power → power < exponent + many → value ≡ 2 ^ power → is_power_from exponent many value ≡ true
+tells_power : (exponent many value power : ℕ) → exponent ≤ power → power < exponent + many → value ≡ 2 ^ power
+    → is_power_from exponent many value ≡ true
 tells_power exponent zero value power least below is = absurd (omega (arith, least, below))
 tells_power exponent (suc many) value power least below is =
     go (value == 2 ^ exponent) refl
-    (λ next. tells_power (suc exponent) many value power next (let lt : power < suc exponent + many = omega (arith, below) in lt) is)
+    (λ next. tells_power (suc exponent) many value power next
+    (let lt : power < suc exponent + many = omega (arith, below) in lt) is)
   where
-    further : (value == 2 ^ exponent) ≡ false → (exponent < power) ⊎ ((exponent ≡ power) ⊎ (power < exponent)) → suc exponent ≤ power
+    further : (value == 2 ^ exponent) ≡ false → (exponent < power) ⊎ ((exponent ≡ power) ⊎ (power < exponent))
+        → suc exponent ≤ power
     further here (inl less) = omega (arith, less)
     further here (inr (inl same)) =
-        let so : (value == 2 ^ exponent) ≡ true = eq-eqb value (2 ^ exponent) (subst (λ k. value ≡ 2 ^ k) (sym same) is) in cc
+        let so : (value == 2 ^ exponent) ≡ true =
+        eq-eqb value (2 ^ exponent) (subst (λ k. value ≡ 2 ^ k) (sym same) is) in cc
     further here (inr (inr more)) = absurd (omega (arith, least, more))
 
-    go : (b : Bool) → (value == 2 ^ exponent) ≡ b → (suc exponent ≤ power → is_power_from (suc exponent) many value ≡ true)
+    go : (b : Bool) → (value == 2 ^ exponent) ≡ b
+        → (suc exponent ≤ power → is_power_from (suc exponent) many value ≡ true)
         → (b || is_power_from (suc exponent) many value) ≡ true
     go true here later = refl
     go false here later = later (further here (cases_lt exponent power))
@@ -88,9 +95,11 @@ unit_below l h k is = go (cases_lt k 26)
 -- ---- layouts
 
 -- over any bounds on exponents, so that nothing computes
-module _ (l : Layout) (objects units from most : ℕ) (first : from ≡ 12) (second : most ≡ 9) (third : objects ≡ 14) (fourth : units ≡ 17) where
+module _ (l : Layout) (objects units from most : ℕ) (first : from ≡ 12) (second : most ≡ 9) (third : objects ≡ 14)
+    (fourth : units ≡ 17) where
   abbrev is_so : Bool
-  is_so = is_power_from from objects l.object && (is_power_from most units l.unit && (nat_le l.unit l.object && (nat_le 1 l.count && nat_le l.count 16)))
+  is_so = is_power_from from objects l.object &&
+      (is_power_from most units l.unit && (nat_le l.unit l.object && (nat_le 1 l.count && nat_le l.count 16)))
 
   is_one : is_so ≡ true → IsLayout l
   is_one told =
@@ -104,7 +113,12 @@ module _ (l : Layout) (objects units from most : ℕ) (first : from ≡ 12) (sec
       let below : object.power < from + objects = object.below in
       let low : most ≤ unit.power = unit.least in
       record {
-        object = (object.power, (let le : 12 ≤ object.power = omega (arith, least, first) in le), (let le : object.power ≤ 25 = omega (arith, below, first, third) in le), object.is);
+        object = (
+          object.power,
+          (let le : 12 ≤ object.power = omega (arith, least, first) in le),
+          (let le : object.power ≤ 25 = omega (arith, below, first, third) in le),
+          object.is,
+        );
         unit = (unit.power, (let le : 9 ≤ unit.power = omega (arith, low, second) in le), unit.is);
         unit_within = leb-true l.unit l.object c.0;
         count = (leb-true 1 l.count d.0, leb-true l.count 16 d.1);
@@ -117,10 +131,13 @@ module _ (l : Layout) (objects units from most : ℕ) (first : from ≡ 12) (sec
       let low : 9 ≤ h.unit.0 = h.unit.1 in
       let few : h.unit.0 < 26 = unit_below l h h.unit.0 h.unit.2 in
       both_are (is_power_from from objects l.object) _
-      (tells_power from objects l.object h.object.0 (let le : from ≤ h.object.0 = omega (arith, least, first) in le) (let lt : h.object.0 < from + objects = omega (arith, high, first, third) in lt) h.object.3)
+      (tells_power from objects l.object h.object.0 (let le : from ≤ h.object.0 = omega (arith, least, first) in le)
+      (let lt : h.object.0 < from + objects = omega (arith, high, first, third) in lt) h.object.3)
       (both_are (is_power_from most units l.unit) _
-      (tells_power most units l.unit h.unit.0 (let le : most ≤ h.unit.0 = omega (arith, low, second) in le) (let lt : h.unit.0 < most + units = omega (arith, few, second, fourth) in lt) h.unit.2)
-      (both_are (nat_le l.unit l.object) _ (le-leb l.unit l.object h.unit_within) (both_are (nat_le 1 l.count) (nat_le l.count 16) (le-leb 1 l.count h.count.0) (le-leb l.count 16 h.count.1))))
+      (tells_power most units l.unit h.unit.0 (let le : most ≤ h.unit.0 = omega (arith, low, second) in le)
+      (let lt : h.unit.0 < most + units = omega (arith, few, second, fourth) in lt) h.unit.2)
+      (both_are (nat_le l.unit l.object) _ (le-leb l.unit l.object h.unit_within)
+      (both_are (nat_le 1 l.count) (nat_le l.count 16) (le-leb 1 l.count h.count.0) (le-leb l.count 16 h.count.1))))
 
 pub limits_are_told : (l : Layout) (size : ℕ) → (keeps_limits l size ≡ true) ↔ KeepsLimits l size
 limits_are_told l size = (keeps, told)
@@ -132,4 +149,5 @@ limits_are_told l size = (keeps, told)
         record { is_layout = layout; objects = (few_decides l size layout).0 both.1 }
 
     told : KeepsLimits l size → keeps_limits l size ≡ true
-    told k = both_are (is_layout l) (has_few_objects l size) (is_told l 14 17 12 9 refl refl refl refl k.is_layout) ((few_decides l size k.is_layout).1 k.objects)
+    told k = both_are (is_layout l) (has_few_objects l size) (is_told l 14 17 12 9 refl refl refl refl k.is_layout)
+        ((few_decides l size k.is_layout).1 k.objects)

@@ -23,7 +23,8 @@ AreNoLooks [] = Unit {0}
 AreNoLooks (o ∷ ops) = IsNoLook o × AreNoLooks ops
 
 -- they leave each course as it is
-pub leaves_course : (e : Option Extent) (c : Course) (site : SiteId) (o : Op) (a : Answer) → IsNoLook o → answered e c site o a ≡ c
+pub leaves_course : (e : Option Extent) (c : Course) (site : SiteId) (o : Op) (a : Answer) → IsNoLook o
+    → answered e c site o a ≡ c
 leaves_course e c site (op.Header image header.Get) a no_look = absurd no_look
 leaves_course e c site o a no_look = refl
 
@@ -34,11 +35,13 @@ module _ (image : ℕ) where
   behind_link None ops are = are
   behind_link (Some link) ops are = (tt, are)
 
-  behind_objects : (used : List ℕ) (ops : List Op) → AreNoLooks ops → AreNoLooks (map (removing_object image) used ++ ops)
+  behind_objects : (used : List ℕ) (ops : List Op) → AreNoLooks ops
+      → AreNoLooks (map (removing_object image) used ++ ops)
   behind_objects [] ops are = are
   behind_objects (n ∷ used) ops are = (tt, behind_objects used ops are)
 
-  behind_maps : (snaps : List SnapView) (ops : List Op) → AreNoLooks ops → AreNoLooks (map (removing_map_of image) snaps ++ ops)
+  behind_maps : (snaps : List SnapView) (ops : List Op) → AreNoLooks ops
+      → AreNoLooks (map (removing_map_of image) snaps ++ ops)
   behind_maps [] ops are = are
   behind_maps (s ∷ snaps) ops are = (tt, behind_maps snaps ops are)
 

@@ -36,35 +36,44 @@ use Rattle.rbd_catalog.specs.OrderlyParts.{orderly_gather, orderly_on_bits, begi
 
 module _ (e : Option Extent) where
   orderly_closing : (site : SiteId) (image : ℕ) (seen : Seen) (read : List ℕ) (a : Answer)
-      → IsOrderly e begins_in_no_line true (answered e beginning site (op.Header image header.Get) a) (on_closing seen read a)
+      → IsOrderly e begins_in_no_line true (answered e beginning site (op.Header image header.Get) a)
+      (on_closing seen read a)
   orderly_closing site image seen read (answer.Header h) = go (eqb h.generation seen.generation)
     where
-      go : (b : Bool) → IsOrderly e begins_in_no_line true beginning (cond b (Return (reply.Bytes (shown_bytes seen read))) (Goto label.Begin))
+      go : (b : Bool) → IsOrderly e begins_in_no_line true beginning
+          (cond b (Return (reply.Bytes (shown_bytes seen read))) (Goto label.Begin))
       go true = tt
       go false = refl
   orderly_closing site image seen read answer.Absent = refl
-  orderly_closing site image seen read a = orderly_not_there e begins_in_no_line (answered e beginning site (op.Header image header.Get) a) a
+  orderly_closing site image seen read a =
+      orderly_not_there e begins_in_no_line (answered e beginning site (op.Header image header.Get) a) a
 
-  orderly_viewing : (site : SiteId) (image : ℕ) (h : HeaderView) (extent : Extent) (view : Option View) → IsOrderly e begins_in_no_line true beginning (viewing site image h extent view)
+  orderly_viewing : (site : SiteId) (image : ℕ) (h : HeaderView) (extent : Extent) (view : Option View)
+      → IsOrderly e begins_in_no_line true beginning (viewing site image h extent view)
   orderly_viewing site image h extent None = tt
   orderly_viewing site image h extent (Some view) =
-      orderly_unless e begins_in_no_line beginning (out_of_range extent view.size) (gathering site image h extent view) (λ fits.
-      orderly_gather e beginning refl (pieces_of h.layout extent) site image view.snap [] (closing site image (seen_at h extent))
+      orderly_unless e begins_in_no_line beginning (out_of_range extent view.size) (gathering site image h extent view)
+      (λ fits.
+      orderly_gather e beginning refl (pieces_of h.layout extent) site image view.snap []
+      (closing site image (seen_at h extent))
       (λ read. (refl, λ a can. orderly_closing site image (seen_at h extent) read a)))
 
-  orderly_pass : (site : SiteId) (name : List ℕ) (snap : Option (List ℕ)) (extent : Extent) → IsOrderly e begins_in_no_line true beginning (pass site name snap extent)
+  orderly_pass : (site : SiteId) (name : List ℕ) (snap : Option (List ℕ)) (extent : Extent)
+      → IsOrderly e begins_in_no_line true beginning (pass site name snap extent)
   orderly_pass site name snap extent = (
     refl,
     λ found can.
         orderly_on_id e begins_in_no_line beginning (looking site snap extent) (λ image. (
           refl,
-          orderly_on_header e begins_in_no_line image (answered e beginning site (op.Header image header.Get)) (read_by_header site snap extent image) (λ h form.
+          orderly_on_header e begins_in_no_line image (answered e beginning site (op.Header image header.Get))
+              (read_by_header site snap extent image) (λ h form.
               orderly_viewing site image h extent (view_of h snap)),
         )) found,
   )
 
   read_is_orderly : (site : SiteId) (name : List ℕ) (snap : Option (List ℕ)) (extent : Extent)
-      → IsOrderlyFrom e true beginning (record { labels = read_labels site name snap extent; plan = pass site name snap extent })
+      → IsOrderlyFrom e true beginning
+      (record { labels = read_labels site name snap extent; plan = pass site name snap extent })
   read_is_orderly site name snap extent = record {
     at = begins_in_no_line;
     orderly = orderly_pass site name snap extent;
@@ -72,62 +81,78 @@ module _ (e : Option Extent) where
     labels = λ label asks. (orderly_pass site name snap extent, closed_pass site name snap extent);
   }
 
-pub orderly_read : (site : SiteId) (c : Command) (s : Standing) → IsReadOf site c s → IsOrderlyFrom None true beginning s
+pub orderly_read : (site : SiteId) (c : Command) (s : Standing) → IsReadOf site c s
+    → IsOrderlyFrom None true beginning s
 orderly_read site (command.Read image snap from len) s is =
-    subst (IsOrderlyFrom None true beginning) (sym is) (read_is_orderly None site image snap (record { at = from; len = len }))
+    subst (IsOrderlyFrom None true beginning) (sym is)
+    (read_is_orderly None site image snap (record { at = from; len = len }))
 orderly_read site _ s is = absurd is
 
 -- ---- create, and what shows something or renames an image
 
 module _ (e : Option Extent) where
-  orderly_on_drawn : (next : ℕ → Plan) → ((image : ℕ) → IsOrderly e begins_in_no_line true beginning (next image)) → (a : Answer) → IsOrderly e begins_in_no_line true beginning (on_drawn next a)
+  orderly_on_drawn : (next : ℕ → Plan) → ((image : ℕ) → IsOrderly e begins_in_no_line true beginning (next image))
+      → (a : Answer) → IsOrderly e begins_in_no_line true beginning (on_drawn next a)
   orderly_on_drawn next orderly (answer.Id image) = orderly image
   orderly_on_drawn next orderly answer.Exists = tt
   orderly_on_drawn next orderly answer.Full = tt
   orderly_on_drawn next orderly a = orderly_not_there e begins_in_no_line beginning a
 
-  orderly_drawing : (site : SiteId) (name : List ℕ) (objects : ℕ) (h : HeaderView) → IsOrderly e begins_in_no_line true beginning (drawing site name objects h)
+  orderly_drawing : (site : SiteId) (name : List ℕ) (objects : ℕ) (h : HeaderView)
+      → IsOrderly e begins_in_no_line true beginning (drawing site name objects h)
   orderly_drawing site name objects h = (
     refl,
     λ drawn can.
         orderly_on_drawn (mapping site objects h) (λ image. (
           refl,
           λ mapped can.
-              orderly_on_done e begins_in_no_line beginning (making site h image) (refl, λ a can. orderly_on_done e begins_in_no_line beginning (Return reply.Done) tt a) mapped,
+              orderly_on_done e begins_in_no_line beginning (making site h image)
+              (refl, λ a can. orderly_on_done e begins_in_no_line beginning (Return reply.Done) tt a) mapped,
         )) drawn,
   )
 
-  orderly_is_create : (site : SiteId) (name : List ℕ) (size : ℕ) (shape : Shape) (plan : Plan) → IsCreate site name size shape plan → IsOrderly e begins_in_no_line true beginning plan
+  orderly_is_create : (site : SiteId) (name : List ℕ) (size : ℕ) (shape : Shape) (plan : Plan)
+      → IsCreate site name size shape plan → IsOrderly e begins_in_no_line true beginning plan
   orderly_is_create site name size shape plan is = go (limits_or_not (layout_of shape) size)
     where
-      go : KeepsLimits (layout_of shape) size ⊎ (KeepsLimits (layout_of shape) size → ⊥) → IsOrderly e begins_in_no_line true beginning plan
-      go (inl keeps) = subst (IsOrderly e begins_in_no_line true beginning) (sym (is.within keeps)) (orderly_drawing site name is.objects (new_header (layout_of shape) size))
+      go : KeepsLimits (layout_of shape) size ⊎ (KeepsLimits (layout_of shape) size → ⊥)
+          → IsOrderly e begins_in_no_line true beginning plan
+      go (inl keeps) = subst (IsOrderly e begins_in_no_line true beginning) (sym (is.within keeps))
+          (orderly_drawing site name is.objects (new_header (layout_of shape) size))
       go (inr fails) = subst (IsOrderly e begins_in_no_line true beginning) (sym (is.outside fails)) tt
 
-  orderly_on_names : (next : List (List ℕ) → Plan) → ((names : List (List ℕ)) → IsOrderly e begins_in_no_line true beginning (next names)) → (a : Answer) → IsOrderly e begins_in_no_line true beginning (on_names next a)
+  orderly_on_names : (next : List (List ℕ) → Plan)
+      → ((names : List (List ℕ)) → IsOrderly e begins_in_no_line true beginning (next names)) → (a : Answer)
+      → IsOrderly e begins_in_no_line true beginning (on_names next a)
   orderly_on_names next orderly (answer.Names names) = orderly names
   orderly_on_names next orderly a = orderly_not_there e begins_in_no_line beginning a
 
-  orderly_show_header : (site : SiteId) (name : List ℕ) (shown : HeaderView → Reply) → IsOrderly e begins_in_no_line true beginning (show_header site name shown)
+  orderly_show_header : (site : SiteId) (name : List ℕ) (shown : HeaderView → Reply)
+      → IsOrderly e begins_in_no_line true beginning (show_header site name shown)
   orderly_show_header site name shown = (
     refl,
     λ found can.
         orderly_on_id e begins_in_no_line beginning (showing site shown) (λ image. (
           refl,
-          orderly_on_header e begins_in_no_line image (answered e beginning site (op.Header image header.Get)) (λ h. Return (shown h)) (λ h form. tt),
+          orderly_on_header e begins_in_no_line image (answered e beginning site (op.Header image header.Get))
+              (λ h. Return (shown h)) (λ h form. tt),
         )) found,
   )
 
-  orderly_show_used : (site : SiteId) (name : List ℕ) → IsOrderly e begins_in_no_line true beginning (show_used site name)
+  orderly_show_used : (site : SiteId) (name : List ℕ)
+      → IsOrderly e begins_in_no_line true beginning (show_used site name)
   orderly_show_used site name = (
     refl,
     λ found can.
         orderly_on_id e begins_in_no_line beginning (measuring site) (λ image. (
           refl,
-          orderly_on_header e begins_in_no_line image (answered e beginning site (op.Header image header.Get)) (λ h. counting site image (object_count h.layout h.size)) (λ h form. (
-            refl,
-            λ told can. orderly_on_bits e beginning refl (λ bits. Return (reply.Used (used_among (object_count h.layout h.size) bits) (object_count h.layout h.size))) (λ bits. tt) told,
-          )),
+          orderly_on_header e begins_in_no_line image (answered e beginning site (op.Header image header.Get))
+              (λ h. counting site image (object_count h.layout h.size)) (λ h form. (
+                refl,
+                λ told can. orderly_on_bits e beginning refl
+                    (λ bits. Return (reply.Used (used_among (object_count h.layout h.size) bits)
+                    (object_count h.layout h.size))) (λ bits. tt) told,
+              )),
         )) found,
   )
 
@@ -136,14 +161,17 @@ module _ (e : Option Extent) where
   orderly_on_renamed answer.Exists = tt
   orderly_on_renamed a = orderly_not_there e begins_in_no_line beginning a
 
-  pub orderly_listing : (site : SiteId) (c : Command) → IsOrderly e begins_in_no_line true beginning (listing_plan site c)
-  orderly_listing site command.List = (refl, λ a can. orderly_on_names (λ names. Return (reply.Names names)) (λ names. tt) a)
+  pub orderly_listing : (site : SiteId) (c : Command)
+      → IsOrderly e begins_in_no_line true beginning (listing_plan site c)
+  orderly_listing site command.List =
+      (refl, λ a can. orderly_on_names (λ names. Return (reply.Names names)) (λ names. tt) a)
   orderly_listing site (command.Info image) = orderly_show_header site image reply.Info
   orderly_listing site (command.SnapList image) = orderly_show_header site image shown_snaps
   orderly_listing site (command.Used image) = orderly_show_used site image
   orderly_listing site (command.Rename from to) = (refl, λ a can. orderly_on_renamed a)
   orderly_listing site _ = tt
 
-pub orderly_create : (site : SiteId) (c : Command) (plan : Plan) → IsCreatePlan site c plan → IsOrderly None begins_in_no_line true beginning plan
+pub orderly_create : (site : SiteId) (c : Command) (plan : Plan) → IsCreatePlan site c plan
+    → IsOrderly None begins_in_no_line true beginning plan
 orderly_create site (command.Create image size shape) plan is = orderly_is_create None site image size shape plan is
 orderly_create site _ plan is = absurd is

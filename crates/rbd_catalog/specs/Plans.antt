@@ -42,7 +42,8 @@ is_power_from exponent (suc many) value = (value == 2 ^ exponent) || is_power_fr
 abbrev pub is_layout : Layout → Bool
 is_layout layout =
     is_power_from 12 14 layout.object
-    && (is_power_from 9 17 layout.unit && (nat_le layout.unit layout.object && (nat_le 1 layout.count && nat_le layout.count 16)))
+    && (is_power_from 9 17 layout.unit &&
+    (nat_le layout.unit layout.object && (nat_le 1 layout.count && nat_le layout.count 16)))
 
 -- And the size has few objects.
 abbrev pub keeps_limits : Layout → (size : ℕ) → Bool
@@ -76,7 +77,8 @@ plan_of seat (command.Write image at bytes) = planned (write seat.home image at 
 plan_of seat (command.Fill image at len byte) = planned (write seat.home image at (replicate len byte))
 plan_of seat (command.Discard image at len) = planned (discard seat.home image (between at len))
 plan_of seat (command.Read image snap at len) = Some (read_from seat.home image snap (between at len))
-plan_of seat (command.Create image size shape) = unless_journaled shape (create_at seat.home image size (layout_of shape))
+plan_of seat (command.Create image size shape) =
+    unless_journaled shape (create_at seat.home image size (layout_of shape))
 plan_of seat command.List = planned (list_names seat.home)
 plan_of seat (command.Info image) = planned (show_header seat.home image reply.Info)
 plan_of seat (command.Used image) = planned (show_used seat.home image)

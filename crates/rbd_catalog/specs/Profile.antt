@@ -82,7 +82,8 @@ look_row image kinds answers once = record {
 }
 
 -- a change of an image, alone or beside others
-abbrev pub change_row : (image : List ℕ) → Sharing → Option Extent → Option JournalEvent → List OpKind → (each once : ℕ) → Told
+abbrev pub change_row : (image : List ℕ) → Sharing → Option Extent → Option JournalEvent → List OpKind → (each once : ℕ)
+    → Told
     → Profile
 change_row image sharing extent event kinds each once told = record {
   image = Some image;
@@ -109,7 +110,8 @@ kinds_that_size = kind.MapResize ∷ kind.MapGet ∷ kind.HeaderSetSize ∷ kind
 
 abbrev pub kinds_that_remove : List OpKind
 kinds_that_remove =
-    kind.WatchersGet ∷ kind.MapGet ∷ kind.DirRemove ∷ kind.HeaderRemove ∷ kind.ChildRemove ∷ kind.DataRemove ∷ kind.MapRemove
+    kind.WatchersGet ∷ kind.MapGet ∷ kind.DirRemove ∷ kind.HeaderRemove ∷ kind.ChildRemove ∷ kind.DataRemove
+    ∷ kind.MapRemove
     ∷ kind.JournalRemove ∷ []
 
 abbrev pub kinds_that_tell : Option (List ℕ) → List OpKind
@@ -119,7 +121,8 @@ kinds_that_tell (Some bytes) = kind.Notify ∷ []
 -- The row of a straight command, which does this to a quiesce. No request serves the others yet.
 abbrev pub straight_row : Quiescing → Option Straight → Profile
 straight_row q None = look_row None [] HasNone 0
-straight_row q (Some s) = record (look_row (Some s.name) (kind.DirFind ∷ kinds_that_tell s.tells) IsDone (operations_of s)) { quiescing = q }
+straight_row q (Some s) = record (look_row (Some s.name) (kind.DirFind ∷ kinds_that_tell s.tells) IsDone
+    (operations_of s)) { quiescing = q }
 
 -- ---- the rows
 
@@ -131,11 +134,16 @@ abbrev pub profile : Command → Profile
 profile (command.Write image at bytes) =
     change_row image sharing.Shared (Some (extent_at at bytes)) (Some (event.Write at bytes)) kinds_that_put 2 3 Nothing
 profile (command.Fill image at len byte) =
-    change_row image sharing.Shared (Some (between at len)) (Some (event.Write at (replicate len byte))) kinds_that_put 2 3 Nothing
+    change_row image sharing.Shared (Some (between at len))
+    (Some (event.Write at (replicate len byte))) kinds_that_put 2 3 Nothing
 profile (command.Discard image at len) =
     change_row image sharing.Discard (Some (between at len)) (Some (event.Discard at len)) kinds_that_zero 3 3 Nothing
 profile (command.Read image snap at len) =
-    record (look_row (Some image) (kind.DirFind ∷ kind.HeaderGet ∷ kind.DataRead ∷ []) ShowsBytes 3) { extent = Some (between at len); each = 1 }
+    record (look_row (Some image) (kind.DirFind ∷ kind.HeaderGet ∷ kind.DataRead ∷ []) ShowsBytes 3) {
+      extent = Some
+          (between at len);
+      each = 1;
+    }
 -- image
 profile (command.Create image size shape) =
     look_row None (kind.DirAdd ∷ kind.MapResize ∷ kind.HeaderCreate ∷ []) IsDone 3
@@ -148,15 +156,21 @@ profile (command.Resize image size) =
 profile (command.Remove image) = change_row image sharing.Alone None None kinds_that_remove 0 11 OfMap
 -- snap
 profile (command.SnapCreate image snap) =
-    change_row image sharing.Alone None (Some (event.SnapCreate snap)) (kind.MapGet ∷ kind.MapPut ∷ kind.HeaderSnapAdd ∷ []) 0 6 Nothing
+    change_row image sharing.Alone None (Some (event.SnapCreate snap))
+    (kind.MapGet ∷ kind.MapPut ∷ kind.HeaderSnapAdd ∷ []) 0 6 Nothing
 profile (command.SnapRemove image snap) =
-    change_row image sharing.Alone None (Some (event.SnapRemove snap)) (kind.HeaderSnapRemove ∷ kind.MapRemove ∷ []) 0 5 Nothing
+    change_row image sharing.Alone None (Some (event.SnapRemove snap))
+    (kind.HeaderSnapRemove ∷ kind.MapRemove ∷ []) 0 5 Nothing
 profile (command.SnapRollback image snap) =
-    change_row image sharing.Alone None (Some (event.SnapRollback snap)) (kind.DataRead ∷ kind.DataWriteFull ∷ kinds_that_size) 0 5 (OfSnap snap)
+    change_row image sharing.Alone None (Some (event.SnapRollback snap))
+    (kind.DataRead ∷ kind.DataWriteFull ∷ kinds_that_size) 0 5 (OfSnap snap)
 profile (command.SnapList image) = look_row (Some image) (kind.DirFind ∷ kind.HeaderGet ∷ []) ShowsSnaps 2
 -- session
 profile (command.Close image) =
-    record (change_row image sharing.Alone None None [] 0 4 Nothing) { kinds = kind.DirFind ∷ kind.LockDrop ∷ kind.Notify ∷ kind.Unwatch ∷ [] }
+    record (change_row image sharing.Alone None None [] 0 4 Nothing) {
+      kinds = kind.DirFind ∷ kind.LockDrop
+          ∷ kind.Notify ∷ kind.Unwatch ∷ [];
+    }
 profile (command.Quiesce image) =
     record (change_row image sharing.Alone None None [] 0 3 Nothing) { quiescing = quiescing.Begins }
 profile c = straight_row (quiescing_of c) (straight_of c)

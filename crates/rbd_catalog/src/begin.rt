@@ -89,7 +89,8 @@ impl Request for SessionRequest {
 
     ghost lawful = { λ seat command s _ stands. command_is_lawful seat command s stands };
 
-    ghost meant = { λ seat command s feds steps reply _ stands given standalone walk. command_is_meant seat command s feds steps reply stands given standalone walk };
+    ghost meant = { λ seat command s feds steps reply _ stands given standalone walk. command_is_meant seat command s
+        feds steps reply stands given standalone walk };
 }
 
 /// The request of a command that joins no line.

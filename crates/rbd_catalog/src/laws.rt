@@ -44,20 +44,23 @@ pub fn commands_are_lawful()
 /// has a parent or a journal. No other reply comes.
 pub fn commands_are_meant()
     ensures { (seat : Seat) (command : Command) (s : Standing) (feds : List Fed) (steps : List Answered) (reply : Reply)
-        → IsPlanFor seat command s → AreGiven steps → TellAllStandalone steps → IsWalk s.labels s.plan feds steps (Return reply) → IsMeantBy seat command steps reply }
+        → IsPlanFor seat command s → AreGiven steps → TellAllStandalone steps
+        → IsWalk s.labels s.plan feds steps (Return reply) → IsMeantBy seat command steps reply }
 {}
 
 /// The request of a command keeps to its line (`rbd_machine`). A write, a fill and a discard take
 /// their turns at the objects that their look under the lock tells of their extent, and no other
 /// command takes any.
 pub fn commands_are_orderly()
-    ensures { (seat : Seat) (command : Command) (s : Standing) → IsPlanFor seat command s → IsOrderlyFrom (extent_beside (profile command)) true beginning s }
+    ensures { (seat : Seat) (command : Command) (s : Standing) → IsPlanFor seat command s
+        → IsOrderlyFrom (extent_beside (profile command)) true beginning s }
 {}
 
 /// The request of a command that changes an extent takes all the turns that its look under the lock
 /// tells, each once, before it is done.
 pub fn turns_are_those_of_the_extent()
-    ensures { (seat : Seat) (command : Command) (s : Standing) (e : Extent) → IsPlanFor seat command s → extent_beside (profile command) ≡ Some e → TakesTurns e s.plan }
+    ensures { (seat : Seat) (command : Command) (s : Standing) (e : Extent) → IsPlanFor seat command s
+        → extent_beside (profile command) ≡ Some e → TakesTurns e s.plan }
 {}
 
 /// The number of operations of a request is bounded by the number of objects that its extent
@@ -69,15 +72,20 @@ pub fn commands_are_bounded()
     ensures pass { (seat : Seat) (command : Command) (s : Standing) (most : ℕ)
         → IsPlanFor seat command s → is_nothing (profile command).told ≡ true → HasAtMost most (profile command).extent
         → AsksAtMost s.plan (most_operations (profile command) most) }
-    ensures all { (seat : Seat) (command : Command) (s : Standing) (most : ℕ) (feds : List Fed) (steps : List Answered) (last : Plan)
-        → IsPlanFor seat command s → HasAtMost most (profile command).extent → AreGiven steps → IsWalk s.labels s.plan feds steps last
-        → length steps ≤ (1 + jumps s.labels s.plan feds) * most_operations (profile command) most + more_by (profile command).told steps }
+    ensures all { (seat : Seat) (command : Command) (s : Standing) (most : ℕ) (feds : List Fed) (steps : List Answered)
+        (last : Plan)
+        → IsPlanFor seat command s → HasAtMost most (profile command).extent → AreGiven steps
+        → IsWalk s.labels s.plan feds steps last
+        → length steps ≤ (1 + jumps s.labels s.plan feds) * most_operations (profile command) most + more_by
+        (profile command).told steps }
 {}
 
 /// Where a request that isn't a read looks at a header, what isn't there and the fence end it.
 pub fn looks_refuse_what_isnt_there()
-    ensures { (seat : Seat) (command : Command) (s : Standing) (feds : List Fed) (steps : List Answered) (site : SiteId) (why : Reason) (image : ℕ) (next : Answer → Plan) (a : Answer)
-        → IsPlanFor seat command s → is_read command ≡ false → IsWalk s.labels s.plan feds steps (Ask site why (Header image Get) next)
+    ensures { (seat : Seat) (command : Command) (s : Standing) (feds : List Fed) (steps : List Answered) (site : SiteId)
+        (why : Reason) (image : ℕ) (next : Answer → Plan) (a : Answer)
+        → IsPlanFor seat command s
+        → is_read command ≡ false → IsWalk s.labels s.plan feds steps (Ask site why (Header image Get) next)
         → EndsIt a → next a ≡ not_there a }
 {}
 
@@ -91,5 +99,6 @@ pub fn commands_look_once()
 /// The request of a command that changes an extent goes beside others: it looks its image up first,
 /// joins the image's line, and behind that keeps to it, whatever header it is told.
 pub fn extents_change_in_line()
-    ensures { (seat : Seat) (command : Command) (s : Standing) → IsPlanFor seat command s → IsSome (extent_beside (profile command)) → ChangesInLine seat.home s }
+    ensures { (seat : Seat) (command : Command) (s : Standing) → IsPlanFor seat command s
+        → IsSome (extent_beside (profile command)) → ChangesInLine seat.home s }
 {}

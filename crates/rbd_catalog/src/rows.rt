@@ -100,7 +100,8 @@ pub fn only_kinds_of_the_row_are_asked_for()
 pub fn only_kinds_of_the_row_were_done()
     ensures kind { (seat : Seat) (c : Command) (s : Standing) (feds : List Fed) (steps : List Answered) (last : Plan)
         → IsPlanFor seat c s → IsWalk s.labels s.plan feds steps last → AreOfKinds (profile c).kinds steps }
-    ensures none { (these : OpKind → Bool) (seat : Seat) (c : Command) (s : Standing) (feds : List Fed) (steps : List Answered)
+    ensures none { (these : OpKind → Bool) (seat : Seat) (c : Command) (s : Standing) (feds : List Fed)
+        (steps : List Answered)
         (last : Plan)
         → has_none_of these (profile c) ≡ true → IsPlanFor seat c s → IsWalk s.labels s.plan feds steps last
         → AreNoneOf these steps }
@@ -108,7 +109,8 @@ pub fn only_kinds_of_the_row_were_done()
 
 /// No request but a read goes to a label: no other begins again.
 pub fn only_reads_begin_again()
-    ensures { (seat : Seat) (c : Command) (s : Standing) → IsPlanFor seat c s → is_read c ≡ false → s ≡ without_labels s.plan }
+    ensures { (seat : Seat) (c : Command) (s : Standing) → IsPlanFor seat c s → is_read c ≡ false
+        → s ≡ without_labels s.plan }
 {}
 
 /// A quiesce that joins its line beside others doesn't follow its row.

@@ -49,7 +49,8 @@ impl<I: Read> Source for StdSource<I> {
 
         // Where the reader's own contract tells its bytes: they are handed on in order, and none is
         // lost.
-        ensures handed_on { ReadConsumes (I.remaining (reader_of self.old)) (I.remaining (reader_of self.new)) result into.new }
+        ensures handed_on { ReadConsumes (I.remaining (reader_of self.old))
+            (I.remaining (reader_of self.new)) result into.new }
     {
         for _ in 0..TRIES {
             match self.reader.read(into) {
@@ -104,7 +105,8 @@ impl<O: Write> Sink for StdSink<O> {
         ensures failed { OnErr result (write_faults self.new ≡ write_faults self.old + 1) }
 
         // Where the writer's own contract tells what it holds: the first bytes are appended.
-        ensures handed_on { WriteAppends (O.contents (writer_of self.old)) (O.contents (writer_of self.new)) result bytes.now }
+        ensures handed_on { WriteAppends (O.contents (writer_of self.old))
+            (O.contents (writer_of self.new)) result bytes.now }
     {
         for _ in 0..TRIES {
             match self.writer.write(bytes) {

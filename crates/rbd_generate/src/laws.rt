@@ -12,7 +12,8 @@ ghost use Rattle.rbd_generate.specs.Summary.{command_count};
 pub fn scripts_have_their_size()
     ensures clients { (load : Load) → length (script_of load).sessions ≡ load.clients }
     ensures images { (load : Load) → count_by makes_image (generated_lines load) ≡ load.clients }
-    ensures commands { (load : Load) → command_count (generated_lines load) ≡ load.clients + load.commands * load.clients }
+    ensures commands { (load : Load)
+        → command_count (generated_lines load) ≡ load.clients + load.commands * load.clients }
 {}
 
 /// Each command behind those that make the images is about some bytes inside its image: so none is

@@ -91,7 +91,8 @@ fn settle(load: &Load) -> Line
 /// Adds the commands of all turns.
 fn push_commands(alloc: Global, lines: &mut Lines, load: &Load) -> Result<(), NoMemory>
     requires { IsLoad load.now }
-    ensures { OnOk result (lines.new ≡ lines.old ++ map (command_line load.now) (range_with_len 0 (load.now.commands * load.now.clients))) }
+    ensures { OnOk result (lines.new ≡ lines.old ++ map (command_line load.now)
+        (range_with_len 0 (load.now.commands * load.now.clients))) }
 {
     for at in 0..commands(load) {
         lines.push(command_line(alloc, load, at)?)?;

@@ -102,7 +102,8 @@ fn add_ends(table: &mut HashMap<u64, Ends>, key: u64, place: usize)
 pub fn shorten(table: &mut HashMap<u64, Ends>, link: TicketLink)
     requires { 0 < (ends_or (get nat_eq table.old link.key)).count }
     ensures ends { (k : ℕ) → ends_or (get nat_eq table.new k)
-        ≡ cond (nat_eq link.key k) (or_none (shorter (ends_or (get nat_eq table.old link.key)) link)) (ends_or (get nat_eq table.old k)) }
+        ≡ cond (nat_eq link.key k) (or_none (shorter (ends_or (get nat_eq table.old link.key)) link))
+        (ends_or (get nat_eq table.old k)) }
     ensures room { spare table.old ≤ spare table.new }
 {
     let Some(held) = table.get_mut(&link.key) else {

@@ -47,7 +47,8 @@ impl Model for Guard {
       queues = g.queues.entries;
       lists = g.lists.entries;
       drawn = g.drawn;
-      reserved = min (min (min g.slab.room (spare g.places)) (min (spare g.queues) (spare g.lists))) (2 ^ 64 - 1 - g.drawn);
+      reserved = min (min (min g.slab.room (spare g.places)) (min (spare g.queues) (spare g.lists)))
+          (2 ^ 64 - 1 - g.drawn);
     } };
 
     ghost invariant = { λ g. AreHeld (record {

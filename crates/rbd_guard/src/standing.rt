@@ -22,7 +22,8 @@ pub fn enter_queue(slab: &mut Slab, queues: &mut HashMap<u64, Ends>, object: u64
     ensures number { (p : ℕ) → number_at slab.new.places p ≡ number_at slab.old.places p }
     ensures room { slab.new.room ≡ slab.old.room }
     ensures ends { (k : ℕ) → ends_or (get nat_eq queues.new k)
-        ≡ cond (nat_eq object k) (longer (ends_or (get nat_eq queues.old object)) at) (ends_or (get nat_eq queues.old k)) }
+        ≡ cond (nat_eq object k) (longer (ends_or (get nat_eq queues.old object)) at)
+        (ends_or (get nat_eq queues.old k)) }
     ensures room_of_ends { spare queues.old ≤ spare queues.new + 1 }
 {
     let last = lengthen(queues, object, at);
@@ -41,7 +42,8 @@ pub fn enter_list(slab: &mut Slab, lists: &mut HashMap<u64, Ends>, request: u64,
     ensures number { (p : ℕ) → number_at slab.new.places p ≡ number_at slab.old.places p }
     ensures room { slab.new.room ≡ slab.old.room }
     ensures ends { (k : ℕ) → ends_or (get nat_eq lists.new k)
-        ≡ cond (nat_eq request k) (longer (ends_or (get nat_eq lists.old request)) at) (ends_or (get nat_eq lists.old k)) }
+        ≡ cond (nat_eq request k) (longer (ends_or (get nat_eq lists.old request)) at)
+        (ends_or (get nat_eq lists.old k)) }
     ensures room_of_ends { spare lists.old ≤ spare lists.new + 1 }
 {
     let last = lengthen(lists, request, at);
@@ -58,7 +60,8 @@ pub fn leave_queue(slab: &mut Slab, queues: &mut HashMap<u64, Ends>, link: Ticke
     ensures number { (p : ℕ) → number_at slab.new.places p ≡ number_at slab.old.places p }
     ensures room { slab.new.room ≡ slab.old.room }
     ensures ends { (k : ℕ) → ends_or (get nat_eq queues.new k)
-        ≡ cond (nat_eq link.key k) (or_none (shorter (ends_or (get nat_eq queues.old link.key)) link)) (ends_or (get nat_eq queues.old k)) }
+        ≡ cond (nat_eq link.key k) (or_none (shorter (ends_or (get nat_eq queues.old link.key)) link))
+        (ends_or (get nat_eq queues.old k)) }
     ensures room_of_ends { spare queues.old ≤ spare queues.new }
 {
     slab.link_queue_after(link.before, link.after);
@@ -75,7 +78,8 @@ pub fn leave_list(slab: &mut Slab, lists: &mut HashMap<u64, Ends>, link: TicketL
     ensures number { (p : ℕ) → number_at slab.new.places p ≡ number_at slab.old.places p }
     ensures room { slab.new.room ≡ slab.old.room }
     ensures ends { (k : ℕ) → ends_or (get nat_eq lists.new k)
-        ≡ cond (nat_eq link.key k) (or_none (shorter (ends_or (get nat_eq lists.old link.key)) link)) (ends_or (get nat_eq lists.old k)) }
+        ≡ cond (nat_eq link.key k) (or_none (shorter (ends_or (get nat_eq lists.old link.key)) link))
+        (ends_or (get nat_eq lists.old k)) }
     ensures room_of_ends { spare lists.old ≤ spare lists.new }
 {
     slab.link_list_after(link.before, link.after);

@@ -61,7 +61,8 @@ pub record TellsAWorld (mode : Mode) (script : Script) (text : List ℕ) : Type 
 -- The commands that are ok, refused and unfinished are all commands, together.
 abbrev pub AddsUp : Script → (history : List Entry) → Type 0
 AddsUp script history =
-    command_count script.lines ≡ count_by is_granted history + count_by refuses history + count_by (is_unfinished history) script.lines
+    command_count script.lines
+    ≡ count_by is_granted history + count_by refuses history + count_by (is_unfinished history) script.lines
 
 -- The text sums up a world to which the generated script was played, and its counts add up.
 pub record IsSummed (load : Load) (text : List ℕ) : Type 0 where

@@ -61,21 +61,26 @@ pub record Devices : Type 0 where
   pub write_faults : ℕ
 
 abbrev pub devices : (left held : Option (List ℕ)) → (read_faults write_faults : ℕ) → Devices
-devices left held read_faults write_faults = record { left = left; held = held; read_faults = read_faults; write_faults = write_faults }
+devices left held read_faults write_faults =
+    record { left = left; held = held; read_faults = read_faults; write_faults = write_faults }
 
 -- the status tells whether a count of faults rose
 abbrev pub TellsFaults : Status → Status → (faults faults' : ℕ) → Type 0
-TellsFaults fault status faults faults' = ((status ≡ fault) ↔ (faults' ≡ faults + 1)) × (status ≢ fault → faults' ≡ faults)
+TellsFaults fault status faults faults' = ((status ≡ fault) ↔ (faults' ≡ faults + 1))
+    × (status ≢ fault → faults' ≡ faults)
 
 -- ---- the ends of a run, by what it was asked for
 
 -- A script was asked for. It ends in any way but by the usage line.
 pub record IsScriptRun (mode : Mode) (status : Status) (old new : Devices) : Type 0 where
   -- the source was read to its end, its bytes are a script, and its output was printed
-  pub done : status ≡ Done → IfSome old.left (λ bytes. Prints (IsOutput mode bytes) old.held new.held × (new.left ≡ Some []))
+  pub done : status ≡ Done → IfSome old.left
+      (λ bytes. Prints (IsOutput mode bytes) old.held new.held × (new.left ≡ Some []))
   -- the source was read to its end or one byte past the limit, and the first line that doesn't fit
   -- was printed
-  pub bad_line : status ≡ BadLine → IfSome old.left (λ bytes. Prints (IsComplaint bytes) old.held new.held × (new.left ≡ Some (drop (limit + 1) bytes)))
+  pub bad_line : status ≡ BadLine
+      → IfSome old.left (λ bytes. Prints (IsComplaint bytes) old.held new.held
+      × (new.left ≡ Some (drop (limit + 1) bytes)))
   pub usage : status ≢ Usage
   -- the faults come exactly where a device counted one
   pub read_fault : TellsFaults ReadFault status old.read_faults new.read_faults
@@ -90,7 +95,8 @@ pub record IsScriptRun (mode : Mode) (status : Status) (old new : Devices) : Typ
 
 -- A load was asked for: a script is generated, and not read. It is done, or the sink failed, or
 -- memory was refused.
-pub record IsLoadRun (load : Load) (status : Status) (held held' : Option (List ℕ)) (write_faults write_faults' : ℕ) : Type 0 where
+pub record IsLoadRun (load : Load) (status : Status) (held held' : Option (List ℕ))
+    (write_faults write_faults' : ℕ) : Type 0 where
   pub ends : (status ≡ Done) ⊎ (status ≡ WriteFault) ⊎ (status ≡ NoMemory)
   pub done : status ≡ Done → Prints (IsSummed load) held held'
   pub write_fault : TellsFaults WriteFault status write_faults write_faults'

@@ -20,6 +20,7 @@ pub fn runs_end_done<S: Source>()
 /// A script has one text as replies and one as a trace, and a load has one summary: the words and
 /// the source alone tell what is printed with status 0.
 pub fn scripts_have_one_text()
-    ensures told { (mode : Mode) (script : Script) (one other : List ℕ) → TellsAWorld mode script one → TellsAWorld mode script other → one ≡ other }
+    ensures told { (mode : Mode) (script : Script) (one other : List ℕ)
+        → TellsAWorld mode script one → TellsAWorld mode script other → one ≡ other }
     ensures summed { (load : Load) (one other : List ℕ) → IsSummed load one → IsSummed load other → one ≡ other }
 {}

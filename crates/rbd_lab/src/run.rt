@@ -60,7 +60,9 @@ pub fn run<R: Threads + Wait + Sync, S: Source, K: Sink>(
 ) -> Status
     requires source_countable { S.faults source.old < 2 ^ 64 - 1 }
     requires sink_countable { K.faults sink.old < 2 ^ 64 - 1 }
-    ensures { IsRun (map (λ w. string_bytes w) words.now) result source.old source.new (devices (S.left source.old) (K.held sink.old) (S.faults source.old) (K.faults sink.old)) (devices (S.left source.new) (K.held sink.new) (S.faults source.new) (K.faults sink.new)) }
+    ensures { IsRun (map (λ w. string_bytes w) words.now) result source.old source.new
+        (devices (S.left source.old) (K.held sink.old) (S.faults source.old) (K.faults sink.old))
+        (devices (S.left source.new) (K.held sink.new) (S.faults source.new) (K.faults sink.new)) }
 {
     run_alone(alloc, words, source, sink)
 }
@@ -80,7 +82,9 @@ pub fn run_alone<S: Source, K: Sink>(
 ) -> Status
     requires source_countable { S.faults source.old < 2 ^ 64 - 1 }
     requires sink_countable { K.faults sink.old < 2 ^ 64 - 1 }
-    ensures { IsRun (map (λ w. string_bytes w) words.now) result source.old source.new (devices (S.left source.old) (K.held sink.old) (S.faults source.old) (K.faults sink.old)) (devices (S.left source.new) (K.held sink.new) (S.faults source.new) (K.faults sink.new)) }
+    ensures { IsRun (map (λ w. string_bytes w) words.now) result source.old source.new
+        (devices (S.left source.old) (K.held sink.old) (S.faults source.old) (K.faults sink.old))
+        (devices (S.left source.new) (K.held sink.new) (S.faults source.new) (K.faults sink.new)) }
 {
     match Asked::of(alloc, words) {
         Ok(None) => print(sink, usage().as_bytes(), Status::Usage),
@@ -94,7 +98,9 @@ pub fn run_alone<S: Source, K: Sink>(
 fn run_script<S: Source, K: Sink>(alloc: Global, mode: Mode, source: &mut S, sink: &mut K) -> Status
     requires source_countable { S.faults source.old < 2 ^ 64 - 1 }
     requires sink_countable { K.faults sink.old < 2 ^ 64 - 1 }
-    ensures { IsScriptRun mode result (devices (S.left source.old) (K.held sink.old) (S.faults source.old) (K.faults sink.old)) (devices (S.left source.new) (K.held sink.new) (S.faults source.new) (K.faults sink.new)) }
+    ensures { IsScriptRun mode result
+        (devices (S.left source.old) (K.held sink.old) (S.faults source.old) (K.faults sink.old))
+        (devices (S.left source.new) (K.held sink.new) (S.faults source.new) (K.faults sink.new)) }
 {
     let bytes = match read_to(alloc, source, SCRIPT_LIMIT + 1) {
         Ok(bytes) => bytes,
@@ -122,8 +128,10 @@ fn run_load<K: Sink>(alloc: Global, load: &Load, sink: &mut K) -> Status
 /// Prints a text, and ends with the status.
 fn print<K: Sink>(sink: &mut K, text: &[u8], status: Status) -> Status
     requires { K.faults sink.old < 2 ^ 64 - 1 }
-    ensures printed { result ≢ Status.WriteFault → (result ≡ status) × (K.held sink.new ≡ held_with text.now (K.held sink.old)) × (K.faults sink.new ≡ K.faults sink.old) }
-    ensures failed { status ≢ Status.WriteFault → result ≡ Status.WriteFault → GainsFront text.now (K.held sink.old) (K.held sink.new) × (K.faults sink.new ≡ K.faults sink.old + 1) }
+    ensures printed { result ≢ Status.WriteFault → (result ≡ status)
+        × (K.held sink.new ≡ held_with text.now (K.held sink.old)) × (K.faults sink.new ≡ K.faults sink.old) }
+    ensures failed { status ≢ Status.WriteFault → result ≡ Status.WriteFault
+        → GainsFront text.now (K.held sink.old) (K.held sink.new) × (K.faults sink.new ≡ K.faults sink.old + 1) }
 {
     match write_all(sink, text) {
         Ok(()) => status,

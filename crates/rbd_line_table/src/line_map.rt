@@ -53,7 +53,8 @@ impl<T: Copy> LineMap<T> {
     /// This is known of a line from now on, where there is room. It takes no memory.
     pub fn put(&mut self, line: u32, value: T)
         requires { HasRoom self.old line }
-        ensures { (other : ℕ) → known_at self.new other ≡ (if line == other then Some value else known_at self.old other) }
+        ensures { (other : ℕ) → known_at self.new other
+            ≡ (if line == other then Some value else known_at self.old other) }
     {
         let page = &mut self.pages[page_of(line)];
         page[place_of(line)] = Some(value);
@@ -62,7 +63,8 @@ impl<T: Copy> LineMap<T> {
     /// This is known of a line from now on. NoMemory where room for it is refused; then nothing
     /// that is known changes.
     pub fn insert(&mut self, line: u32, value: T) -> Result<(), NoMemory>
-        ensures ok { OnOk result ((other : ℕ) → known_at self.new other ≡ (if line == other then Some value else known_at self.old other)) }
+        ensures ok { OnOk result ((other : ℕ)
+            → known_at self.new other ≡ (if line == other then Some value else known_at self.old other)) }
         ensures err { OnErr result ((other : ℕ) → known_at self.new other ≡ known_at self.old other) }
     {
         self.reserve(line)?;
@@ -86,7 +88,8 @@ impl<T: Copy> LineMap<T> {
 
 /// Gives a page all its places. Nothing that is known changes, also where memory is refused.
 fn fill<T: Copy>(page: &mut Vec<Option<T>>) -> Result<(), NoMemory>
-    ensures known { (place : ℕ) → at_place (slice_get page.new.items place) ≡ at_place (slice_get page.old.items place) }
+    ensures known { (place : ℕ) → at_place (slice_get page.new.items place)
+        ≡ at_place (slice_get page.old.items place) }
     ensures places { OnOk result (4096 ≤ length page.new.items) }
 {
     if page.len() < LINES {

@@ -23,7 +23,11 @@ lock_dropped site image a = record { site = site; op = op.Header image header.Lo
 
 -- the watchers were told that the lock was let go
 abbrev pub release_told : SiteId → (image : ℕ) → Answered
-release_told site image = record { site = site; op = op.Header image (header.Notify notice.ReleasedLock); answer = answer.Done }
+release_told site image = record {
+  site = site;
+  op = op.Header image (header.Notify notice.ReleasedLock);
+  answer = answer.Done;
+}
 
 -- the instance doesn't watch the image any more
 abbrev pub watch_ended : SiteId → (image : ℕ) → Answered

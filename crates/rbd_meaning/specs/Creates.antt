@@ -41,12 +41,14 @@ pub record IsOutsideLimits (size : ℕ) (shape : Shape) (steps : List Answered) 
 
 -- The shape is within the limits, and the last answer refused the request. Before that at most its
 -- id was drawn and its map made.
-pub record IsNotMade (site : SiteId) (name : List ℕ) (size : ℕ) (shape : Shape) (steps : List Answered) (x : Refusal) : Type 0 where
+pub record IsNotMade (site : SiteId) (name : List ℕ) (size : ℕ) (shape : Shape) (steps : List Answered)
+    (x : Refusal) : Type 0 where
   pub within : KeepsLimits (layout_of shape) size
   pub by : IsRefused site (op.Directory (directory.Add name)) refuses_none by_fence steps x
   pub few : length steps ≤ 3
 
 abbrev pub CreateMeans : SiteId → (name : List ℕ) → (size : ℕ) → Shape → List Answered → Reply → Type 0
 CreateMeans site name size shape steps reply.Done = Makes site name size shape steps
-CreateMeans site name size shape steps (reply.Refused x) = IsOutsideLimits size shape steps x ⊎ IsNotMade site name size shape steps x
+CreateMeans site name size shape steps (reply.Refused x) = IsOutsideLimits size shape steps x
+    ⊎ IsNotMade site name size shape steps x
 CreateMeans site name size shape steps _ = ⊥

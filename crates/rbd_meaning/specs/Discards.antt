@@ -24,14 +24,17 @@ pub record DiscardsWhole (site : SiteId) (name : List ℕ) (e : Extent) (steps :
   pub own : HeaderView
   pub may_wait : write_refuses e first ≡ None
   pub may : write_refuses e own ≡ None
-  pub are : steps ≡ found site name image ∷ looked_at site image first ∷ looked_at site image own ∷ pieces_zeroed site image own (pieces_of own.layout e)
+  pub are : steps ≡ found site name image ∷ looked_at site image first ∷ looked_at site image own
+      ∷ pieces_zeroed site image own (pieces_of own.layout e)
 
 -- The request was refused, and had only looked before, or zeroed its first pieces.
-pub record RefusesDiscard (site : SiteId) (name : List ℕ) (e : Extent) (steps : List Answered) (x : Refusal) : Type 0 where
+pub record RefusesDiscard (site : SiteId) (name : List ℕ) (e : Extent) (steps : List Answered)
+    (x : Refusal) : Type 0 where
   pub refused : IsRefused site (look_up name) (write_refuses e) by_fence steps x
   pub so_far : AreLooks refused.by.before ⊎ IsFrontOf (DiscardsWhole site name e) refused.by.before
 
 abbrev pub DiscardMeans : SiteId → (image : List ℕ) → (at len : ℕ) → List Answered → Reply → Type 0
 DiscardMeans site image at len steps reply.Done = DiscardsWhole site image (record { at = at; len = len }) steps
-DiscardMeans site image at len steps (reply.Refused x) = RefusesDiscard site image (record { at = at; len = len }) steps x
+DiscardMeans site image at len steps (reply.Refused x) =
+    RefusesDiscard site image (record { at = at; len = len }) steps x
 DiscardMeans site image at len steps _ = ⊥

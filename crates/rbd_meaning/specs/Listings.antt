@@ -23,7 +23,8 @@ abbrev pub shown_snaps : HeaderView → Reply
 shown_snaps h = reply.Snaps h.snaps
 
 -- The image of the name was found, and its header shows this.
-pub record ShowsHeader (site : SiteId) (name : List ℕ) (shown : HeaderView → Reply) (reply : Reply) (steps : List Answered) : Type 0 where
+pub record ShowsHeader (site : SiteId) (name : List ℕ) (shown : HeaderView → Reply) (reply : Reply)
+    (steps : List Answered) : Type 0 where
   pub image : ℕ
   pub header : HeaderView
   pub are : steps ≡ found site name image ∷ looked_at site image header ∷ []
@@ -73,5 +74,6 @@ renamed_to site from to = record { site = site; op = op.Directory (directory.Ren
 
 abbrev pub RenameMeans : SiteId → (from to : List ℕ) → List Answered → Reply → Type 0
 RenameMeans site from to steps reply.Done = steps ≡ renamed_to site from to ∷ []
-RenameMeans site from to steps (reply.Refused x) = IsRefused site (op.Directory (directory.Rename from to)) refuses_none never steps x
+RenameMeans site from to steps (reply.Refused x) =
+    IsRefused site (op.Directory (directory.Rename from to)) refuses_none never steps x
 RenameMeans site from to steps _ = ⊥

@@ -21,11 +21,13 @@ use Rattle.rbd_meaning.specs.Writes.{WriteMeans}
 -- else. Other commands aren't served yet, nor is a `create` of an image with a journal.
 abbrev pub MeantBy : Option Straight → Seat → Command → List Answered → Reply → Type 0
 MeantBy (Some s) seat c steps r = StraightMeans seat.home s steps r
-MeantBy None seat (command.Create image size shape) steps r = (shape.journal ≡ false) × CreateMeans seat.home image size shape steps r
+MeantBy None seat (command.Create image size shape) steps r = (shape.journal ≡ false)
+    × CreateMeans seat.home image size shape steps r
 MeantBy None seat (command.Write image at bytes) steps r = WriteMeans seat.home image at bytes steps r
 MeantBy None seat (command.Fill image at len byte) steps r = WriteMeans seat.home image at (replicate len byte) steps r
 MeantBy None seat (command.Discard image at len) steps r = DiscardMeans seat.home image at len steps r
-MeantBy None seat (command.Read image snap at len) steps r = ReadMeans seat.home image snap (record { at = at; len = len }) steps r
+MeantBy None seat (command.Read image snap at len) steps r =
+    ReadMeans seat.home image snap (record { at = at; len = len }) steps r
 MeantBy None seat (command.Resize image size) steps r = ResizeMeans seat.home image size steps r
 MeantBy None seat (command.Rename from to) steps r = RenameMeans seat.home from to steps r
 MeantBy None seat (command.Remove image) steps r = RemoveMeans seat.home seat.session image steps r

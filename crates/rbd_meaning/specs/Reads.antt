@@ -47,7 +47,8 @@ bytes_shown parts a = None
 abbrev pub AreRead : SiteId → (image : ℕ) → (snap : Option ℕ) → List Piece → List Answered → Type 0
 AreRead site image snap [] [] = Unit {0}
 AreRead site image snap (p ∷ pieces) (step ∷ steps) =
-    (step.site ≡ site) × (step.op ≡ data_read image snap p) × IsSome (bytes_shown p.parts step.answer) × AreRead site image snap pieces steps
+    (step.site ≡ site) × (step.op ≡ data_read image snap p) × IsSome (bytes_shown p.parts step.answer)
+    × AreRead site image snap pieces steps
 AreRead site image snap _ _ = ⊥
 
 -- the bytes that the pieces showed, one piece after another
@@ -57,7 +58,8 @@ bytes_read _ _ = []
 
 -- The request found its image and looked at the header, by which the extent fits into the view; it
 -- read each piece of the extent there; and it looked again, and was told this.
-pub record IsPassTo (site : SiteId) (name : List ℕ) (snap : Option (List ℕ)) (e : Extent) (steps : List Answered) (closing : Answer) : Type 0 where
+pub record IsPassTo (site : SiteId) (name : List ℕ) (snap : Option (List ℕ)) (e : Extent) (steps : List Answered)
+    (closing : Answer) : Type 0 where
   pub image : ℕ
   pub first : HeaderView
   pub view : View
@@ -66,11 +68,13 @@ pub record IsPassTo (site : SiteId) (name : List ℕ) (snap : Option (List ℕ))
   pub fits : out_of_range e view.size ≡ None
   pub are :
       steps
-      ≡ found site name image ∷ looked_at site image first ∷ (reads ++ record { site = site; op = op.Header image header.Get; answer = closing } ∷ [])
+      ≡ found site name image ∷ looked_at site image first ∷
+      (reads ++ record { site = site; op = op.Header image header.Get; answer = closing } ∷ [])
   pub read : AreRead site image view.snap (pieces_of first.layout e) reads
 
 -- The closing look was told a header with the same generation. The bytes are what the pass read.
-pub record ShowsBetween (site : SiteId) (name : List ℕ) (snap : Option (List ℕ)) (e : Extent) (steps : List Answered) (bytes : List ℕ) : Type 0 where
+pub record ShowsBetween (site : SiteId) (name : List ℕ) (snap : Option (List ℕ)) (e : Extent) (steps : List Answered)
+    (bytes : List ℕ) : Type 0 where
   pub closing : HeaderView
   pub pass : IsPassTo site name snap e steps (answer.Header closing)
   pub same : closing.generation ≡ pass.first.generation
@@ -85,19 +89,22 @@ IsOther generation answer.Absent = Unit {0}
 IsOther generation _ = ⊥
 
 -- The closing look was told another header, or none, and the read begins again.
-pub record SeesAnother (site : SiteId) (name : List ℕ) (snap : Option (List ℕ)) (e : Extent) (steps : List Answered) : Type 0 where
+pub record SeesAnother (site : SiteId) (name : List ℕ) (snap : Option (List ℕ)) (e : Extent)
+    (steps : List Answered) : Type 0 where
   pub closing : Answer
   pub pass : IsPassTo site name snap e steps closing
   pub other : IsOther pass.first.generation closing
 
-abbrev pub SeeOthers : SiteId → (name : List ℕ) → (snap : Option (List ℕ)) → Extent → (passes : List (List Answered)) → Type 0
+abbrev pub SeeOthers : SiteId → (name : List ℕ) → (snap : Option (List ℕ)) → Extent → (passes : List (List Answered))
+    → Type 0
 SeeOthers site name snap e [] = Unit {0}
 SeeOthers site name snap e (pass ∷ passes) = SeesAnother site name snap e pass × SeeOthers site name snap e passes
 
 -- ---- what its replies mean
 
 -- However often the read began again, it shows what its last pass did.
-pub record ShowsAtLast (site : SiteId) (name : List ℕ) (snap : Option (List ℕ)) (e : Extent) (steps : List Answered) (bytes : List ℕ) : Type 0 where
+pub record ShowsAtLast (site : SiteId) (name : List ℕ) (snap : Option (List ℕ)) (e : Extent) (steps : List Answered)
+    (bytes : List ℕ) : Type 0 where
   pub passes : List (List Answered)
   pub pass : List Answered
   pub are : steps ≡ steps_of_passes passes ++ pass
@@ -106,7 +113,8 @@ pub record ShowsAtLast (site : SiteId) (name : List ℕ) (snap : Option (List �
 
 -- However often the read began again, its last pass refused it: at its first look at the latest,
 -- but for the fence, which may come at any time.
-pub record RefusedAtLast (site : SiteId) (name : List ℕ) (snap : Option (List ℕ)) (e : Extent) (steps : List Answered) (x : Refusal) : Type 0 where
+pub record RefusedAtLast (site : SiteId) (name : List ℕ) (snap : Option (List ℕ)) (e : Extent) (steps : List Answered)
+    (x : Refusal) : Type 0 where
   pub passes : List (List Answered)
   pub pass : List Answered
   pub are : steps ≡ steps_of_passes passes ++ pass

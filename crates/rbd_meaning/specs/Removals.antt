@@ -49,13 +49,15 @@ watchers_refuse session watchers = if is_watched_beside session watchers then So
 
 -- what an answer to an operation refuses a removal of a session
 abbrev pub removal_refusal_by : (session : ℕ) → Op → Answer → Option Refusal
-removal_refusal_by session (op.Header image header.WatchersGet) (answer.Instances watchers) = watchers_refuse session watchers
+removal_refusal_by session (op.Header image header.WatchersGet) (answer.Instances watchers) =
+    watchers_refuse session watchers
 removal_refusal_by session o a = refusal_by image_removal_refuses o a
 
 -- no answer refuses the removal
 abbrev pub AllowRemoval : (session : ℕ) → List Answered → Type 0
 AllowRemoval session [] = Unit {0}
-AllowRemoval session (step ∷ steps) = (removal_refusal_by session step.op step.answer ≡ None) × AllowRemoval session steps
+AllowRemoval session (step ∷ steps) = (removal_refusal_by session step.op step.answer ≡ None)
+    × AllowRemoval session steps
 
 -- ---- what goes
 
@@ -121,14 +123,16 @@ IsRemovedBy o _ = ⊥
 -- the operations were done, one after another, and by each something went or was gone
 abbrev pub AreRemovals : SiteId → List Op → List Answered → Type 0
 AreRemovals site [] [] = Unit {0}
-AreRemovals site (o ∷ ops) (step ∷ steps) = (step.site ≡ site) × (step.op ≡ o) × IsRemovedBy o step.answer × AreRemovals site ops steps
+AreRemovals site (o ∷ ops) (step ∷ steps) = (step.site ≡ site) × (step.op ≡ o) × IsRemovedBy o step.answer
+    × AreRemovals site ops steps
 AreRemovals site _ _ = ⊥
 
 -- ---- what was done
 
 -- the watchers of an image were told
 abbrev pub watchers_told : SiteId → (image : ℕ) → List Instance → Answered
-watchers_told site image watchers = record { site = site; op = op.Header image header.WatchersGet; answer = answer.Instances watchers }
+watchers_told site image watchers =
+    record { site = site; op = op.Header image header.WatchersGet; answer = answer.Instances watchers }
 
 -- The request found its image, and looked at the header and at the watchers, twice; no look refused
 -- it. Then all went that the image was, by the header of its look under the lock and by the states
@@ -152,7 +156,8 @@ pub record RemovesImage (site : SiteId) (session : ℕ) (name : List ℕ) (steps
 -- The answer to the last operation refused the request, and none before. Unless that was the fence,
 -- the request had only looked; with the fence it may have done the first operations of a whole
 -- removal.
-pub record RefusesRemovalOf (site : SiteId) (session : ℕ) (name : List ℕ) (steps : List Answered) (x : Refusal) : Type 0 where
+pub record RefusesRemovalOf (site : SiteId) (session : ℕ) (name : List ℕ) (steps : List Answered)
+    (x : Refusal) : Type 0 where
   pub own : AreOwn site (look_up name) steps
   pub before : List Answered
   pub last : Answered

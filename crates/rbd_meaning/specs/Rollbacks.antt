@@ -36,11 +36,13 @@ abbrev pub at_size : (size : ℕ) → HeaderView → HeaderView
 at_size size h = record h { size = size; parent = cut size h.parent }
 
 -- A piece was read at a snapshot, and what it showed replaced the head's object.
-pub record IsRestored (site : SiteId) (image : ℕ) (h : HeaderView) (snap : ℕ) (p : Piece) (steps : List Answered) : Type 0 where
+pub record IsRestored (site : SiteId) (image : ℕ) (h : HeaderView) (snap : ℕ) (p : Piece)
+    (steps : List Answered) : Type 0 where
   pub answer : Answer
   pub bytes : List ℕ
   pub shown : bytes_shown p.parts answer ≡ Some bytes
-  pub are : steps ≡ record { site = site; op = data_read image (Some snap) p; answer = answer } ∷ replaced site image h p bytes
+  pub are : steps ≡ record { site = site; op = data_read image (Some snap) p; answer = answer }
+      ∷ replaced site image h p bytes
 
 -- the first piece was restored, and the others behind it
 pub record AreRestoredBy (IsFirst AreOthers : List Answered → Type 0) (steps : List Answered) : Type 0 where
@@ -53,7 +55,8 @@ pub record AreRestoredBy (IsFirst AreOthers : List Answered → Type 0) (steps :
 -- the pieces were restored, one after another
 abbrev pub AreRestored : SiteId → (image : ℕ) → HeaderView → (snap : ℕ) → List Piece → List Answered → Type 0
 AreRestored site image h snap [] steps = steps ≡ []
-AreRestored site image h snap (p ∷ pieces) steps = AreRestoredBy (IsRestored site image h snap p) (AreRestored site image h snap pieces) steps
+AreRestored site image h snap (p ∷ pieces) steps = AreRestoredBy (IsRestored site image h snap p)
+    (AreRestored site image h snap pieces) steps
 
 -- The request found its image and looked at the header twice, and neither look refused it. Then, by
 -- its look under the lock, it set the size to that of the snapshot which the header lists under the
@@ -71,8 +74,10 @@ pub record RollsBack (site : SiteId) (name snap : List ℕ) (steps : List Answer
   pub resized : List Answered
   pub is_resized : IsResized site image own listed.size objects resized
   pub restored : List Answered
-  pub are_restored : AreRestored site image (at_size listed.size own) listed.id (pieces_of own.layout (head_of (at_size listed.size own))) restored
-  pub are : steps ≡ found site name image ∷ looked_at site image first ∷ looked_at site image own ∷ (resized ++ restored)
+  pub are_restored : AreRestored site image (at_size listed.size own) listed.id
+      (pieces_of own.layout (head_of (at_size listed.size own))) restored
+  pub are : steps ≡ found site name image ∷ looked_at site image first ∷ looked_at site image own ∷
+      (resized ++ restored)
 
 -- The request was refused, and had only looked before, or done the first operations of a whole
 -- rollback.

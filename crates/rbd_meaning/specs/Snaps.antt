@@ -52,7 +52,8 @@ map_told site image bits = record { site = site; op = op.Map image (states.Get N
 
 -- the told states became the map of a snapshot
 abbrev pub map_put : SiteId → (image snap : ℕ) → (bits : List ℕ) → Answered
-map_put site image snap bits = record { site = site; op = op.Map image (states.Put (Some snap) bits); answer = answer.Done }
+map_put site image snap bits =
+    record { site = site; op = op.Map image (states.Put (Some snap) bits); answer = answer.Done }
 
 -- the map of a snapshot was to be removed
 abbrev pub map_removed : SiteId → (image snap : ℕ) → Answer → Answered
@@ -80,7 +81,8 @@ pub record TakesOne (site : SiteId) (image_name snap : List ℕ) (steps : List A
 
 -- the snapshot was removed
 abbrev pub snap_removed : SiteId → (image snap : ℕ) → Answered
-snap_removed site image snap = record { site = site; op = op.Header image (header.SnapRemove snap); answer = answer.Done }
+snap_removed site image snap =
+    record { site = site; op = op.Header image (header.SnapRemove snap); answer = answer.Done }
 
 -- The looks are the same. The snapshot that goes is the one that its look under the lock listed
 -- under the name, and then its map goes.
@@ -106,10 +108,12 @@ pub record RemovesListed (site : SiteId) (image_name snap : List ℕ) (steps : L
   pub may : remove_refuses snap own ≡ None
   pub listed : SnapView
   pub is_listed : snap_named own.snaps snap ≡ Some listed
-  pub are : steps ≡ found site image_name image ∷ looked_at site image first ∷ looked_at site image own ∷ snap_removed site image listed.id ∷ []
+  pub are : steps ≡ found site image_name image ∷ looked_at site image first ∷ looked_at site image own
+      ∷ snap_removed site image listed.id ∷ []
 
 -- The request was refused, and had only looked before, or removed the snapshot.
-pub record RefusesRemoval (site : SiteId) (image_name snap : List ℕ) (steps : List Answered) (x : Refusal) : Type 0 where
+pub record RefusesRemoval (site : SiteId) (image_name snap : List ℕ) (steps : List Answered)
+    (x : Refusal) : Type 0 where
   pub refused : IsRefused site (look_up image_name) (remove_refuses snap) by_fence steps x
   pub so_far : AreLooks refused.by.before ⊎ RemovesListed site image_name snap refused.by.before
 
@@ -117,7 +121,8 @@ pub record RefusesRemoval (site : SiteId) (image_name snap : List ℕ) (steps : 
 
 abbrev pub SnapCreateMeans : SiteId → (image snap : List ℕ) → List Answered → Reply → Type 0
 SnapCreateMeans site image snap steps reply.Done = TakesOne site image snap steps
-SnapCreateMeans site image snap steps (reply.Refused x) = IsRefused site (look_up image) (create_refuses snap) never steps x
+SnapCreateMeans site image snap steps (reply.Refused x) =
+    IsRefused site (look_up image) (create_refuses snap) never steps x
 SnapCreateMeans site image snap steps _ = ⊥
 
 abbrev pub SnapRemoveMeans : SiteId → (image snap : List ℕ) → List Answered → Reply → Type 0

@@ -45,7 +45,11 @@ operations_of s = suc (notices_of s.tells)
 
 -- the watchers were told what a client has to tell
 abbrev pub bytes_told : SiteId → (image : ℕ) → (bytes : List ℕ) → Answered
-bytes_told site image bytes = record { site = site; op = op.Header image (header.Notify (notice.Custom bytes)); answer = answer.Done }
+bytes_told site image bytes = record {
+  site = site;
+  op = op.Header image (header.Notify (notice.Custom bytes));
+  answer = answer.Done;
+}
 
 abbrev pub all_told : SiteId → (image : ℕ) → Option (List ℕ) → List Answered
 all_told site image None = []

@@ -34,7 +34,8 @@ piece_written site image h at bytes p =
 -- the pieces were written, one after another, each behind its object's state
 abbrev pub pieces_written : SiteId → (image : ℕ) → HeaderView → (at : ℕ) → (bytes : List ℕ) → List Piece → List Answered
 pieces_written site image h at bytes [] = []
-pieces_written site image h at bytes (p ∷ pieces) = state_raised site image p ∷ piece_written site image h at bytes p ∷ pieces_written site image h at bytes pieces
+pieces_written site image h at bytes (p ∷ pieces) =
+    state_raised site image p ∷ piece_written site image h at bytes p ∷ pieces_written site image h at bytes pieces
 
 -- Nothing was done for the pieces that are left, or the state of the first one's object was raised.
 abbrev pub IsPieceBegun : SiteId → (image : ℕ) → (left : List Piece) → (begun : List Answered) → Type 0
@@ -70,7 +71,8 @@ pub record WritesSome (site : SiteId) (name : List ℕ) (at : ℕ) (bytes : List
       ∷ (pieces_written site image own at bytes written ++ begun)
 
 -- The request was refused, and had only looked before, or written its first pieces.
-pub record RefusesWrite (site : SiteId) (name : List ℕ) (at : ℕ) (bytes : List ℕ) (steps : List Answered) (x : Refusal) : Type 0 where
+pub record RefusesWrite (site : SiteId) (name : List ℕ) (at : ℕ) (bytes : List ℕ) (steps : List Answered)
+    (x : Refusal) : Type 0 where
   pub refused : IsRefused site (look_up name) (write_refuses (extent_at at bytes)) by_fence steps x
   pub so_far : AreLooks refused.by.before ⊎ WritesSome site name at bytes refused.by.before
 

@@ -37,7 +37,8 @@ pub fn counts_are_counts()
 
 /// A command means only replies of its own kind.
 pub fn replies_are_of_their_command()
-    ensures { (seat : Seat) (command : Command) (steps : List Answered) (reply : Reply) → IsMeantBy seat command steps reply → may_answer command reply ≡ true }
+    ensures { (seat : Seat) (command : Command) (steps : List Answered) (reply : Reply)
+        → IsMeantBy seat command steps reply → may_answer command reply ≡ true }
 {}
 
 /// After the same operations a command means one reply.
@@ -49,7 +50,8 @@ pub fn one_reply_is_meant()
 /// After no operation at all a command means nothing but BadShape: nothing is done or shown without
 /// an operation.
 pub fn nothing_is_granted_for_nothing()
-    ensures { (seat : Seat) (command : Command) (reply : Reply) → IsMeantBy seat command [] reply → reply ≡ Refused BadShape }
+    ensures { (seat : Seat) (command : Command) (reply : Reply) → IsMeantBy seat command [] reply
+        → reply ≡ Refused BadShape }
 {}
 
 /// A refused request has changed nothing that users see, with two exceptions. Fenced may come at
@@ -66,35 +68,55 @@ pub fn refusals_change_nothing()
 /// the look-up of its image, at its site, and was answered none.
 pub fn unknown_names_are_looked_up()
     ensures { (seat : Seat) (command : Command) (name : List ℕ) (step : Answered) → looks_up command ≡ Some name
-        → IsMeantBy seat command (step ∷ []) (Refused NoImage) → step ≡ record { site = seat.home; op = look_up name; answer = Absent } }
+        → IsMeantBy seat command (step ∷ []) (Refused NoImage)
+        → step ≡ record { site = seat.home; op = look_up name; answer = Absent } }
 {}
 
 /// A change that is refused by a look at the header of a secondary is refused with NonPrimary,
 /// whatever else refuses it there.
 pub fn secondaries_refuse_first()
-    ensures write { (seat : Seat) (there : SiteId) (image : List ℕ) (at : ℕ) (bytes : List ℕ) (before : List Answered) (id : ℕ) (h : HeaderView) (x : Refusal)
-        → IsMeantBy seat (Write image at bytes) (before ++ looked_at there id h ∷ []) (Refused x) → h.role ≡ Secondary → x ≡ NonPrimary }
-    ensures fill { (seat : Seat) (there : SiteId) (image : List ℕ) (at len byte : ℕ) (before : List Answered) (id : ℕ) (h : HeaderView) (x : Refusal)
-        → IsMeantBy seat (Fill image at len byte) (before ++ looked_at there id h ∷ []) (Refused x) → h.role ≡ Secondary → x ≡ NonPrimary }
-    ensures discard { (seat : Seat) (there : SiteId) (image : List ℕ) (at len : ℕ) (before : List Answered) (id : ℕ) (h : HeaderView) (x : Refusal)
-        → IsMeantBy seat (Discard image at len) (before ++ looked_at there id h ∷ []) (Refused x) → h.role ≡ Secondary → x ≡ NonPrimary }
-    ensures resize { (seat : Seat) (there : SiteId) (image : List ℕ) (to : ℕ) (before : List Answered) (id : ℕ) (h : HeaderView) (x : Refusal)
-        → IsMeantBy seat (Resize image to) (before ++ looked_at there id h ∷ []) (Refused x) → h.role ≡ Secondary → x ≡ NonPrimary }
-    ensures image { (seat : Seat) (there : SiteId) (image : List ℕ) (before : List Answered) (id : ℕ) (h : HeaderView) (x : Refusal)
-        → IsMeantBy seat (Remove image) (before ++ looked_at there id h ∷ []) (Refused x) → h.role ≡ Secondary → x ≡ NonPrimary }
-    ensures taking { (seat : Seat) (there : SiteId) (image snap : List ℕ) (before : List Answered) (id : ℕ) (h : HeaderView) (x : Refusal)
-        → IsMeantBy seat (SnapCreate image snap) (before ++ looked_at there id h ∷ []) (Refused x) → h.role ≡ Secondary → x ≡ NonPrimary }
-    ensures removing { (seat : Seat) (there : SiteId) (image snap : List ℕ) (before : List Answered) (id : ℕ) (h : HeaderView) (x : Refusal)
-        → IsMeantBy seat (SnapRemove image snap) (before ++ looked_at there id h ∷ []) (Refused x) → h.role ≡ Secondary → x ≡ NonPrimary }
-    ensures rolling { (seat : Seat) (there : SiteId) (image snap : List ℕ) (before : List Answered) (id : ℕ) (h : HeaderView) (x : Refusal)
-        → IsMeantBy seat (SnapRollback image snap) (before ++ looked_at there id h ∷ []) (Refused x) → h.role ≡ Secondary → x ≡ NonPrimary }
+    ensures write { (seat : Seat) (there : SiteId) (image : List ℕ) (at : ℕ) (bytes : List ℕ) (before : List Answered)
+        (id : ℕ) (h : HeaderView) (x : Refusal)
+        → IsMeantBy seat (Write image at bytes) (before ++ looked_at there id h ∷ []) (Refused x) → h.role ≡ Secondary
+        → x ≡ NonPrimary }
+    ensures fill { (seat : Seat) (there : SiteId) (image : List ℕ) (at len byte : ℕ) (before : List Answered) (id : ℕ)
+        (h : HeaderView) (x : Refusal)
+        → IsMeantBy seat (Fill image at len byte) (before ++ looked_at there id h ∷ []) (Refused x) → h.role ≡ Secondary
+        → x ≡ NonPrimary }
+    ensures discard { (seat : Seat) (there : SiteId) (image : List ℕ) (at len : ℕ) (before : List Answered) (id : ℕ)
+        (h : HeaderView) (x : Refusal)
+        → IsMeantBy seat (Discard image at len) (before ++ looked_at there id h ∷ []) (Refused x) → h.role ≡ Secondary
+        → x ≡ NonPrimary }
+    ensures resize { (seat : Seat) (there : SiteId) (image : List ℕ) (to : ℕ) (before : List Answered) (id : ℕ)
+        (h : HeaderView) (x : Refusal)
+        → IsMeantBy seat (Resize image to) (before ++ looked_at there id h ∷ []) (Refused x) → h.role ≡ Secondary
+        → x ≡ NonPrimary }
+    ensures image { (seat : Seat) (there : SiteId) (image : List ℕ) (before : List Answered) (id : ℕ) (h : HeaderView)
+        (x : Refusal)
+        → IsMeantBy seat (Remove image) (before ++ looked_at there id h ∷ []) (Refused x) → h.role ≡ Secondary
+        → x ≡ NonPrimary }
+    ensures taking { (seat : Seat) (there : SiteId) (image snap : List ℕ) (before : List Answered) (id : ℕ)
+        (h : HeaderView) (x : Refusal)
+        → IsMeantBy seat (SnapCreate image snap) (before ++ looked_at there id h ∷ []) (Refused x) → h.role ≡ Secondary
+        → x ≡ NonPrimary }
+    ensures removing { (seat : Seat) (there : SiteId) (image snap : List ℕ) (before : List Answered) (id : ℕ)
+        (h : HeaderView) (x : Refusal)
+        → IsMeantBy seat (SnapRemove image snap) (before ++ looked_at there id h ∷ []) (Refused x) → h.role ≡ Secondary
+        → x ≡ NonPrimary }
+    ensures rolling { (seat : Seat) (there : SiteId) (image snap : List ℕ) (before : List Answered) (id : ℕ)
+        (h : HeaderView) (x : Refusal)
+        → IsMeantBy seat (SnapRollback image snap) (before ++ looked_at there id h ∷ []) (Refused x)
+        → h.role ≡ Secondary → x ≡ NonPrimary }
 {}
 
 /// What was done was allowed by the look under the lock: the name of a snapshot that was taken
 /// wasn't listed there, a snapshot that was removed wasn't protected there, and an image that was
 /// removed had no snapshot there.
 pub fn the_look_under_lock_allowed()
-    ensures taken { (site : SiteId) (image snap : List ℕ) (steps : List Answered) (takes : TakesOne site image snap steps) → snap_named takes.own.snaps snap ≡ None }
-    ensures removed { (site : SiteId) (image snap : List ℕ) (steps : List Answered) (removes : RemovesOne site image snap steps) → removes.listed.status ≡ Unprotected }
-    ensures image { (site : SiteId) (session : ℕ) (image : List ℕ) (steps : List Answered) (removes : RemovesImage site session image steps) → removes.own.snaps ≡ [] }
+    ensures taken { (site : SiteId) (image snap : List ℕ) (steps : List Answered)
+        (takes : TakesOne site image snap steps) → snap_named takes.own.snaps snap ≡ None }
+    ensures removed { (site : SiteId) (image snap : List ℕ) (steps : List Answered)
+        (removes : RemovesOne site image snap steps) → removes.listed.status ≡ Unprotected }
+    ensures image { (site : SiteId) (session : ℕ) (image : List ℕ) (steps : List Answered)
+        (removes : RemovesImage site session image steps) → removes.own.snaps ≡ [] }
 {}

@@ -208,7 +208,8 @@ impl Arena {
         ensures count { count_at self.new index ≡ count_at self.old index }
         ensures len { length (bytes_at self.new index) ≡ length (bytes_at self.old index) }
         ensures bytes { (k : ℕ) → slice_index (bytes_at self.new index) k
-            ≡ (if is_within at (length bytes.now) k then slice_index bytes.now (k - at) else slice_index (bytes_at self.old index) k) }
+            ≡ (if is_within at (length bytes.now) k then slice_index bytes.now (k - at)
+            else slice_index (bytes_at self.old index) k) }
         ensures places { length self.new ≡ length self.old }
     {
         self.pages[index as usize].put(at, bytes);

@@ -152,7 +152,8 @@ impl Page {
         ensures count { self.new.count ≡ self.old.count }
         ensures len { length self.new.bytes ≡ length self.old.bytes }
         ensures bytes { (k : ℕ) → slice_index self.new.bytes k
-            ≡ (if is_within at (length bytes.now) k then slice_index bytes.now (k - at) else slice_index self.old.bytes k) }
+            ≡ (if is_within at (length bytes.now) k then slice_index bytes.now (k - at)
+            else slice_index self.old.bytes k) }
     {
         if self.bytes.is_empty() {
             return;

@@ -15,4 +15,5 @@ is_reply e = false
 -- The commands of the lines are as many as the replies and the commands without one, together.
 abbrev pub AddUp : List Line → List Entry → Type 0
 AddUp lines history =
-    length (commands_of lines) ≡ count_by is_reply history + count_by (λ (c : Given). not (is_replied c.line history)) (commands_of lines)
+    length (commands_of lines)
+    ≡ count_by is_reply history + count_by (λ (c : Given). not (is_replied c.line history)) (commands_of lines)

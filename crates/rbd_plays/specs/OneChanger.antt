@@ -28,7 +28,8 @@ holds_back c = begins_a_quiesce (profile c).quiescing
 -- The line leaves all changes to one session: no other session has a command that takes a lock, no
 -- image is quiesced, and no session is stopped.
 abbrev pub LeavesChangesTo : (changer : ℕ) → Said → Type 0
-LeavesChangesTo changer (said.Command session beside command) = (takes_the_lock command ≡ true → session ≡ changer) × (holds_back command ≡ false)
+LeavesChangesTo changer (said.Command session beside command) = (takes_the_lock command ≡ true → session ≡ changer)
+    × (holds_back command ≡ false)
 LeavesChangesTo changer (said.Stop session) = ⊥
 LeavesChangesTo changer s = Unit {0}
 

@@ -16,7 +16,8 @@ ghost use Rattle.rbd_world.specs.World.{WorldView};
 /// reply. (`play` of `rbd_schedule` tells of its world that nothing goes on any more, and that it
 /// has had fewer than `2^59` events.)
 pub fn plays_of_one_changer_are_over()
-    ensures { (script : Script) (w : WorldView Standing) → IsPlayable script → HasOneChanger script → IsPlay as_is script w
+    ensures { (script : Script) (w : WorldView Standing) → IsPlayable script → HasOneChanger script
+        → IsPlay as_is script w
         → HasCalmed as_is script w → length w.calls < 2 ^ 59 → AreOver script w × AreAllReplied script w }
 {}
 
@@ -25,5 +26,6 @@ pub fn plays_of_one_changer_are_over()
 /// lines have to be in order, as those of each script that was read are: a history tells commands
 /// by their lines.
 pub fn commands_add_up()
-    ensures { (script : Script) (w : WorldView Standing) → AreLinesInOrder script.lines → IsPlay as_is script w → AddUp script.lines w.history }
+    ensures { (script : Script) (w : WorldView Standing) → AreLinesInOrder script.lines → IsPlay as_is script w
+        → AddUp script.lines w.history }
 {}

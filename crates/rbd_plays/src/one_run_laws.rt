@@ -9,5 +9,6 @@ ghost use Rattle.rbd_world.specs.World.{WorldView};
 /// A script has one run: in any two worlds to which its schedule led, the same events came with the
 /// same outcomes, and the histories, the logs of both sites and their mail are equal.
 pub fn scripts_have_one_run()
-    ensures { (script : Script) (v w : WorldView Standing) → IsPlay as_is script v → IsPlay as_is script w → IsSameRun v w }
+    ensures { (script : Script) (v w : WorldView Standing)
+        → IsPlay as_is script v → IsPlay as_is script w → IsSameRun v w }
 {}

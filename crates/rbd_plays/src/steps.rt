@@ -42,12 +42,16 @@ pub fn steps_have_one_outcome()
 
 /// What a schedule reads of worlds that can't be told apart is the same.
 pub fn schedules_read_the_same()
-    ensures starts { (v w : WorldView Standing) → AreTwins as_is v w → (given : List Given) (session : ℕ) → to_start given w session ≡ to_start given v session }
+    ensures starts { (v w : WorldView Standing) → AreTwins as_is v w → (given : List Given) (session : ℕ)
+        → to_start given w session ≡ to_start given v session }
     ensures kinds { (v w : WorldView Standing) → AreTwins as_is v w → (session slot : ℕ)
         → kind_in as_is slot (client_in session w.lives) ≡ kind_in as_is slot (client_in session v.lives) }
-    ensures lines { (v w : WorldView Standing) → AreTwins as_is v w → (session slot : ℕ) → line_at session slot w.lives ≡ line_at session slot v.lives }
-    ensures held { (v w : WorldView Standing) → AreTwins as_is v w → (session slot : ℕ) → is_held session slot w ≡ is_held session slot v }
+    ensures lines { (v w : WorldView Standing) → AreTwins as_is v w → (session slot : ℕ)
+        → line_at session slot w.lives ≡ line_at session slot v.lives }
+    ensures held { (v w : WorldView Standing) → AreTwins as_is v w → (session slot : ℕ)
+        → is_held session slot w ≡ is_held session slot v }
     ensures runs { (v w : WorldView Standing) → AreTwins as_is v w → (session : ℕ) → runs session w ≡ runs session v }
-    ensures due { (v w : WorldView Standing) → AreTwins as_is v w → (lost : (number : ℕ) → Bool) (session number : ℕ) → is_notice_due lost session number w ≡ is_notice_due lost session number v }
+    ensures due { (v w : WorldView Standing) → AreTwins as_is v w → (lost : (number : ℕ) → Bool) (session number : ℕ)
+        → is_notice_due lost session number w ≡ is_notice_due lost session number v }
     ensures mail { (v w : WorldView Standing) → AreTwins as_is v w → length w.sites.mail ≡ length v.sites.mail }
 {}

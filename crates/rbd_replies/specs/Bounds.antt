@@ -19,7 +19,8 @@ HaveAtMost most (pass ∷ passes) = (length pass ≤ most) × HaveAtMost most pa
 -- The operations of a read: those of its passes, and of the one that it is in, or ended in. Each
 -- has so many at most; and it began again only where its closing look was told a header of another
 -- generation, or none.
-pub record KeepsPasses (site : SiteId) (name : List ℕ) (snap : Option (List ℕ)) (e : Extent) (most : ℕ) (steps : List Answered) : Type 0 where
+pub record KeepsPasses (site : SiteId) (name : List ℕ) (snap : Option (List ℕ)) (e : Extent) (most : ℕ)
+    (steps : List Answered) : Type 0 where
   pub passes : List (List Answered)
   pub pass : List Answered
   pub are : steps ≡ steps_of_passes passes ++ pass
@@ -43,7 +44,8 @@ KeepsBound home c pieces steps = DoesAtMost home c (allowed c pieces steps) step
 -- ---- of a line that hasn't ended
 
 -- A read that hasn't ended: in the pass that it is in it has had fewer operations than so many.
-pub record IsInPass (site : SiteId) (name : List ℕ) (snap : Option (List ℕ)) (e : Extent) (most : ℕ) (steps : List Answered) : Type 0 where
+pub record IsInPass (site : SiteId) (name : List ℕ) (snap : Option (List ℕ)) (e : Extent) (most : ℕ)
+    (steps : List Answered) : Type 0 where
   pub passes : List (List Answered)
   pub pass : List Answered
   pub are : steps ≡ steps_of_passes passes ++ pass

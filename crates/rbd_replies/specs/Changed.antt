@@ -40,7 +40,8 @@ pub record FindsImage (name : List ℕ) (places : List Placed) : Type 0 where
 pub record Writes (name : List ℕ) (at : ℕ) (bytes : List ℕ) (places : List Placed) : Type 0 where
   pub finds : FindsImage name places
   pub within : fits (extent_at at bytes) finds.header.size ≡ true
-  pub effects : effects_of places ≡ piece_effects finds.image at bytes (pieces_of finds.header.layout (extent_at at bytes))
+  pub effects : effects_of places ≡ piece_effects finds.image at bytes
+      (pieces_of finds.header.layout (extent_at at bytes))
 
 -- A snapshot was taken, and nothing else was done. At the look under the lock the flat image had
 -- none of the name.

@@ -33,7 +33,8 @@ pub record IsWithoutEffect (o : Operation) (reply : Option Reply) (before : List
 
 -- An operation changes nothing where its instance is fenced at its site.
 abbrev pub IsStoppedByTheFence : Operation → Option Reply → List Happening → Type 0
-IsStoppedByTheFence o reply before = is_fenced (records_after o.site before) o.instance ≡ true → IsWithoutEffect o reply before
+IsStoppedByTheFence o reply before =
+    is_fenced (records_after o.site before) o.instance ≡ true → IsWithoutEffect o reply before
 
 -- ---- an image without a header
 
@@ -44,7 +45,8 @@ SomeStep P (step ∷ steps) = P step ⊎ SomeStep P steps
 
 -- The operation was sent by a line that was lost when its instance's session was stopped last.
 -- There the line's command stood at the operation, and had done such a one itself before.
-pub record DidBeforeStop (homes : ℕ → SiteId) (P : Answered → Type 0) (o : Operation) (before : List Happening) : Type 0 where
+pub record DidBeforeStop (homes : ℕ → SiteId) (P : Answered → Type 0) (o : Operation)
+    (before : List Happening) : Type 0 where
   -- what the slots wanted, which lines were lost, what was until the stop, and what came since
   pub wanted : List (Option (SiteId × Op))
   pub lost : List ℕ
@@ -59,7 +61,8 @@ pub record DidBeforeStop (homes : ℕ → SiteId) (P : Answered → Type 0) (o :
   pub did : SomeStep P (steps_of line until)
 
 -- The command that the operation is done for did such a one itself, before.
-abbrev pub DidBefore : (homes : ℕ → SiteId) (P : Answered → Type 0) → Doer → Operation → (before : List Happening) → Type 0
+abbrev pub DidBefore : (homes : ℕ → SiteId) (P : Answered → Type 0) → Doer → Operation → (before : List Happening)
+    → Type 0
 DidBefore homes P (Itself line) o before = SomeStep P (steps_of line before)
 DidBefore homes P (AfterStop slot) o before = DidBeforeStop homes P o before
 DidBefore homes P by o before = ⊥
@@ -104,14 +107,17 @@ pub record RemovesRest (homes : ℕ → SiteId) (image : ℕ) (o : Operation) (b
 -- operation that comes late this is said of the line that was lost.
 abbrev pub OwnsOrNone : (homes : ℕ → SiteId) (image : ℕ) → Operation → (before : List Happening) → Type 0
 OwnsOrNone homes image o before =
-    HasLock image o.instance (records_after o.site before) ⊎ (MakesMap homes image o before ⊎ RemovesRest homes image o before)
+    HasLock image o.instance (records_after o.site before)
+    ⊎ (MakesMap homes image o before ⊎ RemovesRest homes image o before)
 
 -- ---- all of it
 
 -- An operation that changes an image may do so, and one that breaks a lock comes only where the
 -- lock's owner is fenced.
-pub record IsTheOwners (homes : ℕ → SiteId) (o : Operation) (reply : Option Reply) (before : List Happening) : Type 0 where
-  pub change : (image : ℕ) → changes_image image o.op ≡ true → was_done o.answer ≡ true → OwnsOrNone homes image o before
+pub record IsTheOwners (homes : ℕ → SiteId) (o : Operation) (reply : Option Reply)
+    (before : List Happening) : Type 0 where
+  pub change : (image : ℕ) → changes_image image o.op ≡ true → was_done o.answer ≡ true
+      → OwnsOrNone homes image o before
   pub broken : (image : ℕ) (owner : Instance) → o.op ≡ op.Header image (header.LockBreak owner) → o.answer ≡ answer.Done
       → is_fenced (records_after o.site before) owner ≡ true
 

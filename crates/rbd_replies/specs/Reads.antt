@@ -28,14 +28,16 @@ pub record IsPieceAt (image : ℕ) (snap : Option ℕ) (piece : Piece) (bytes : 
 abbrev pub ArePiecesAt : (image : ℕ) → (snap : Option ℕ) → List Piece → (bytes : List ℕ) → List Placed → Type 0
 ArePiecesAt image snap [] bytes [] = bytes ≡ []
 ArePiecesAt image snap (piece ∷ pieces) bytes (p ∷ places) =
-    (front rest : List ℕ) × (bytes ≡ front ++ rest) × IsPieceAt image snap piece front p × ArePiecesAt image snap pieces rest places
+    (front rest : List ℕ) × (bytes ≡ front ++ rest) × IsPieceAt image snap piece front p
+    × ArePiecesAt image snap pieces rest places
 ArePiecesAt image snap _ bytes _ = ⊥
 
 -- However often it began again, its last pass found the image by its name, looked at the header,
 -- which tells the flat image there, read each piece of the extent by the layout of that header, and
 -- looked again: the header that it was told then had the generation of the first. The extent lies
 -- within the view, and the reply's bytes are those of the pieces.
-pub record ShowsBytes (name : List ℕ) (snap : Option (List ℕ)) (e : Extent) (bytes : List ℕ) (places : List Placed) : Type 0 where
+pub record ShowsBytes (name : List ℕ) (snap : Option (List ℕ)) (e : Extent) (bytes : List ℕ)
+    (places : List Placed) : Type 0 where
   pub earlier : List Placed
   pub found : Placed
   pub first : Placed

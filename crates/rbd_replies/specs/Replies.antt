@@ -30,7 +30,8 @@ IsReplyOf (command.Rename from to) reply.Done places = Renames from to places
 IsReplyOf (command.SnapCreate image snap) reply.Done places = TakesSnap image snap places
 IsReplyOf (command.SnapRemove image snap) reply.Done places = RemovesSnap image snap places
 IsReplyOf (command.SnapRollback image snap) reply.Done places = RollsBackTo image snap places
-IsReplyOf (command.Read image snap at len) (reply.Bytes bytes) places = ShowsBytes image snap (record { at = at; len = len }) bytes places
+IsReplyOf (command.Read image snap at len) (reply.Bytes bytes) places =
+    ShowsBytes image snap (record { at = at; len = len }) bytes places
 IsReplyOf command.List (reply.Names names) places = ListsNames names places
 IsReplyOf (command.Info image) (reply.Info h) places = ShowsImage image h places
 IsReplyOf (command.SnapList image) (reply.Snaps snaps) places = ShowsSnaps image snaps places

@@ -24,7 +24,8 @@ replace_effect image piece bytes = replacing_effect image piece (cut_bytes bytes
 
 -- A piece was read at the snapshot, and its bytes are the flat snapshot's at that place. The head
 -- got these bytes; and so on with the other pieces.
-pub record RestoresFirst (AreOthers : List Placed → Type 0) (image snap : ℕ) (piece : Piece) (places : List Placed) : Type 0 where
+pub record RestoresFirst (AreOthers : List Placed → Type 0) (image snap : ℕ) (piece : Piece)
+    (places : List Placed) : Type 0 where
   pub reading : Placed
   pub replaced : List Placed
   pub others : List Placed
@@ -52,5 +53,6 @@ pub record RollsBackTo (name snap : List ℕ) (places : List Placed) : Type 0 wh
   pub restoring : List Placed
   pub behind : finds.rest ≡ sizing ++ restoring
   pub sets : SetsSize finds.image finds.header (length to.bytes) (effects_of sizing)
-  pub restores : RestoresAll finds.image to.id (pieces_of finds.header.layout (record { at = 0; len = length to.bytes })) restoring
+  pub restores : RestoresAll finds.image to.id
+      (pieces_of finds.header.layout (record { at = 0; len = length to.bytes })) restoring
   pub before : effects_of places ≡ effects_of sizing ++ effects_of restoring

@@ -12,7 +12,8 @@ use Rattle.rbd_world.specs.Sound.{IsStillSent, IsStop}
 -- what the slot wanted then: as the next one of a line that was lost by the stop, of that line's
 -- way to the lock, or of the house. Nothing of the slot has come since, so it comes once. It ends
 -- no line.
-pub record WasSent (homes : ℕ → SiteId) (slot : ℕ) (o : Operation) (reply : Option Reply) (before : List Happening) : Type 0 where
+pub record WasSent (homes : ℕ → SiteId) (slot : ℕ) (o : Operation) (reply : Option Reply)
+    (before : List Happening) : Type 0 where
   -- what the slots wanted, which lines were lost, what was until the stop, and what came since
   pub wanted : List (Option (SiteId × Op))
   pub lost : List ℕ

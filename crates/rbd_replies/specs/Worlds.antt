@@ -41,7 +41,8 @@ AreRepliesOf run history = (entries after : List Entry) (line : ℕ) (reply : Re
 -- these events, one after another, each with its outcome, lead from one world to another
 abbrev pub AreSteps : {R : Type 0} → (stands : R → Standing) → List Call → (old new : WorldView R) → Type 0
 AreSteps stands [] old new = new ≡ old
-AreSteps {R} stands (c ∷ calls) old new = (next : WorldView R) × IsWorldStep stands c.event old c.outcome next × AreSteps stands calls next new
+AreSteps {R} stands (c ∷ calls) old new = (next : WorldView R) × IsWorldStep stands c.event old c.outcome next
+    × AreSteps stands calls next new
 
 -- a list begins with what was there
 pub record BeginsWith {X : Type 0} (before after : List X) : Type 0 where

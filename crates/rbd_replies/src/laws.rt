@@ -39,7 +39,8 @@ ghost use Rattle.rbd_replies.specs.Worlds.{AreRepliesOf, AreSteps, BeginsWith};
 /// The operations that a line's command does itself stand at their places, in their order. Those on
 /// its way to the lock of its image are kept apart (`way_of` of `rbd_world`).
 pub fn operations_have_places()
-    ensures { (line : ℕ) (run : List Happening) → map (λ (p : Placed). step_of p.done) (placed_of line run) ≡ steps_of line run }
+    ensures { (line : ℕ) (run : List Happening) → map (λ (p : Placed). step_of p.done) (placed_of line run)
+        ≡ steps_of line run }
 {}
 
 /// Each reply is the flat-copy machine's, at its place in the history: what a command did, and what
@@ -50,7 +51,8 @@ pub fn operations_have_places()
 /// run that is right, as that of each world is (`HasRun`).
 pub fn replies_are_the_flat_machines()
     ensures done { (homes : ℕ → Site) (run : List Happening) (o : Operation) (line : ℕ) (reply : Reply) (asked : Asked)
-        → IsRight homes (Did o (Some reply) ∷ run) → replies_to line (Did o (Some reply)) ≡ true → asked_by line run ≡ Some asked
+        → IsRight homes (Did o (Some reply) ∷ run) → replies_to line (Did o (Some reply)) ≡ true
+        → asked_by line run ≡ Some asked
         → IsReplyOf asked.command reply (placed_of line (Did o (Some reply) ∷ run)) }
     ensures refused { (homes : ℕ → Site) (run : List Happening) (s : Site) (line : ℕ) (reply : Reply) (asked : Asked)
         → IsRight homes (Refused s line reply ∷ run) → asked_by line run ≡ Some asked
@@ -62,11 +64,14 @@ pub fn replies_are_the_flat_machines()
 /// flat sites and the notices as they were. So whatever its reply is, it did nothing to the flat
 /// site.
 pub fn what_only_shows_changes_nothing()
-    ensures each { (homes : ℕ → Site) (run : List Happening) (o : Operation) (reply : Option Reply) (line : ℕ) (asked : Asked)
-        → IsRight homes (Did o reply ∷ run) → is_own line o.by ≡ true → asked_by line run ≡ Some asked → only_shows asked.command ≡ true
+    ensures each { (homes : ℕ → Site) (run : List Happening) (o : Operation) (reply : Option Reply) (line : ℕ)
+        (asked : Asked)
+        → IsRight homes (Did o reply ∷ run) → is_own line o.by ≡ true → asked_by line run ≡ Some asked
+        → only_shows asked.command ≡ true
         → LeavesAll o reply run }
     ensures done { (homes : ℕ → Site) (run : List Happening) (o : Operation) (line : ℕ) (reply : Reply) (asked : Asked)
-        → IsRight homes (Did o (Some reply) ∷ run) → replies_to line (Did o (Some reply)) ≡ true → asked_by line run ≡ Some asked → only_shows asked.command ≡ true
+        → IsRight homes (Did o (Some reply) ∷ run) → replies_to line (Did o (Some reply)) ≡ true
+        → asked_by line run ≡ Some asked → only_shows asked.command ≡ true
         → effects_of (placed_of line (Did o (Some reply) ∷ run)) ≡ [] }
     ensures refused { (homes : ℕ → Site) (run : List Happening) (s : Site) (line : ℕ) (reply : Reply) (asked : Asked)
         → IsRight homes (Refused s line reply ∷ run) → asked_by line run ≡ Some asked → only_shows asked.command ≡ true
@@ -78,7 +83,8 @@ pub fn what_only_shows_changes_nothing()
 /// is lost, and not while it is under way.
 pub fn what_changes_no_image_has_no_effect()
     ensures ended { (homes : ℕ → Site) (run : List Happening) (line : ℕ) (asked : Asked)
-        → IsRight homes run → asked_by line run ≡ Some asked → has_ended line run ≡ true → changes_no_image asked.command ≡ true
+        → IsRight homes run → asked_by line run ≡ Some asked → has_ended line run ≡ true
+        → changes_no_image asked.command ≡ true
         → effects_of (placed_of line run) ≡ [] }
     ensures begun { (w : WorldView Standing) (sound : IsSoundWorld as_is w) (line : ℕ) (asked : Asked)
         → asked_by line sound.told.run ≡ Some asked → changes_no_image asked.command ≡ true
@@ -97,7 +103,8 @@ pub fn what_is_refused_on_its_way_did_nothing()
 /// each of its places the flat site is that site's.
 pub fn replies_are_of_their_home()
     ensures done { (homes : ℕ → Site) (run : List Happening) (o : Operation) (line : ℕ) (reply : Reply) (asked : Asked)
-        → IsRight homes (Did o (Some reply) ∷ run) → replies_to line (Did o (Some reply)) ≡ true → asked_by line run ≡ Some asked
+        → IsRight homes (Did o (Some reply) ∷ run) → replies_to line (Did o (Some reply)) ≡ true
+        → asked_by line run ≡ Some asked
         → AreDoneAt (homes asked.who.session) (placed_of line (Did o (Some reply) ∷ run)) }
     ensures refused { (homes : ℕ → Site) (run : List Happening) (s : Site) (line : ℕ) (reply : Reply) (asked : Asked)
         → IsRight homes (Refused s line reply ∷ run) → asked_by line run ≡ Some asked
@@ -114,13 +121,18 @@ pub fn replies_are_of_their_home()
 /// lock.
 pub fn lines_keep_their_bounds()
     ensures ended { (homes : ℕ → Site) (run : List Happening) (line : ℕ) (asked : Asked) (pieces : ℕ)
-        → IsRight homes run → asked_by line run ≡ Some asked → has_ended line run ≡ true → HasAtMost pieces (profile asked.command).extent
+        → IsRight homes run → asked_by line run ≡ Some asked → has_ended line run ≡ true
+        → HasAtMost pieces (profile asked.command).extent
         → KeepsBound (homes asked.who.session) asked.command pieces (steps_of line run) }
-    ensures lost { (homes : ℕ → Site) (run : List Happening) (who : Who) (wanted : List (Option (Site × Op))) (lost : List ℕ) (line : ℕ) (asked : Asked) (pieces : ℕ)
-        → IsRight homes (Stopped who wanted lost ∷ run) → is_line_among line lost ≡ true → asked_by line run ≡ Some asked → HasAtMost pieces (profile asked.command).extent
+    ensures lost { (homes : ℕ → Site) (run : List Happening) (who : Who) (wanted : List (Option (Site × Op)))
+        (lost : List ℕ) (line : ℕ) (asked : Asked) (pieces : ℕ)
+        → IsRight homes (Stopped who wanted lost ∷ run) → is_line_among line lost ≡ true
+        → asked_by line run ≡ Some asked → HasAtMost pieces (profile asked.command).extent
         → KeepsBound (homes asked.who.session) asked.command pieces (steps_of line (Stopped who wanted lost ∷ run)) }
-    ensures under_way { (w : WorldView Standing) (sound : IsSoundWorld as_is w) (session slot line : ℕ) (asked : Asked) (pieces : ℕ)
-        → line_at session slot w.lives ≡ Some line → asked_by line sound.told.run ≡ Some asked → HasAtMost pieces (profile asked.command).extent
+    ensures under_way { (w : WorldView Standing) (sound : IsSoundWorld as_is w) (session slot line : ℕ) (asked : Asked)
+        (pieces : ℕ)
+        → line_at session slot w.lives ≡ Some line → asked_by line sound.told.run ≡ Some asked
+        → HasAtMost pieces (profile asked.command).extent
         → KeepsBound (sound.told.homes asked.who.session) asked.command pieces (steps_of line sound.told.run) }
     ensures begun { (w : WorldView Standing) (sound : IsSoundWorld as_is w) (line : ℕ) (asked : Asked) (pieces : ℕ)
         → asked_by line sound.told.run ≡ Some asked → HasAtMost pieces (profile asked.command).extent
@@ -131,11 +143,14 @@ pub fn lines_keep_their_bounds()
 /// itself than its row allows, a read in the pass that it is in: at least one more is due. So a
 /// line that has had as many as its row allows has its reply, or is lost.
 pub fn open_lines_stay_below_their_bounds()
-    ensures under_way { (w : WorldView Standing) (sound : IsSoundWorld as_is w) (session slot line : ℕ) (asked : Asked) (pieces : ℕ)
-        → line_at session slot w.lives ≡ Some line → asked_by line sound.told.run ≡ Some asked → HasAtMost pieces (profile asked.command).extent
+    ensures under_way { (w : WorldView Standing) (sound : IsSoundWorld as_is w) (session slot line : ℕ) (asked : Asked)
+        (pieces : ℕ)
+        → line_at session slot w.lives ≡ Some line → asked_by line sound.told.run ≡ Some asked
+        → HasAtMost pieces (profile asked.command).extent
         → StaysBelow (sound.told.homes asked.who.session) asked.command pieces (steps_of line sound.told.run) }
     ensures open { (w : WorldView Standing) (sound : IsSoundWorld as_is w) (line : ℕ) (asked : Asked) (pieces : ℕ)
-        → asked_by line sound.told.run ≡ Some asked → has_ended line sound.told.run ≡ false → HasAtMost pieces (profile asked.command).extent
+        → asked_by line sound.told.run ≡ Some asked → has_ended line sound.told.run ≡ false
+        → HasAtMost pieces (profile asked.command).extent
         → StaysBelow (sound.told.homes asked.who.session) asked.command pieces (steps_of line sound.told.run) }
     ensures at_bound { (w : WorldView Standing) (sound : IsSoundWorld as_is w) (line : ℕ) (asked : Asked) (pieces : ℕ)
         → asked_by line sound.told.run ≡ Some asked → HasAtMost pieces (profile asked.command).extent
@@ -149,8 +164,10 @@ pub fn open_lines_stay_below_their_bounds()
 /// row allows operations, other than those that wait and those on its way. What bounds the latter,
 /// but for those that ask again, is said by `ways_lead_to_locks` of `rbd_world`.
 pub fn polls_are_steps_of_lines()
-    ensures { (w : WorldView Standing) (session slot line : ℕ) → IsSoundWorld as_is w → line_at session slot w.lives ≡ Some line
-        → (happening as_is (event.Poll session slot) w ≡ Waited) ⊎ IsStepFor line (happening as_is (event.Poll session slot) w) }
+    ensures { (w : WorldView Standing) (session slot line : ℕ) → IsSoundWorld as_is w
+        → line_at session slot w.lives ≡ Some line
+        → (happening as_is (event.Poll session slot) w ≡ Waited)
+        ⊎ IsStepFor line (happening as_is (event.Poll session slot) w) }
 {}
 
 /// Each reply in the history of a world, whatever events came, is the one of its line's command: it
@@ -176,8 +193,10 @@ pub fn fenced_clients_change_nothing()
     ensures while_fenced { (homes : ℕ → Site) (run : List Happening) (o : Operation) (reply : Option Reply)
         → IsRight homes (Did o reply ∷ run) → is_fenced (records_after o.site run) o.instance ≡ true
         → IsWithoutEffect o reply run }
-    ensures since_the_fence { (homes : ℕ → Site) (run later : List Happening) (fence o : Operation) (was reply : Option Reply)
-        → IsRight homes (Did o reply ∷ (later ++ (Did fence was ∷ run))) → fence_of fence.op fence.answer ≡ Some o.instance → o.site ≡ fence.site
+    ensures since_the_fence { (homes : ℕ → Site) (run later : List Happening) (fence o : Operation)
+        (was reply : Option Reply)
+        → IsRight homes (Did o reply ∷ (later ++ (Did fence was ∷ run)))
+        → fence_of fence.op fence.answer ≡ Some o.instance → o.site ≡ fence.site
         → IsWithoutEffect o reply (later ++ (Did fence was ∷ run)) }
 {}
 
@@ -208,7 +227,8 @@ pub fn changes_are_the_owners()
     ensures owned { (homes : ℕ → Site) (run : List Happening) (o : Operation) (reply : Option Reply) (image : ℕ)
         → IsRight homes (Did o reply ∷ run) → changes_image image o.op ≡ true → was_done o.answer ≡ true
         → OwnsOrNone homes image o run }
-    ensures broken { (homes : ℕ → Site) (run : List Happening) (o : Operation) (reply : Option Reply) (image : ℕ) (owner : Who)
+    ensures broken { (homes : ℕ → Site) (run : List Happening) (o : Operation) (reply : Option Reply) (image : ℕ)
+        (owner : Who)
         → IsRight homes (Did o reply ∷ run) → o.op ≡ op.Header image (header.LockBreak owner) → o.answer ≡ answer.Done
         → is_fenced (records_after o.site run) owner ≡ true }
 {}
@@ -234,7 +254,8 @@ pub fn logs_are_owned()
 /// a site's log has it at each later one, unless he dropped it in between, removed the header with
 /// it, or was fenced there.
 pub fn who_lost_a_lock_was_fenced()
-    ensures { (before since : List Done) (image : ℕ) (me : Who) → IsOwnedLog (before ++ since) → HasLock image me (after_all no_records before)
+    ensures { (before since : List Done) (image : ℕ) (me : Who) → IsOwnedLog (before ++ since)
+        → HasLock image me (after_all no_records before)
         → HasLock image me (after_all no_records (before ++ since))
         ⊎ (SomeLine (IsLetGo image me) since ⊎ IsTrue (is_fenced (after_all no_records (before ++ since)) me)) }
 {}
@@ -257,15 +278,18 @@ pub fn watches_end_by_themselves()
     ensures ends { (homes : ℕ → Site) (run : List Happening) (h : Happening) (who : Who) (s : Site) (image : ℕ)
         → IsRight homes (h ∷ run) → is_watching who s image run ≡ true → is_watching who s image (h ∷ run) ≡ false
         → ends_watch who s image h ≡ true }
-    ensures removed { (homes : ℕ → Site) (run : List Happening) (o : Operation) (reply : Option Reply) (who : Who) (s : Site) (image : ℕ)
-        → IsRight homes (Did o reply ∷ run) → is_watching who s image run ≡ true → is_watching who s image (Did o reply ∷ run) ≡ false
+    ensures removed { (homes : ℕ → Site) (run : List Happening) (o : Operation) (reply : Option Reply) (who : Who)
+        (s : Site) (image : ℕ)
+        → IsRight homes (Did o reply ∷ run) → is_watching who s image run ≡ true
+        → is_watching who s image (Did o reply ∷ run) ≡ false
         → o.op ≡ op.Header image header.Remove → HasLock image o.instance (records_after s run) }
 {}
 
 /// An operation that only tells something to those who watch changes nothing but the notices: both
 /// sites' records and their flat sites stay as they were.
 pub fn what_is_told_changes_no_site()
-    ensures { (homes : ℕ → Site) (run : List Happening) (o : Operation) (reply : Option Reply) (image : ℕ) (kind : NoticeKind)
+    ensures { (homes : ℕ → Site) (run : List Happening) (o : Operation) (reply : Option Reply) (image : ℕ)
+        (kind : NoticeKind)
         → IsRight homes (Did o reply ∷ run) → o.op ≡ op.Header image (header.Notify kind)
         → IsAnnouncement o reply run }
 {}
@@ -273,6 +297,8 @@ pub fn what_is_told_changes_no_site()
 /// The calls are the events that came, each with its outcome, one after another; and what the
 /// history has stays as it is.
 pub fn events_are_told_one_by_one()
-    ensures calls { (calls : List Call) (old new : WorldView Standing) → AreSteps as_is calls old new → new.calls ≡ old.calls ++ calls }
-    ensures history { (calls : List Call) (old new : WorldView Standing) → AreSteps as_is calls old new → BeginsWith old.history new.history }
+    ensures calls { (calls : List Call) (old new : WorldView Standing) → AreSteps as_is calls old new
+        → new.calls ≡ old.calls ++ calls }
+    ensures history { (calls : List Call) (old new : WorldView Standing) → AreSteps as_is calls old new
+        → BeginsWith old.history new.history }
 {}

@@ -36,7 +36,8 @@ use Rattle.rbd_schedule.specs.Starts.{is_ended}
 -- runs.
 pub record AreOver {R : Type 0} (script : Script) (w : WorldView R) : Type 0 where
   pub begun : (line : ℕ) → is_begun line w.history ≡ true → is_ended line w.history ≡ true
-  pub given : (session : ℕ) → runs session w ≡ true → All (λ (c : Given). is_ended c.line w.history ≡ true) (given_in script.lines session)
+  pub given : (session : ℕ) → runs session w ≡ true
+      → All (λ (c : Given). is_ended c.line w.history ≡ true) (given_in script.lines session)
 
 -- ---- somebody is held up
 
@@ -52,7 +53,8 @@ pub record IsAnothers (r : Records) (image : ℕ) (me : Instance) : Type 0 where
 
 -- A notice that asks an owner for the lock of an image is lost: no settle delivers it, and nobody
 -- has heard it.
-pub record IsRequestLost {R : Type 0} (lost : (number : ℕ) → Bool) (w : WorldView R) (p : ImageAt) (owner : Instance) : Type 0 where
+pub record IsRequestLost {R : Type 0} (lost : (number : ℕ) → Bool) (w : WorldView R) (p : ImageAt)
+    (owner : Instance) : Type 0 where
   pub number : ℕ
   pub request : Notice
   pub posted : notice_numbered number w.sites.mail ≡ Some request
@@ -70,23 +72,28 @@ pub record HasGivenUp {R : Type 0} (w : WorldView R) (p : ImageAt) (owner : Inst
 
 -- Why an owner that still runs doesn't let a lock go: it has quiesced the image; or it was fenced,
 -- and counts the lock as given up; or it doesn't know that it is asked, since a notice was lost.
-abbrev pub KeepsLock : {R : Type 0} → (lost : (number : ℕ) → Bool) → WorldView R → ImageAt → (owner : Instance) → LockState → Type 0
+abbrev pub KeepsLock : {R : Type 0} → (lost : (number : ℕ) → Bool) → WorldView R → ImageAt → (owner : Instance)
+    → LockState → Type 0
 KeepsLock lost w p owner s = (s.quiesced ≡ true) ⊎ (HasGivenUp w p owner s ⊎ IsRequestLost lost w p owner)
 
 -- Another instance has the lock, and has been stopped, or keeps it.
-pub record IsKeptFrom {R : Type 0} (lost : (number : ℕ) → Bool) (w : WorldView R) (p : ImageAt) (me : Instance) : Type 0 where
+pub record IsKeptFrom {R : Type 0} (lost : (number : ℕ) → Bool) (w : WorldView R) (p : ImageAt)
+    (me : Instance) : Type 0 where
   pub lock : IsAnothers (records_in p.site w.sites) p.image me
-  pub keeps : (c : ClientView R) → client_in lock.owner.session w.lives ≡ Some c → c.session.instance ≡ lock.owner → KeepsLock lost w p lock.owner (lock_state_at p.site p.image c.locks)
+  pub keeps : (c : ClientView R) → client_in lock.owner.session w.lives ≡ Some c → c.session.instance ≡ lock.owner
+      → KeepsLock lost w p lock.owner (lock_state_at p.site p.image c.locks)
 
 -- Why a request that stands at its look under the lock of an image doesn't act there: a quiesce of
 -- its session holds it back; or it is on its way to the lock, which another client keeps.
-abbrev pub IsLockedOut : {R : Type 0} → (lost : (number : ℕ) → Bool) → ImageAt → WorldView R → ClientView R → Actor → Type 0
+abbrev pub IsLockedOut : {R : Type 0} → (lost : (number : ℕ) → Bool) → ImageAt → WorldView R → ClientView R → Actor
+    → Type 0
 IsLockedOut lost p w c actor.Nobody = (lock_state_at p.site p.image c.locks).quiesced ≡ true
 IsLockedOut lost p w c (actor.Way a) = IsKeptFrom lost w p c.session.instance
 IsLockedOut lost p w c who = ⊥
 
 -- The request in a slot of a client is held up at a lock.
-pub record IsHeldUp {R : Type 0} (stands : R → Standing) (lost : (number : ℕ) → Bool) (w : WorldView R) (c : ClientView R) (slot : ℕ) : Type 0 where
+pub record IsHeldUp {R : Type 0} (stands : R → Standing) (lost : (number : ℕ) → Bool) (w : WorldView R)
+    (c : ClientView R) (slot : ℕ) : Type 0 where
   pub request : Running R
   pub runs : running_at slot c.session ≡ Some request
   pub image : ImageAt
@@ -104,12 +111,15 @@ pub record StandsBehind {R : Type 0} (s : SessionView R) (slot first : ℕ) : Ty
   pub leads : leader.slot ≡ first
 
 -- held up at a lock, or behind such a one in its line
-abbrev pub IsStuckIn : {R : Type 0} → (stands : R → Standing) → (lost : (number : ℕ) → Bool) → WorldView R → ClientView R → (slot : ℕ) → Type 0
-IsStuckIn stands lost w c slot = IsHeldUp stands lost w c slot ⊎ ((first : ℕ) × StandsBehind c.session slot first × IsHeldUp stands lost w c first)
+abbrev pub IsStuckIn : {R : Type 0} → (stands : R → Standing) → (lost : (number : ℕ) → Bool) → WorldView R
+    → ClientView R → (slot : ℕ) → Type 0
+IsStuckIn stands lost w c slot = IsHeldUp stands lost w c slot
+    ⊎ ((first : ℕ) × StandsBehind c.session slot first × IsHeldUp stands lost w c first)
 
 -- The request of a line is in a slot of a client that runs, and stuck there. `lost` are the notices
 -- that no settle delivers.
-pub record IsStuck {R : Type 0} (stands : R → Standing) (lost : (number : ℕ) → Bool) (w : WorldView R) (line : ℕ) : Type 0 where
+pub record IsStuck {R : Type 0} (stands : R → Standing) (lost : (number : ℕ) → Bool) (w : WorldView R)
+    (line : ℕ) : Type 0 where
   pub session : ℕ
   pub client : ClientView R
   pub runs : client_in session w.lives ≡ Some client
@@ -118,7 +128,8 @@ pub record IsStuck {R : Type 0} (stands : R → Standing) (lost : (number : ℕ)
   pub stuck : IsStuckIn stands lost w client slot
 
 -- some client's request is held up at a lock
-pub record SomebodyIsHeldUp {R : Type 0} (stands : R → Standing) (lost : (number : ℕ) → Bool) (w : WorldView R) : Type 0 where
+pub record SomebodyIsHeldUp {R : Type 0} (stands : R → Standing) (lost : (number : ℕ) → Bool)
+    (w : WorldView R) : Type 0 where
   pub session : ℕ
   pub client : ClientView R
   pub runs : client_in session w.lives ≡ Some client
@@ -130,5 +141,6 @@ pub record SomebodyIsHeldUp {R : Type 0} (stands : R → Standing) (lost : (numb
 -- Nothing goes on any more: each command that was begun has its reply, or is lost, or is stuck at a
 -- lock; and either all is over, or somebody is held up.
 pub record HasCalmed {R : Type 0} (stands : R → Standing) (script : Script) (w : WorldView R) : Type 0 where
-  pub each : (line : ℕ) → is_begun line w.history ≡ true → (is_ended line w.history ≡ true) ⊎ IsStuck stands (is_lost_by script.lines) w line
+  pub each : (line : ℕ) → is_begun line w.history ≡ true → (is_ended line w.history ≡ true)
+      ⊎ IsStuck stands (is_lost_by script.lines) w line
   pub all : AreOver script w ⊎ SomebodyIsHeldUp stands (is_lost_by script.lines) w

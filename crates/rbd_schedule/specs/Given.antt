@@ -9,7 +9,8 @@ use Rattle.rbd_schedule.specs.declared.given.Given.{Given}
 
 -- the command of a line, as the event of its submission
 abbrev pub given_by : (line : ℕ) → Said → List Given
-given_by line (said.Command session beside command) = record { session = session; line = line; beside = beside; submission = event.Submit session line command } ∷ []
+given_by line (said.Command session beside command) =
+    record { session = session; line = line; beside = beside; submission = event.Submit session line command } ∷ []
 given_by line s = []
 
 -- in the order of the script

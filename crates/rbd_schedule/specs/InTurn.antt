@@ -10,7 +10,8 @@ use Rattle.rbd_schedule.specs.Starts.{is_ended}
 -- stands that a has its reply or is lost.
 abbrev pub IsEndedBefore : (a b : ℕ) → List Entry → Type 0
 IsEndedBefore a b history =
-    (before after : List Entry) (who : Instance) → history ≡ before ++ entry.Start b who ∷ after → is_ended a before ≡ true
+    (before after : List Entry) (who : Instance) → history ≡ before ++ entry.Start b who ∷ after
+    → is_ended a before ≡ true
 
 -- Of each two of these commands the later one began behind the end of the earlier one, unless it
 -- stands beside the others.

@@ -44,4 +44,5 @@ is_to (Some c) (Some n) = same_instance c.session.instance n.to
 -- whether a notice is to the session's instance that runs, and was neither delivered nor lost.
 -- Notices to an earlier life are due to nobody.
 abbrev pub is_notice_due : {R : Type 0} → (lost : (number : ℕ) → Bool) → (session number : ℕ) → WorldView R → Bool
-is_notice_due lost session number w = is_to (client_in session w.lives) (notice_numbered number w.sites.mail) && (not (was_heard number w.calls) && not (lost number))
+is_notice_due lost session number w = is_to (client_in session w.lives) (notice_numbered number w.sites.mail) &&
+    (not (was_heard number w.calls) && not (lost number))

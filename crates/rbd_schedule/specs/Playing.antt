@@ -151,14 +151,16 @@ is_past_life to latest = not (to.session == latest.session) || nat_lt to.life la
 
 -- whether the notice is there, and neither that life nor a later one has anything to do with it any
 -- more
-abbrev pub is_dealt_with : (heard lost : (number : ℕ) → Bool) → (latest : Instance) → (number : ℕ) → Option Notice → Bool
+abbrev pub is_dealt_with : (heard lost : (number : ℕ) → Bool) → (latest : Instance) → (number : ℕ) → Option Notice
+    → Bool
 is_dealt_with heard lost latest number None = false
 is_dealt_with heard lost latest number (Some n) = is_past_life n.to latest || (heard number || lost number)
 
 -- No turn of the session will deliver it any more.
 abbrev pub IsPassed : {R : Type 0} → (lost : (number : ℕ) → Bool) → (session number : ℕ) → WorldView R → Type 0
 IsPassed {R} lost session number w =
-    (l : LivesView R) → lives_in session w.lives ≡ Some l → is_dealt_with (λ n. was_heard n w.calls) lost l.latest number (notice_numbered number w.sites.mail) ≡ true
+    (l : LivesView R) → lives_in session w.lives ≡ Some l
+    → is_dealt_with (λ n. was_heard n w.calls) lost l.latest number (notice_numbered number w.sites.mail) ≡ true
 
 -- ---- inboxes
 
@@ -166,7 +168,8 @@ IsPassed {R} lost session number w =
 -- ascend.
 abbrev pub HoldsBut : (P : (number : ℕ) → Type 0) → (from : ℕ) → (listed : List ℕ) → (to : ℕ) → Type 0
 HoldsBut P from [] to = (from ≤ to) × ((k : ℕ) → from ≤ k → k < to → P (k + 1))
-HoldsBut P from (number ∷ listed) to = (from < number) × ((k : ℕ) → from ≤ k → k + 1 < number → P (k + 1)) × HoldsBut P number listed to
+HoldsBut P from (number ∷ listed) to = (from < number) × ((k : ℕ) → from ≤ k → k + 1 < number → P (k + 1))
+    × HoldsBut P number listed to
 
 -- a list without some first numbers, each of which has this property
 abbrev pub IsWithout : (P : (number : ℕ) → Type 0) → (old new : List ℕ) → Type 0
@@ -196,10 +199,12 @@ pub record KeepsUp (r : Runner) : Type 0 where
   pub most : r.highest ≤ 64
   pub above : (session slot : ℕ) → r.highest < slot → is_held session slot (seen r.world) ≡ false
   pub few : length r.queues.items ≤ 32
-  pub queues : (session : ℕ) (q : Queue) → slice_get r.queues.items session ≡ Some q → IsQueueIn (seen r.world).history session q
+  pub queues : (session : ℕ) (q : Queue) → slice_get r.queues.items session ≡ Some q
+      → IsQueueIn (seen r.world).history session q
   pub over : (line : ℕ) → has_line line r.over ≡ is_ended line (seen r.world).history
   pub heard : (number : ℕ) → has_mark number r.heard ≡ was_heard number (seen r.world).calls
-  pub sorted : (session : ℕ) → session < length r.inboxes.items → HoldsBut (λ number. IsPassed (lost_in r) session number (seen r.world)) 0 (inbox_of r session) r.sorted
+  pub sorted : (session : ℕ) → session < length r.inboxes.items
+      → HoldsBut (λ number. IsPassed (lost_in r) session number (seen r.world)) 0 (inbox_of r session) r.sorted
 
 -- How the runner goes on: it keeps up, its sessions were given no further command, and no further
 -- notice is lost.
@@ -210,13 +215,15 @@ pub record RunnerGoesOn (old new : Runner) : Type 0 where
   pub lost : lost_in new ≡ lost_in old
 
 -- a session's earliest command that may start was submitted, or there was none
-abbrev pub StartsIf : {R : Type 0} → (stands : R → Standing) → (given : (session : ℕ) → List Given) → (session : ℕ) → (started : Bool) → (old new : WorldView R) → Type 0
+abbrev pub StartsIf : {R : Type 0} → (stands : R → Standing) → (given : (session : ℕ) → List Given) → (session : ℕ)
+    → (started : Bool) → (old new : WorldView R) → Type 0
 StartsIf stands given session true old new = Submits stands given session old new
 StartsIf stands given session false old new = (new ≡ old) × IsIdle given old session
 
 -- Commands of a session were submitted, one after another, until neither it nor a session before it
 -- had one that may start.
-pub record StartsEach {R : Type 0} (stands : R → Standing) (given : (session : ℕ) → List Given) (session : ℕ) (old new : WorldView R) : Type 0 where
+pub record StartsEach {R : Type 0} (stands : R → Standing) (given : (session : ℕ) → List Given) (session : ℕ)
+    (old new : WorldView R) : Type 0 where
   pub count : ℕ
   pub starts : Deeds (λ k. Starts stands given) count old new
   pub idle : (other : ℕ) → other ≤ session → IsIdle given new other

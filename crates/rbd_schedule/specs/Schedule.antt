@@ -68,7 +68,8 @@ abbrev pub is_held : {R : Type 0} → (session slot : ℕ) → WorldView R → B
 is_held session slot w = is_some (line_at session slot w.lives)
 
 -- the slot wants an operation of the kind
-pub record WantsKind {R : Type 0} (stands : R → Standing) (session slot : ℕ) (kind : OpKind) (w : WorldView R) : Type 0 where
+pub record WantsKind {R : Type 0} (stands : R → Standing) (session slot : ℕ) (kind : OpKind)
+    (w : WorldView R) : Type 0 where
   pub site : SiteId
   pub wants : kind_in stands slot (client_in session w.lives) ≡ Some (site, kind)
 
@@ -159,7 +160,8 @@ module _ {R : Type 0} (stands : R → Standing) (given : (session : ℕ) → Lis
     -- delivered, in ascending order, and then its slots are polled. Notices are numbered from 1.
     pub record Turn (session : ℕ) (old new : Pace R) : Type 0 where
       pub told : WorldView R
-      pub notices : Deeds (λ k. DeliversWhere (is_notice_due lost session (k + 1) old.world) (k + 1)) (length old.world.sites.mail) old.world told
+      pub notices : Deeds (λ k. DeliversWhere (is_notice_due lost session (k + 1) old.world) (k + 1))
+          (length old.world.sites.mail) old.world told
       pub polls : PollsAll session (record { world = told; went_on = old.went_on }) new
 
     -- the turn of a session that runs; a stopped session has none
@@ -172,7 +174,8 @@ module _ {R : Type 0} (stands : R → Standing) (given : (session : ℕ) → Lis
 
     -- a round of so many sessions, in the order of their declaration
     abbrev pub Round : (sessions : ℕ) → (went_on : Bool) → (old new : WorldView R) → Type 0
-    Round sessions went_on old new = Deeds TurnOf sessions (record { world = old; went_on = false }) (record { world = new; went_on = went_on })
+    Round sessions went_on old new = Deeds TurnOf sessions (record { world = old; went_on = false })
+        (record { world = new; went_on = went_on })
 
     -- one more round, unless eight in a row were idle
     pub record RoundsOn (sessions : ℕ) (old new : Calm R) : Type 0 where
@@ -186,7 +189,8 @@ module _ {R : Type 0} (stands : R → Standing) (given : (session : ℕ) → Lis
       pub count : ℕ
       pub idle : ℕ
       pub most : count ≤ rounds
-      pub on : Deeds (λ k. RoundsOn sessions) count (record { world = old; idle = 0 }) (record { world = new; idle = idle })
+      pub on : Deeds (λ k. RoundsOn sessions) count (record { world = old; idle = 0 })
+          (record { world = new; idle = idle })
       pub ends : (count ≡ rounds) ⊎ (idle ≡ most_idle)
 
     -- ---- lines
@@ -211,10 +215,12 @@ module _ {R : Type 0} (stands : R → Standing) where
   pub record PlaysLine (script : Script) (k : ℕ) (old new : WorldView R) : Type 0 where
     pub line : Line
     pub is : slice_get script.lines k ≡ Some line
-    pub plays : Plays stands (given_in (take (k + 1) script.lines)) (is_lost_by (take (k + 1) script.lines)) (length script.sessions) line.said old new
+    pub plays : Plays stands (given_in (take (k + 1) script.lines)) (is_lost_by (take (k + 1) script.lines))
+        (length script.sessions) line.said old new
 
   -- All lines, in their order; and at the end rounds until all that can go on has gone.
   pub record PlaysScript (script : Script) (old new : WorldView R) : Type 0 where
     pub between : WorldView R
     pub lines : Deeds (PlaysLine script) (length script.lines) old between
-    pub closing : Settles stands (given_in script.lines) (is_lost_by script.lines) (length script.sessions) (closing_rounds (length (commands_of script.lines))) between new
+    pub closing : Settles stands (given_in script.lines) (is_lost_by script.lines) (length script.sessions)
+        (closing_rounds (length (commands_of script.lines))) between new

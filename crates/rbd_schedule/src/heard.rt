@@ -52,7 +52,8 @@ fn mark_at(marks: &[bool], index: usize) -> bool
 /// Makes the place of a mark. No mark changes.
 fn make_place(marks: &mut Vec<bool>, index: usize) -> Result<(), NoMemory>
     ensures place { OnOk result (index < length marks.new.items) }
-    ensures marks { OnOk result ((other : ℕ) → mark_of (slice_get marks.new.items other) ≡ mark_of (slice_get marks.old.items other)) }
+    ensures marks { OnOk result ((other : ℕ) → mark_of (slice_get marks.new.items other)
+        ≡ mark_of (slice_get marks.old.items other)) }
 {
     if index < marks.len() {
         return Ok(());

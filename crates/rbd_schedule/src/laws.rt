@@ -19,15 +19,19 @@ ghost use Rattle.rbd_schedule.specs.Playing.{IsPlay};
 /// The numbers of a script's lines begin at 1 or later and ascend, so no two lines have the same;
 /// whom a line names is declared; and there are at most 32 sessions.
 pub fn scripts_are_in_order()
-    ensures lines { (threads : Bool) (bytes : List ℕ) (s : Script) → reading threads bytes ≡ Ok s → AreLinesInOrder s.lines }
-    ensures declared { (threads : Bool) (bytes : List ℕ) (s : Script) → reading threads bytes ≡ Ok s → AreDeclared (length s.sessions) s.lines }
-    ensures sessions { (threads : Bool) (bytes : List ℕ) (s : Script) → reading threads bytes ≡ Ok s → length s.sessions ≤ 32 }
+    ensures lines { (threads : Bool) (bytes : List ℕ) (s : Script) → reading threads bytes ≡ Ok s
+        → AreLinesInOrder s.lines }
+    ensures declared { (threads : Bool) (bytes : List ℕ) (s : Script) → reading threads bytes ≡ Ok s
+        → AreDeclared (length s.sessions) s.lines }
+    ensures sessions { (threads : Bool) (bytes : List ℕ) (s : Script) → reading threads bytes ≡ Ok s
+        → length s.sessions ≤ 32 }
 {}
 
 /// In a session that has a request some request may go on: a request only waits for another one of
 /// its session, and the first of a line never waits.
 pub fn somebody_goes_on()
-    ensures { (s : SessionView Standing) (slot : ℕ) (o : Occupant Standing) → IsSoundSession as_is s → held_in slot s.slots ≡ Some o → MayGo s }
+    ensures { (s : SessionView Standing) (slot : ℕ) (o : Occupant Standing) → IsSoundSession as_is s
+        → held_in slot s.slots ≡ Some o → MayGo s }
 {}
 
 /// At the end of a play nothing goes on any more: each command that was begun has its reply, or is
@@ -47,8 +51,10 @@ pub fn plays_come_to_rest()
 /// a play with fewer than `2^59` events they end with eight in a row that are idle: there are
 /// `2^60` and more.
 pub fn closing_rounds_suffice()
-    ensures rounds { (script : Script) (w : WorldView Standing) → (play : IsPlay as_is script w) → play.plays.closing.count ≤ length w.calls + 8 }
-    ensures idle { (script : Script) (w : WorldView Standing) → (play : IsPlay as_is script w) → length w.calls < 2 ^ 59 → play.plays.closing.idle ≡ 8 }
+    ensures rounds { (script : Script) (w : WorldView Standing) → (play : IsPlay as_is script w)
+        → play.plays.closing.count ≤ length w.calls + 8 }
+    ensures idle { (script : Script) (w : WorldView Standing) → (play : IsPlay as_is script w) → length w.calls < 2 ^ 59
+        → play.plays.closing.idle ≡ 8 }
 {}
 
 /// In each play the commands of a session that wait for each other come one after another: one
@@ -56,5 +62,6 @@ pub fn closing_rounds_suffice()
 /// be in order, as those of each script that was read are: a history tells commands by their lines.
 /// Own.
 pub fn commands_take_turns()
-    ensures { (script : Script) (w : WorldView Standing) → AreLinesInOrder script.lines → IsPlay as_is script w → (session : ℕ) → AreInTurn (given_in script.lines session) w.history }
+    ensures { (script : Script) (w : WorldView Standing) → AreLinesInOrder script.lines → IsPlay as_is script w
+        → (session : ℕ) → AreInTurn (given_in script.lines session) w.history }
 {}

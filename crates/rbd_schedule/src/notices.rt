@@ -32,7 +32,10 @@ impl Runner {
     /// Delivers each notice that is due to a session, in ascending order.
     pub fn deliver_due(&mut self, alloc: Global, session: SessionNo) -> Result<(), NoMemory>
         requires { KeepsUp self.old }
-        ensures notices { OnOk result (Deeds (λ k. DeliversWhere as_is (given_to self.old) (due_to (lost_in self.old) session (k + 1) (seen self.old.world)) (k + 1)) (length (seen self.old.world).sites.mail) (seen self.old.world) (seen self.new.world)) }
+        ensures notices { OnOk result (Deeds
+            (λ k. DeliversWhere as_is (given_to self.old)
+            (due_to (lost_in self.old) session (k + 1) (seen self.old.world)) (k + 1))
+            (length (seen self.old.world).sites.mail) (seen self.old.world) (seen self.new.world)) }
         ensures goes { OnOk result (RunnerGoesOn self.old self.new) }
     {
         self.sort()?;
@@ -78,9 +81,13 @@ impl Runner {
     /// The next one of all notices that is due to a session, behind those up to one.
     fn next_due(&mut self, session: SessionNo, told: u64, all: u64) -> Option<u64>
         requires { KeepsUp self.old }
-        ensures some { IfSome result (λ number. (told < number) × (number ≤ all) × (due_to (lost_in self.old) session number (seen self.old.world) ≡ true)) }
-        ensures before { IfSome result (λ number. (k : ℕ) → told ≤ k → k + 1 < number → due_to (lost_in self.old) session (k + 1) (seen self.old.world) ≡ false) }
-        ensures none { result ≡ None → (k : ℕ) → told ≤ k → k < all → due_to (lost_in self.old) session (k + 1) (seen self.old.world) ≡ false }
+        ensures some { IfSome result (λ number. (told < number) × (number ≤ all)
+            × (due_to (lost_in self.old) session number (seen self.old.world) ≡ true)) }
+        ensures before { IfSome result
+            (λ number. (k : ℕ) → told ≤ k → k + 1 < number
+            → due_to (lost_in self.old) session (k + 1) (seen self.old.world) ≡ false) }
+        ensures none { result ≡ None → (k : ℕ) → told ≤ k → k < all
+            → due_to (lost_in self.old) session (k + 1) (seen self.old.world) ≡ false }
         ensures goes { RunnerGoesOn self.old self.new }
         ensures world { seen self.new.world ≡ seen self.old.world }
     {
@@ -142,8 +149,10 @@ fn receiver(world: &World, number: u64) -> Option<Instance>
 /// A notice comes into the inbox of a session, behind the others.
 fn put(inboxes: &mut Vec<VecDeque<u64>>, session: SessionNo, number: u64) -> Result<(), NoMemory>
     ensures count { OnOk result (length inboxes.new.items ≡ length inboxes.old.items) }
-    ensures here { OnOk result (session < length inboxes.old.items → numbers_in (slice_get inboxes.new.items session) ≡ numbers_in (slice_get inboxes.old.items session) ++ number ∷ []) }
-    ensures others { OnOk result ((other : ℕ) → other ≢ session → numbers_in (slice_get inboxes.new.items other) ≡ numbers_in (slice_get inboxes.old.items other)) }
+    ensures here { OnOk result (session < length inboxes.old.items → numbers_in (slice_get inboxes.new.items session)
+        ≡ numbers_in (slice_get inboxes.old.items session) ++ number ∷ []) }
+    ensures others { OnOk result ((other : ℕ) → other ≢ session → numbers_in (slice_get inboxes.new.items other)
+        ≡ numbers_in (slice_get inboxes.old.items other)) }
 {
     let Some(inbox) = inboxes.get_mut(session.0 as usize) else {
         return Ok(());
@@ -188,7 +197,8 @@ fn pass_settled(
     lost: &HashSet<u64>,
     who: &Instance,
 )
-    ensures { IsWithout (λ number. settled_by (λ n. has_mark n heard.now) (λ n. has_number n lost.now) who.now number (notice_numbered number (seen world.now).sites.mail) ≡ true) inbox.old.items inbox.new.items }
+    ensures { IsWithout (λ number. settled_by (λ n. has_mark n heard.now) (λ n. has_number n lost.now) who.now number
+        (notice_numbered number (seen world.now).sites.mail) ≡ true) inbox.old.items inbox.new.items }
 {
     while let Some(number) = first_of(inbox) {
         if !is_settled(world, heard, lost, who, number) {
@@ -206,7 +216,8 @@ fn is_settled(
     who: &Instance,
     number: u64,
 ) -> bool
-    ensures { result ≡ settled_by (λ n. has_mark n heard.now) (λ n. has_number n lost.now) who.now number (notice_numbered number (seen world.now).sites.mail) }
+    ensures { result ≡ settled_by (λ n. has_mark n heard.now) (λ n. has_number n lost.now) who.now number
+        (notice_numbered number (seen world.now).sites.mail) }
 {
     let Some(notice) = world.notice(number) else {
         return false;

@@ -60,7 +60,8 @@ impl Queue {
     /// Whether a command that comes behind the others waits for one of them, as far as is seen: it
     /// doesn't stand beside them, and the first that isn't known to be over hasn't ended.
     pub fn holds_back(&self, given: &Given, ended: &LineMap<()>) -> bool
-        ensures { result ≡ is_held_back (λ line. has_line line ended.now) self.now.front self.now.commands.items given.now }
+        ensures { result ≡ is_held_back
+            (λ line. has_line line ended.now) self.now.front self.now.commands.items given.now }
     {
         if given.beside {
             return false;
@@ -74,9 +75,12 @@ impl Queue {
     /// The place of the earliest command that may start, where the session has a free slot.
     pub fn earliest(&mut self, world: &World, ended: &LineMap<()>) -> Option<usize>
         requires { IsQueue (λ line. is_begun line (seen world.now).history) (λ line. has_line line ended.now) self.old }
-        ensures earliest { at_place self.old.commands.items result ≡ earliest_of (λ line. is_begun line (seen world.now).history) (λ line. has_line line ended.now) true self.old.commands.items }
+        ensures earliest { at_place self.old.commands.items result
+            ≡ earliest_of (λ line. is_begun line (seen world.now).history)
+            (λ line. has_line line ended.now) true self.old.commands.items }
         ensures place { IfSome result (λ place. place < length self.old.commands.items) }
-        ensures queue { IsQueue (λ line. is_begun line (seen world.now).history) (λ line. has_line line ended.now) self.new }
+        ensures queue { IsQueue (λ line. is_begun line (seen world.now).history)
+            (λ line. has_line line ended.now) self.new }
         ensures commands { self.new.commands ≡ self.old.commands }
     {
         self.front = first_open(self.commands.as_slice(), self.front, world, ended);
@@ -96,10 +100,13 @@ impl Queue {
 /// The first place from this one on whose command isn't over, and the end where there is none.
 fn first_open(commands: &[Given], from: usize, world: &World, ended: &LineMap<()>) -> usize
     requires from { from ≤ length commands.now }
-    requires over { All (λ c. over (λ line. is_begun line (seen world.now).history) (λ line. has_line line ended.now) c ≡ true) (take from commands.now) }
+    requires over { All (λ c. over (λ line. is_begun line (seen world.now).history) (λ line. has_line line ended.now) c
+        ≡ true) (take from commands.now) }
     ensures end { result ≤ length commands.now }
-    ensures over { All (λ c. over (λ line. is_begun line (seen world.now).history) (λ line. has_line line ended.now) c ≡ true) (take result commands.now) }
-    ensures open { (c : Commanded) → slice_get commands.now result ≡ Some c → over (λ line. is_begun line (seen world.now).history) (λ line. has_line line ended.now) c ≡ false }
+    ensures over { All (λ c. over (λ line. is_begun line (seen world.now).history) (λ line. has_line line ended.now) c
+        ≡ true) (take result commands.now) }
+    ensures open { (c : Commanded) → slice_get commands.now result ≡ Some c
+        → over (λ line. is_begun line (seen world.now).history) (λ line. has_line line ended.now) c ≡ false }
 {
     for place in from..commands.len() {
         if !is_over(&commands[place], world, ended) {
@@ -111,7 +118,8 @@ fn first_open(commands: &[Given], from: usize, world: &World, ended: &LineMap<()
 
 /// Whether a command was begun, and has its reply or is lost.
 fn is_over(given: &Given, world: &World, ended: &LineMap<()>) -> bool
-    ensures { result ≡ over (λ line. is_begun line (seen world.now).history) (λ line. has_line line ended.now) given.now }
+    ensures { result ≡ over (λ line. is_begun line (seen world.now).history)
+        (λ line. has_line line ended.now) given.now }
 {
     ended.has(given.line) && world.has_begun(given.line)
 }
@@ -120,10 +128,13 @@ fn is_over(given: &Given, world: &World, ended: &LineMap<()>) -> bool
 /// the end where there is none.
 fn first_beside(commands: &[Given], from: usize, world: &World) -> usize
     requires from { from ≤ length commands.now }
-    requires begun { All (λ c. may_start_beside (λ line. is_begun line (seen world.now).history) c ≡ false) (take from commands.now) }
+    requires begun { All (λ c. may_start_beside (λ line. is_begun line (seen world.now).history) c ≡ false)
+        (take from commands.now) }
     ensures end { result ≤ length commands.now }
-    ensures begun { All (λ c. may_start_beside (λ line. is_begun line (seen world.now).history) c ≡ false) (take result commands.now) }
-    ensures beside { (c : Commanded) → slice_get commands.now result ≡ Some c → may_start_beside (λ line. is_begun line (seen world.now).history) c ≡ true }
+    ensures begun { All (λ c. may_start_beside (λ line. is_begun line (seen world.now).history) c ≡ false)
+        (take result commands.now) }
+    ensures beside { (c : Commanded) → slice_get commands.now result ≡ Some c
+        → may_start_beside (λ line. is_begun line (seen world.now).history) c ≡ true }
 {
     for place in from..commands.len() {
         if may_start_beside(&commands[place], world) {

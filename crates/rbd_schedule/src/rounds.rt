@@ -25,7 +25,8 @@ impl Runner {
     /// is refused.
     pub fn settle(&mut self, alloc: Global, rounds: u128) -> Result<(), NoMemory>
         requires { KeepsUp self.old }
-        ensures settles { OnOk result (Settles as_is (given_to self.old) (lost_in self.old) (length self.old.queues.items) rounds (seen self.old.world) (seen self.new.world)) }
+        ensures settles { OnOk result (Settles as_is (given_to self.old) (lost_in self.old)
+            (length self.old.queues.items) rounds (seen self.old.world) (seen self.new.world)) }
         ensures goes { OnOk result (RunnerGoesOn self.old self.new) }
     {
         let mut left = rounds;
@@ -41,7 +42,8 @@ impl Runner {
     /// A round: whether a request went on in it.
     fn round(&mut self, alloc: Global) -> Result<bool, NoMemory>
         requires { KeepsUp self.old }
-        ensures round { IfOk result (λ went_on. Round as_is (given_to self.old) (lost_in self.old) (length self.old.queues.items) went_on (seen self.old.world) (seen self.new.world)) }
+        ensures round { IfOk result (λ went_on. Round as_is (given_to self.old) (lost_in self.old)
+            (length self.old.queues.items) went_on (seen self.old.world) (seen self.new.world)) }
         ensures goes { OnOk result (RunnerGoesOn self.old self.new) }
     {
         let mut went_on = false;
@@ -59,7 +61,9 @@ impl Runner {
         went_on: bool,
     ) -> Result<bool, NoMemory>
         requires { KeepsUp self.old }
-        ensures turn { IfOk result (λ went_on'. TurnOf as_is (given_to self.old) (lost_in self.old) session (record { world = seen self.old.world; went_on = went_on }) (record { world = seen self.new.world; went_on = went_on' })) }
+        ensures turn { IfOk result (λ went_on'. TurnOf as_is (given_to self.old) (lost_in self.old) session
+            (record { world = seen self.old.world; went_on = went_on })
+            (record { world = seen self.new.world; went_on = went_on' })) }
         ensures goes { OnOk result (RunnerGoesOn self.old self.new) }
     {
         if !self.world.runs(session) {
@@ -72,7 +76,9 @@ impl Runner {
     /// held at this point.
     fn turn(&mut self, alloc: Global, session: SessionNo, went_on: bool) -> Result<bool, NoMemory>
         requires { KeepsUp self.old }
-        ensures turn { IfOk result (λ went_on'. Turn as_is (given_to self.old) (lost_in self.old) session (record { world = seen self.old.world; went_on = went_on }) (record { world = seen self.new.world; went_on = went_on' })) }
+        ensures turn { IfOk result (λ went_on'. Turn as_is (given_to self.old) (lost_in self.old) session
+            (record { world = seen self.old.world; went_on = went_on })
+            (record { world = seen self.new.world; went_on = went_on' })) }
         ensures goes { OnOk result (RunnerGoesOn self.old self.new) }
     {
         self.deliver_due(alloc, session)?;
@@ -82,7 +88,9 @@ impl Runner {
     /// The polls of a session's turn: slot 0, and then each slot that is held at this point.
     fn polls(&mut self, alloc: Global, session: SessionNo, went_on: bool) -> Result<bool, NoMemory>
         requires { KeepsUp self.old }
-        ensures polls { IfOk result (λ went_on'. PollsAll as_is (given_to self.old) session (record { world = seen self.old.world; went_on = went_on }) (record { world = seen self.new.world; went_on = went_on' })) }
+        ensures polls { IfOk result (λ went_on'. PollsAll as_is (given_to self.old) session
+            (record { world = seen self.old.world; went_on = went_on })
+            (record { world = seen self.new.world; went_on = went_on' })) }
         ensures goes { OnOk result (RunnerGoesOn self.old self.new) }
     {
         let outcome = self.poll(alloc, session, Slot(0))?;

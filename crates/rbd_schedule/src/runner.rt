@@ -110,8 +110,11 @@ impl Runner {
     /// its session, and the notice that it loses is one of those.
     pub fn give(&mut self, line: &Line) -> Result<(), NoMemory>
         ensures keeps { OnOk result (IsPlayedLine line.now.said → KeepsUp self.old → KeepsUp self.new) }
-        ensures given { OnOk result ((session : ℕ) → session < length self.old.queues.items → given_to self.new session ≡ given_to self.old session ++ of_session session (told_by_line line.now.number line.now.said)) }
-        ensures lost { OnOk result ((number : ℕ) → lost_in self.new number ≡ (lost_in self.old number || loses_notice number line.now.said)) }
+        ensures given { OnOk result ((session : ℕ) → session < length self.old.queues.items
+            → given_to self.new session ≡ given_to self.old session ++ of_session session
+            (told_by_line line.now.number line.now.said)) }
+        ensures lost { OnOk result ((number : ℕ)
+            → lost_in self.new number ≡ (lost_in self.old number || loses_notice number line.now.said)) }
         ensures queues { OnOk result (length self.new.queues.items ≡ length self.old.queues.items) }
         ensures world { OnOk result (seen self.new.world ≡ seen self.old.world) }
     {
@@ -121,7 +124,8 @@ impl Runner {
 
     /// The notice that a line loses, where it loses one, is one of those that no settle delivers.
     fn lose_by(&mut self, said: &Said) -> Result<(), NoMemory>
-        ensures lost { OnOk result ((number : ℕ) → lost_in self.new number ≡ (lost_in self.old number || loses_notice number said.now)) }
+        ensures lost { OnOk result ((number : ℕ)
+            → lost_in self.new number ≡ (lost_in self.old number || loses_notice number said.now)) }
         ensures rest { self.new ≡ record self.old { lost = self.new.lost } }
     {
         if let Said::Lose(number) = said {
@@ -133,7 +137,9 @@ impl Runner {
     /// The command of a line, where it gives one, waits behind the others of its session.
     fn queue(&mut self, line: &Line) -> Result<(), NoMemory>
         ensures keeps { OnOk result (IsPlayedLine line.now.said → KeepsUp self.old → KeepsUp self.new) }
-        ensures given { OnOk result ((session : ℕ) → session < length self.old.queues.items → given_to self.new session ≡ given_to self.old session ++ of_session session (told_by_line line.now.number line.now.said)) }
+        ensures given { OnOk result ((session : ℕ) → session < length self.old.queues.items
+            → given_to self.new session ≡ given_to self.old session ++ of_session session
+            (told_by_line line.now.number line.now.said)) }
         ensures lost { lost_in self.new ≡ lost_in self.old }
         ensures queues { OnOk result (length self.new.queues.items ≡ length self.old.queues.items) }
         ensures world { OnOk result (seen self.new.world ≡ seen self.old.world) }
@@ -162,7 +168,8 @@ impl Runner {
         slot: Slot,
     ) -> Result<Outcome, NoMemory>
         requires { KeepsUp self.old }
-        ensures comes { IfOk result (λ outcome. Comes as_is (given_to self.old) (of_event.Poll session slot) outcome (seen self.old.world) (seen self.new.world)) }
+        ensures comes { IfOk result (λ outcome. Comes as_is (given_to self.old) (of_event.Poll session slot) outcome
+            (seen self.old.world) (seen self.new.world)) }
         ensures goes { OnOk result (RunnerGoesOn self.old self.new) }
     {
         let from = self.world.history().len();
@@ -176,7 +183,8 @@ impl Runner {
     pub fn happen(&mut self, alloc: Global, event: Event) -> Result<(), NoMemory>
         requires keeps { KeepsUp self.old }
         requires none { IsNoStart event }
-        ensures happens { OnOk result (Happens as_is (given_to self.old) event (seen self.old.world) (seen self.new.world)) }
+        ensures happens { OnOk result (Happens as_is (given_to self.old) event (seen self.old.world)
+            (seen self.new.world)) }
         ensures goes { OnOk result (RunnerGoesOn self.old self.new) }
     {
         let from = self.world.history().len();
@@ -195,7 +203,8 @@ impl Runner {
         image: ImageId,
     ) -> Result<(), NoMemory>
         requires { KeepsUp self.old }
-        ensures happens { OnOk result (Happens as_is (given_to self.old) (of_event.Expire session site image) (seen self.old.world) (seen self.new.world)) }
+        ensures happens { OnOk result (Happens as_is (given_to self.old) (of_event.Expire session site image)
+            (seen self.old.world) (seen self.new.world)) }
         ensures goes { OnOk result (RunnerGoesOn self.old self.new) }
     {
         let event = Event::Expire {
@@ -209,7 +218,8 @@ impl Runner {
     /// What a slot wanted comes, and then all that may start does.
     pub fn late(&mut self, alloc: Global, session: SessionNo, slot: Slot) -> Result<(), NoMemory>
         requires { KeepsUp self.old }
-        ensures happens { OnOk result (Happens as_is (given_to self.old) (of_event.Late session slot) (seen self.old.world) (seen self.new.world)) }
+        ensures happens { OnOk result (Happens as_is (given_to self.old) (of_event.Late session slot)
+            (seen self.old.world) (seen self.new.world)) }
         ensures goes { OnOk result (RunnerGoesOn self.old self.new) }
     {
         self.happen(alloc, Event::Late { session, slot })
@@ -224,7 +234,8 @@ impl Runner {
         object: u64,
     ) -> Result<(), NoMemory>
         requires { KeepsUp self.old }
-        ensures happens { OnOk result (Happens as_is (given_to self.old) (of_event.Trim site image object) (seen self.old.world) (seen self.new.world)) }
+        ensures happens { OnOk result (Happens as_is (given_to self.old) (of_event.Trim site image object)
+            (seen self.old.world) (seen self.new.world)) }
         ensures goes { OnOk result (RunnerGoesOn self.old self.new) }
     {
         let event = Event::Trim {
@@ -238,7 +249,8 @@ impl Runner {
     /// One event, and nothing else.
     fn step(&mut self, alloc: Global, event: Event) -> Result<Outcome, NoMemory>
         requires { IsBuiltEvent event }
-        ensures step { IfOk result (λ outcome. IsWorldStep as_is event (seen self.old.world) outcome (seen self.new.world)) }
+        ensures step { IfOk result (λ outcome. IsWorldStep as_is event (seen self.old.world) outcome
+            (seen self.new.world)) }
         ensures sound { IsSoundWorld as_is (seen self.new.world) }
         ensures rest { self.new ≡ record self.old { world = self.new.world } }
     {
@@ -252,10 +264,18 @@ impl Runner {
     /// start.
     fn note(&mut self, from: usize, told: Option<u64>, outcome: &Outcome) -> Result<(), NoMemory>
         requires { from ≤ length (seen self.old.world).history }
-        ensures over { OnOk result ((line : ℕ) → has_line line self.new.over ≡ (has_line line self.old.over || is_ended line (drop from (seen self.old.world).history))) }
-        ensures heard { OnOk result ((number : ℕ) → has_mark number self.new.heard ≡ (has_mark number self.old.heard || (is_one_of number told && heard_by outcome.now))) }
+        ensures over { OnOk result ((line : ℕ)
+            → has_line line self.new.over ≡
+            (has_line line self.old.over || is_ended line (drop from (seen self.old.world).history))) }
+        ensures heard { OnOk result ((number : ℕ)
+            → has_mark number self.new.heard
+            ≡ (has_mark number self.old.heard || (is_one_of number told && heard_by outcome.now))) }
         ensures due { OnOk result (self.new.is_due ≡ (self.old.is_due || may_start_by outcome.now)) }
-        ensures rest { self.new ≡ record self.old { over = self.new.over; heard = self.new.heard; is_due = self.new.is_due } }
+        ensures rest { self.new ≡ record self.old {
+          over = self.new.over;
+          heard = self.new.heard;
+          is_due = self.new.is_due;
+        } }
     {
         note_ends(&mut self.over, &self.world.history()[from..])?;
         note_hearing(&mut self.heard, told, outcome)?;
@@ -284,7 +304,8 @@ impl Runner {
     fn start_each(&mut self, alloc: Global, session: SessionNo) -> Result<(), NoMemory>
         requires keeps { KeepsUp self.old }
         requires before { (other : ℕ) → other < session → IsIdle (given_to self.old) (seen self.old.world) other }
-        ensures starts { OnOk result (StartsEach as_is (given_to self.old) session (seen self.old.world) (seen self.new.world)) }
+        ensures starts { OnOk result (StartsEach as_is (given_to self.old) session (seen self.old.world)
+            (seen self.new.world)) }
         ensures goes { OnOk result (RunnerGoesOn self.old self.new) }
     {
         while self.start_of(alloc, session)? {}
@@ -295,7 +316,8 @@ impl Runner {
     /// none.
     fn start_of(&mut self, alloc: Global, session: SessionNo) -> Result<bool, NoMemory>
         requires { KeepsUp self.old }
-        ensures starts { IfOk result (λ started. StartsIf as_is (given_to self.old) session started (seen self.old.world) (seen self.new.world)) }
+        ensures starts { IfOk result (λ started. StartsIf as_is (given_to self.old) session started
+            (seen self.old.world) (seen self.new.world)) }
         ensures goes { OnOk result (RunnerGoesOn self.old self.new) }
     {
         match self.place_of(session) {
@@ -307,7 +329,8 @@ impl Runner {
     /// The place of a session's earliest command that may start.
     fn place_of(&mut self, session: SessionNo) -> Option<usize>
         requires { KeepsUp self.old }
-        ensures place { at_place (given_to self.old session) result ≡ to_start (given_to self.old session) (seen self.old.world) session }
+        ensures place { at_place (given_to self.old session) result ≡ to_start (given_to self.old session)
+            (seen self.old.world) session }
         ensures within { IfSome result (λ place. place < length (given_to self.old session)) }
         ensures goes { RunnerGoesOn self.old self.new }
         ensures world { seen self.new.world ≡ seen self.old.world }
@@ -326,8 +349,10 @@ impl Runner {
     ) -> Result<bool, NoMemory>
         requires keeps { KeepsUp self.old }
         requires within { place < length (given_to self.old session) }
-        requires may { to_start (given_to self.old session) (seen self.old.world) session ≡ slice_get (given_to self.old session) place }
-        ensures starts { IfOk result (λ started. StartsIf as_is (given_to self.old) session started (seen self.old.world) (seen self.new.world)) }
+        requires may { to_start (given_to self.old session) (seen self.old.world) session
+            ≡ slice_get (given_to self.old session) place }
+        ensures starts { IfOk result (λ started. StartsIf as_is (given_to self.old) session started
+            (seen self.old.world) (seen self.new.world)) }
         ensures started { IfOk result (λ started. started ≡ true) }
         ensures goes { OnOk result (RunnerGoesOn self.old self.new) }
     {
@@ -364,7 +389,8 @@ fn highest_behind(highest: u8, outcome: &Outcome) -> u8
 
 /// The lines that have ended by entries of a history.
 fn note_ends(over: &mut LineMap<()>, entries: &[Entry]) -> Result<(), NoMemory>
-    ensures { OnOk result ((line : ℕ) → has_line line over.new ≡ (has_line line over.old || is_ended line entries.now)) }
+    ensures { OnOk result ((line : ℕ)
+        → has_line line over.new ≡ (has_line line over.old || is_ended line entries.now)) }
 {
     for entry in entries {
         note_end(over, entry)?;
@@ -374,7 +400,8 @@ fn note_ends(over: &mut LineMap<()>, entries: &[Entry]) -> Result<(), NoMemory>
 
 /// The line that has ended by an entry, where one has.
 fn note_end(over: &mut LineMap<()>, entry: &Entry) -> Result<(), NoMemory>
-    ensures { OnOk result ((line : ℕ) → has_line line over.new ≡ (has_line line over.old || is_one_of line (end_of entry.now))) }
+    ensures { OnOk result ((line : ℕ)
+        → has_line line over.new ≡ (has_line line over.old || is_one_of line (end_of entry.now))) }
 {
     if let Some(line) = line_ended_by(entry) {
         over.insert(line, ())?;
@@ -395,7 +422,8 @@ fn line_ended_by(entry: &Entry) -> Option<u32>
 
 /// The notice that an event told, where an instance heard it.
 fn note_hearing(heard: &mut Heard, told: Option<u64>, outcome: &Outcome) -> Result<(), NoMemory>
-    ensures { OnOk result ((number : ℕ) → has_mark number heard.new ≡ (has_mark number heard.old || (is_one_of number told && heard_by outcome.now))) }
+    ensures { OnOk result ((number : ℕ)
+        → has_mark number heard.new ≡ (has_mark number heard.old || (is_one_of number told && heard_by outcome.now))) }
 {
     if !is_heard(outcome) {
         return Ok(());

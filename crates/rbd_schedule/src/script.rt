@@ -73,7 +73,8 @@ impl Runner {
     /// What a line does when it is reached.
     fn play_line(&mut self, alloc: Global, said: &Said) -> Result<(), NoMemory>
         requires { KeepsUp self.old }
-        ensures plays { OnOk result (Plays as_is (given_to self.old) (lost_in self.old) (length self.old.queues.items) said.now (seen self.old.world) (seen self.new.world)) }
+        ensures plays { OnOk result (Plays as_is (given_to self.old) (lost_in self.old)
+            (length self.old.queues.items) said.now (seen self.old.world) (seen self.new.world)) }
         ensures goes { OnOk result (RunnerGoesOn self.old self.new) }
     {
         match said {
@@ -102,7 +103,8 @@ impl Runner {
     fn play_event(&mut self, alloc: Global, said: &Said) -> Result<(), NoMemory>
         requires keeps { KeepsUp self.old }
         requires one { IsOneEvent said.now }
-        ensures plays { OnOk result (Plays as_is (given_to self.old) (lost_in self.old) (length self.old.queues.items) said.now (seen self.old.world) (seen self.new.world)) }
+        ensures plays { OnOk result (Plays as_is (given_to self.old) (lost_in self.old)
+            (length self.old.queues.items) said.now (seen self.old.world) (seen self.new.world)) }
         ensures goes { OnOk result (RunnerGoesOn self.old self.new) }
     {
         match said {
@@ -122,7 +124,8 @@ impl Runner {
     fn play_event_at(&mut self, alloc: Global, said: &Said) -> Result<(), NoMemory>
         requires keeps { KeepsUp self.old }
         requires one { IsOneEventAt said.now }
-        ensures plays { OnOk result (Plays as_is (given_to self.old) (lost_in self.old) (length self.old.queues.items) said.now (seen self.old.world) (seen self.new.world)) }
+        ensures plays { OnOk result (Plays as_is (given_to self.old) (lost_in self.old)
+            (length self.old.queues.items) said.now (seen self.old.world) (seen self.new.world)) }
         ensures goes { OnOk result (RunnerGoesOn self.old self.new) }
     {
         match said {
@@ -150,7 +153,8 @@ impl Runner {
         times: u32,
     ) -> Result<(), NoMemory>
         requires { KeepsUp self.old }
-        ensures polls { OnOk result (Deeds (λ k. Polls as_is (given_to self.old) session slot) times (seen self.old.world) (seen self.new.world)) }
+        ensures polls { OnOk result (Deeds (λ k. Polls as_is (given_to self.old) session slot) times
+            (seen self.old.world) (seen self.new.world)) }
         ensures goes { OnOk result (RunnerGoesOn self.old self.new) }
     {
         for _ in 0..times {
@@ -168,7 +172,8 @@ impl Runner {
         kind: OpKind,
     ) -> Result<(), NoMemory>
         requires { KeepsUp self.old }
-        ensures polls { OnOk result (PollsUntil as_is (given_to self.old) session slot kind (seen self.old.world) (seen self.new.world)) }
+        ensures polls { OnOk result (PollsUntil as_is (given_to self.old) session slot kind (seen self.old.world)
+            (seen self.new.world)) }
         ensures goes { OnOk result (RunnerGoesOn self.old self.new) }
     {
         for _ in 0..MOST_POLLS {

@@ -22,7 +22,8 @@ use Rattle.rbd_script.specs.Verbs.{image_command}
 
 -- `[object N] [unit N] [count N] [journal]`
 abbrev pub shape_parts : List Part
-shape_parts = Optional (codes "object") greatest ∷ Optional (codes "unit") greatest ∷ Optional (codes "count") 4294967295 ∷ Flag (codes "journal") ∷ []
+shape_parts = Optional (codes "object") greatest ∷ Optional (codes "unit") greatest ∷ Optional
+    (codes "count") 4294967295 ∷ Flag (codes "journal") ∷ []
 
 abbrev pub shape : Option ℕ → Option ℕ → Option ℕ → Bool → Shape
 shape object unit count journal = record { object = object; unit = unit; count = count; journal = journal }
@@ -55,8 +56,10 @@ mirror_form mirror.Promote = form (Image ∷ Flag (codes "force") ∷ []) comman
 
 -- behind a command's word
 abbrev pub command_form : Verb → List (List ℕ) → Result Command LineCause
-command_form verb.Create = form (Image ∷ Number greatest ∷ shape_parts) (λ i size object unit count journal. command.Create i size (shape object unit count journal))
-command_form verb.Clone = form (Snap ∷ Image ∷ shape_parts) (λ s i object unit count journal. command.Clone s.0 s.1 i (shape object unit count journal))
+command_form verb.Create = form (Image ∷ Number greatest ∷ shape_parts)
+    (λ i size object unit count journal. command.Create i size (shape object unit count journal))
+command_form verb.Clone = form (Snap ∷ Image ∷ shape_parts)
+    (λ s i object unit count journal. command.Clone s.0 s.1 i (shape object unit count journal))
 command_form verb.Write = form (Image ∷ Number greatest ∷ Hex ∷ []) command.Write
 command_form verb.Fill = form (Image ∷ Number greatest ∷ Number 1048576 ∷ Byte ∷ []) command.Fill
 command_form verb.Discard = form (Image ∷ Number greatest ∷ Number greatest ∷ []) command.Discard

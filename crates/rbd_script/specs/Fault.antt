@@ -29,7 +29,8 @@ Gives (Err (Cause cause)) reading = reading ≡ Err cause
 Gives (Err NoMemory) reading = Unit {0}
 
 -- the same of the front of some tokens: its value, and the tokens that are left
-abbrev pub Takes : {A : Type 0} → Result A PartFault → (left : List (List ℕ)) → Result (A × List (List ℕ)) LineCause → Type 0
+abbrev pub Takes : {A : Type 0} → Result A PartFault → (left : List (List ℕ)) → Result (A × List (List ℕ)) LineCause
+    → Type 0
 Takes (Ok value) left reading = reading ≡ Ok (value, left)
 Takes (Err (Cause cause)) left reading = reading ≡ Err cause
 Takes (Err NoMemory) left reading = Unit {0}

@@ -43,7 +43,8 @@ IsFaultOf token NoMemory = Unit {0}
 
 -- 1 to 65,536 pairs
 unfoldable pub bytes_of_digits : List ℕ → Result (List ℕ) LineCause
-bytes_of_digits token = if nat_le (length token) 131072 && nat_le 2 (length token) && are_pairs token then Ok (bytes_of_pairs token) else Err BadNumber
+bytes_of_digits token = if nat_le (length token) 131072 && nat_le 2 (length token) && are_pairs token
+    then Ok (bytes_of_pairs token) else Err BadNumber
 
 -- one pair
 unfoldable pub byte_of_digits : List ℕ → Result ℕ LineCause

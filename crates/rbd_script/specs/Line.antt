@@ -20,7 +20,8 @@ asked_of session beside (Err cause) = Err cause
 
 -- `NAME COMMAND`
 unfoldable pub request_of_tokens : List Declared → (beside : Bool) → List (List ℕ) → Result Said LineCause
-request_of_tokens sessions beside tokens = and_then (part_of (Session sessions) tokens) (λ session command. asked_of session beside (command_of_tokens command))
+request_of_tokens sessions beside tokens = and_then (part_of (Session sessions) tokens)
+    (λ session command. asked_of session beside (command_of_tokens command))
 
 -- `[&] NAME COMMAND`, or a line of a schedule, which isn't allowed with threads
 abbrev pub said_behind : (threads : Bool) → List Declared → (first : List ℕ) → List (List ℕ) → Result Said LineCause
@@ -40,7 +41,8 @@ saying s number (Err cause) = Err cause
 
 -- `client NAME SITE` on the line of this number, behind its first word
 unfoldable pub declaration_of : List Declared → (number : ℕ) → List (List ℕ) → Result Declared LineCause
-declaration_of sessions number tokens = form (NewSession sessions ∷ Site ∷ []) (λ name home. record { line = number; name = name; home = home }) tokens
+declaration_of sessions number tokens =
+    form (NewSession sessions ∷ Site ∷ []) (λ name home. record { line = number; name = name; home = home }) tokens
 
 -- A line without tokens is passed over.
 abbrev pub with_tokens : (threads : Bool) (number : ℕ) → Script → List (List ℕ) → Result Script LineCause

@@ -7,7 +7,8 @@ use Rattle.rbd_script.specs.declared.fault.LineCause.TheVariants.{BadName}
 
 -- a name that a session may ask for: 1 to 64 bytes of a name, the first not `.` or `-`
 abbrev pub is_asked_name : List ℕ → Bool
-is_asked_name token = nat_le 1 (length token) && nat_le (length token) 64 && list_all name_byte token && not (slice_index token 0 == 46) && not (slice_index token 0 == 45)
+is_asked_name token = nat_le 1 (length token) && nat_le (length token) 64 && list_all name_byte token && not
+    (slice_index token 0 == 46) && not (slice_index token 0 == 45)
 
 -- `NAME`
 unfoldable pub name_of_token : List ℕ → Result (List ℕ) LineCause
@@ -24,7 +25,8 @@ both (Err cause) second = Err cause
 
 -- `IMAGE@SNAP`: two names. Where there is no `@` nothing stands behind it, which is no name.
 unfoldable pub snap_of_token : List ℕ → Result (List ℕ × List ℕ) LineCause
-snap_of_token token = both (name_of_token (before_first is_at_sign token)) (name_of_token (after_first is_at_sign token))
+snap_of_token token = both (name_of_token (before_first is_at_sign token))
+    (name_of_token (after_first is_at_sign token))
 
 -- `IMAGE` or `IMAGE@SNAP`
 abbrev pub of_image : Result (List ℕ) LineCause → Result (List ℕ × Option (List ℕ)) LineCause

@@ -83,7 +83,8 @@ given_number (Err cause) = Err cause
 
 abbrev pub option : (word : List ℕ) → (List ℕ → Result ℕ LineCause) → List (List ℕ) → Front (Option ℕ)
 option word value [] = Ok (None, [])
-option word value (token ∷ tokens) = if is word token then given_number (place value tokens) else Ok (None, token ∷ tokens)
+option word value (token ∷ tokens) = if is word token then given_number (place value tokens)
+    else Ok (None, token ∷ tokens)
 
 abbrev pub flag : (word : List ℕ) → List (List ℕ) → Front Bool
 flag word [] = Ok (false, [])

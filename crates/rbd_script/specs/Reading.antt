@@ -11,14 +11,16 @@ abbrev pub no_script : Script
 no_script = record { sessions = []; lines = [] }
 
 -- the line of a number, and then what follows it
-abbrev pub and_on : (number : ℕ) → Result Script LineCause → (Script → Result Script LineFault) → Result Script LineFault
+abbrev pub and_on : (number : ℕ) → Result Script LineCause → (Script → Result Script LineFault)
+    → Result Script LineFault
 and_on number (Ok s) next = next s
 and_on number (Err cause) next = Err (record { line = number; cause = cause })
 
 -- The lines from the line of this number on are added to a script. The first fault decides.
 unfoldable pub with_lines : (threads : Bool) (number : ℕ) → Script → List (List ℕ) → Result Script LineFault
 with_lines threads number s [] = Ok s
-with_lines threads number s (line ∷ lines) = and_on number (with_line threads number s line) (λ t. with_lines threads (number + 1) t lines)
+with_lines threads number s (line ∷ lines) = and_on number (with_line threads number s line)
+    (λ t. with_lines threads (number + 1) t lines)
 
 -- how many bytes a script may have
 abbrev pub limit : ℕ

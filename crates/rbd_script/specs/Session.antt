@@ -16,7 +16,8 @@ is_letter_or_digit b = is_letter b || (nat_le 48 b && nat_le b 57)
 
 -- 1 to 32 letters and digits, a letter first, and not `client`
 abbrev pub is_session_name : List ℕ → Bool
-is_session_name token = is_letter (slice_index token 0) && nat_le (length token) 32 && list_all is_letter_or_digit token && not (is (codes "client") token)
+is_session_name token = is_letter (slice_index token 0) && nat_le (length token) 32 && list_all is_letter_or_digit token
+    && not (is (codes "client") token)
 
 abbrev pub has_session_name : (token : List ℕ) → Declared → Bool
 has_session_name token d = pointwise nat_eq d.name token
@@ -24,7 +25,8 @@ has_session_name token d = pointwise nat_eq d.name token
 -- the name of one more session, of 32 at most
 unfoldable pub new_session_of : List Declared → List ℕ → Result (List ℕ) LineCause
 new_session_of sessions token =
-    if is_session_name token && not (list_any (has_session_name token) sessions) && nat_lt (length sessions) 32 then Ok token else Err BadName
+    if is_session_name token && not (list_any (has_session_name token) sessions) && nat_lt (length sessions) 32
+    then Ok token else Err BadName
 
 -- a value, or an unknown word
 abbrev pub known : {A : Type 0} → Option A → Result A LineCause

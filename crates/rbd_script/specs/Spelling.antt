@@ -24,7 +24,8 @@ flag_tokens word false = []
 abbrev pub shape_tokens : Shape → List (List ℕ)
 shape_tokens s =
     option_tokens (codes "object") s.object
-    ++ (option_tokens (codes "unit") s.unit ++ (option_tokens (codes "count") s.count ++ flag_tokens (codes "journal") s.journal))
+    ++ (option_tokens (codes "unit") s.unit
+    ++ (option_tokens (codes "count") s.count ++ flag_tokens (codes "journal") s.journal))
 
 -- `IMAGE@SNAP`
 abbrev pub snap_token : (image snap : List ℕ) → List ℕ
@@ -45,7 +46,8 @@ abbrev pub spelling : Command → List (List ℕ)
 spelling (command.Create image size shape) = codes "create" ∷ image ∷ decimal size ∷ shape_tokens shape
 spelling (command.Clone parent snap image shape) = codes "clone" ∷ snap_token parent snap ∷ image ∷ shape_tokens shape
 spelling (command.Write image at bytes) = codes "write" ∷ image ∷ decimal at ∷ encode_lower bytes ∷ []
-spelling (command.Fill image at len byte) = codes "fill" ∷ image ∷ decimal at ∷ decimal len ∷ encode_lower (byte ∷ []) ∷ []
+spelling (command.Fill image at len byte) = codes "fill" ∷ image ∷ decimal at ∷ decimal len ∷ encode_lower
+    (byte ∷ []) ∷ []
 spelling (command.Discard image at len) = codes "discard" ∷ image ∷ decimal at ∷ decimal len ∷ []
 spelling (command.Read image snap at len) = codes "read" ∷ target_token image snap ∷ decimal at ∷ decimal len ∷ []
 spelling (command.Resize image size) = codes "resize" ∷ image ∷ decimal size ∷ []
@@ -61,7 +63,8 @@ spelling (command.SnapRollback image snap) = codes "snap" ∷ codes "rollback" �
 spelling (command.SnapList image) = codes "snap" ∷ codes "ls" ∷ image ∷ []
 spelling (command.MirrorEnable image) = codes "mirror" ∷ codes "enable" ∷ image ∷ []
 spelling (command.MirrorDemote image) = codes "mirror" ∷ codes "demote" ∷ image ∷ []
-spelling (command.MirrorPromote image force) = codes "mirror" ∷ codes "promote" ∷ image ∷ flag_tokens (codes "force") force
+spelling (command.MirrorPromote image force) = codes "mirror" ∷ codes "promote" ∷ image ∷ flag_tokens
+    (codes "force") force
 spelling (command.MirrorResync image) = codes "mirror" ∷ codes "resync" ∷ image ∷ []
 spelling (command.MirrorStatus image) = codes "mirror" ∷ codes "status" ∷ image ∷ []
 spelling (command.MirrorFollow image) = codes "mirror" ∷ codes "follow" ∷ image ∷ []
@@ -84,11 +87,13 @@ IsImageInRange (Some said) = IsAskedName said.1
 -- the ranges of a command's parts
 abbrev pub IsInRange : Command → Type 0
 IsInRange (command.Create image size shape) = IsAskedName image × (size ≤ greatest) × IsShape shape
-IsInRange (command.Clone parent snap image shape) = (IsAskedName parent × IsAskedName snap) × IsAskedName image × IsShape shape
+IsInRange (command.Clone parent snap image shape) = (IsAskedName parent × IsAskedName snap) × IsAskedName image
+    × IsShape shape
 IsInRange (command.Write image at bytes) = IsAskedName image × (at ≤ greatest) × IsHex bytes
 IsInRange (command.Fill image at len byte) = IsAskedName image × (at ≤ greatest) × (len ≤ 1048576) × (byte < 256)
 IsInRange (command.Discard image at len) = IsAskedName image × (at ≤ greatest) × (len ≤ greatest)
-IsInRange (command.Read image snap at len) = (IsAskedName image × IfSome snap IsAskedName) × (at ≤ greatest) × (len ≤ 65536)
+IsInRange (command.Read image snap at len) = (IsAskedName image × IfSome snap IsAskedName) × (at ≤ greatest)
+    × (len ≤ 65536)
 IsInRange (command.Resize image size) = IsAskedName image × (size ≤ greatest)
 IsInRange (command.Rename from to) = IsAskedName from × IsAskedName to
 IsInRange command.List = Unit {0}

@@ -18,13 +18,17 @@ pub fn commands_are_spelled()
 /// A line of a schedule is read of the tokens that spell it, and of no others. A session is told by
 /// its name.
 pub fn events_are_spelled()
-    ensures read { (sessions : List Declared) (tokens : List (List ℕ)) (s : Said) → SpellsEvent sessions tokens s → schedule_of sessions tokens ≡ Ok s }
-    ensures spelled { (sessions : List Declared) (tokens : List (List ℕ)) (s : Said) → schedule_of sessions tokens ≡ Ok s → SpellsEvent sessions tokens s }
+    ensures read { (sessions : List Declared) (tokens : List (List ℕ)) (s : Said) → SpellsEvent sessions tokens s
+        → schedule_of sessions tokens ≡ Ok s }
+    ensures spelled { (sessions : List Declared) (tokens : List (List ℕ)) (s : Said)
+        → schedule_of sessions tokens ≡ Ok s → SpellsEvent sessions tokens s }
 {}
 
 /// A session's declaration, behind its first word, is read of the tokens that spell it, and of no
 /// others.
 pub fn declarations_are_spelled()
-    ensures read { (sessions : List Declared) (number : ℕ) (tokens : List (List ℕ)) (d : Declared) → Declares sessions number tokens d → declaration_of sessions number tokens ≡ Ok d }
-    ensures spelled { (sessions : List Declared) (number : ℕ) (tokens : List (List ℕ)) (d : Declared) → declaration_of sessions number tokens ≡ Ok d → Declares sessions number tokens d }
+    ensures read { (sessions : List Declared) (number : ℕ) (tokens : List (List ℕ)) (d : Declared)
+        → Declares sessions number tokens d → declaration_of sessions number tokens ≡ Ok d }
+    ensures spelled { (sessions : List Declared) (number : ℕ) (tokens : List (List ℕ)) (d : Declared)
+        → declaration_of sessions number tokens ≡ Ok d → Declares sessions number tokens d }
 {}

@@ -40,7 +40,8 @@ pub fn snap_of(alloc: Global, token: &[u8]) -> Result<(AskedName, AskedName), Pa
 
 /// What stands before the first `@`, and what behind it.
 fn halves(token: &[u8]) -> Option<(&[u8], &[u8])>
-    ensures found { IfSome result (λ t. (t.0.now ≡ before_first is_at_sign token.now) × (t.1.now ≡ after_first is_at_sign token.now)) }
+    ensures found { IfSome result (λ t. (t.0.now ≡ before_first is_at_sign token.now)
+        × (t.1.now ≡ after_first is_at_sign token.now)) }
     ensures none { IfNone result (after_first is_at_sign token.now ≡ []) }
 {
     let (image, behind) = token.split_at(place_of(b'@', token));

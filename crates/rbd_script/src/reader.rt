@@ -41,12 +41,15 @@ fn whole_lines(
     text: &[u8],
 ) -> Result<(Script, u32, &[u8]), ScriptFault>
     requires { length text.now ≤ SCRIPT_LIMIT }
-    ensures all { IfOk result (λ x. with_lines threads 1 no_script (text_lines text.now) ≡ with_lines threads x.1 x.0 (x.2.now ∷ [])) }
+    ensures all { IfOk result (λ x. with_lines threads 1 no_script (text_lines text.now) ≡ with_lines threads x.1 x.0
+        (x.2.now ∷ [])) }
     ensures whole { IfOk result (λ x. with_lines threads 1 no_script (without_last (text_lines text.now)) ≡ Ok x.0) }
     ensures number { IfOk result (λ x. x.1 ≡ length (without_last (text_lines text.now)) + 1) }
     ensures few { IfOk result (λ x. length x.0.sessions ≤ 32) }
-    ensures all_fault { IfErr result (AtLine (λ fault. with_lines threads 1 no_script (text_lines text.now) ≡ Err fault)) }
-    ensures whole_fault { IfErr result (AtLine (λ fault. with_lines threads 1 no_script (without_last (text_lines text.now)) ≡ Err fault)) }
+    ensures all_fault { IfErr result
+        (AtLine (λ fault. with_lines threads 1 no_script (text_lines text.now) ≡ Err fault)) }
+    ensures whole_fault { IfErr result
+        (AtLine (λ fault. with_lines threads 1 no_script (without_last (text_lines text.now)) ≡ Err fault)) }
 {
     let mut script = Script::new(alloc);
     let mut number = 1;

@@ -44,7 +44,8 @@ impl<'a> Tokens<'a> {
 
     /// The next token, or `None` where none is left.
     pub fn take(&mut self) -> Option<&'a [u8]>
-        ensures token { MatchOption result (tokens_of self.old.rest.now ≡ []) (λ token. tokens_of self.old.rest.now ≡ token.now ∷ tokens_of self.new.rest.now) }
+        ensures token { MatchOption result (tokens_of self.old.rest.now ≡ [])
+            (λ token. tokens_of self.old.rest.now ≡ token.now ∷ tokens_of self.new.rest.now) }
         ensures none { IfNone result (self.new.rest.now ≡ self.old.rest.now) }
     {
         let (_, line) = self.rest.split_at(blanks(self.rest));
@@ -59,7 +60,8 @@ impl<'a> Tokens<'a> {
     /// The token that a part needs.
     fn part(&mut self) -> Result<&'a [u8], PartFault>
         ensures ok { IfOk result (λ token. tokens_of self.old.rest.now ≡ token.now ∷ tokens_of self.new.rest.now) }
-        ensures err { IfErr result (λ fault. (tokens_of self.old.rest.now ≡ []) × (fault ≡ PartFault.Cause LineCause.MissingPart)) }
+        ensures err { IfErr result (λ fault. (tokens_of self.old.rest.now ≡ [])
+            × (fault ≡ PartFault.Cause LineCause.MissingPart)) }
     {
         match self.take() {
             Some(token) => Ok(token),
@@ -87,7 +89,8 @@ impl<'a> Tokens<'a> {
     /// An image's id, below 2^32.
     #[tactic(auto, unfolding(crate::specs::Part::part_of))]
     pub fn id(&mut self) -> Result<ImageId, PartFault>
-        ensures { Takes result (tokens_of self.new.rest.now) (part_of (NumberIn 4294967295) (tokens_of self.old.rest.now)) }
+        ensures { Takes result (tokens_of self.new.rest.now)
+            (part_of (NumberIn 4294967295) (tokens_of self.old.rest.now)) }
     {
         let id: AtMost<4294967295> = self.number()?;
         Ok(ImageId(id.get() as u32))
@@ -108,7 +111,8 @@ impl<'a> Tokens<'a> {
     /// `[WORD N]`
     #[tactic(auto, unfolding(crate::specs::Part::part_of))]
     pub fn option<const MOST: u64>(&mut self, word: &str) -> Result<Option<AtMost<MOST>>, PartFault>
-        ensures { Takes result (tokens_of self.new.rest.now) (part_of (Optional word.now MOST) (tokens_of self.old.rest.now)) }
+        ensures { Takes result (tokens_of self.new.rest.now)
+            (part_of (Optional word.now MOST) (tokens_of self.old.rest.now)) }
     {
         let mut behind = *self;
         let Some(token) = behind.take() else {
@@ -125,7 +129,8 @@ impl<'a> Tokens<'a> {
     /// `[WORD N]` with a number below 2^32.
     #[tactic(auto, unfolding(crate::specs::Part::part_of))]
     pub fn count(&mut self, word: &str) -> Result<Option<u32>, PartFault>
-        ensures { Takes result (tokens_of self.new.rest.now) (part_of (Optional word.now 4294967295) (tokens_of self.old.rest.now)) }
+        ensures { Takes result (tokens_of self.new.rest.now)
+            (part_of (Optional word.now 4294967295) (tokens_of self.old.rest.now)) }
     {
         let count: Option<AtMost<4294967295>> = self.option(word)?;
         match count {
@@ -212,7 +217,8 @@ impl<'a> Tokens<'a> {
     #[tactic(auto, unfolding(crate::specs::Part::part_of))]
     pub fn session(&mut self, sessions: &Sessions) -> Result<SessionNo, PartFault>
         requires { length sessions.now ≤ 32 }
-        ensures { Takes result (tokens_of self.new.rest.now) (part_of (Session sessions.now) (tokens_of self.old.rest.now)) }
+        ensures { Takes result (tokens_of self.new.rest.now)
+            (part_of (Session sessions.now) (tokens_of self.old.rest.now)) }
     {
         session_of(sessions, self.part()?)
     }
@@ -220,7 +226,8 @@ impl<'a> Tokens<'a> {
     /// The name of one more session.
     #[tactic(auto, unfolding(crate::specs::Part::part_of))]
     pub fn new_session(&mut self, sessions: &Sessions) -> Result<Name, PartFault>
-        ensures name { Takes result (tokens_of self.new.rest.now) (part_of (NewSession sessions.now) (tokens_of self.old.rest.now)) }
+        ensures name { Takes result (tokens_of self.new.rest.now)
+            (part_of (NewSession sessions.now) (tokens_of self.old.rest.now)) }
         ensures few { OnOk result (length sessions.now < 32) }
     {
         let alloc = self.alloc;

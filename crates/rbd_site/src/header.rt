@@ -210,7 +210,8 @@ fn add_snap(header: &mut Header, name: &Name) -> Result<(), NoMemory>
 }
 
 fn take_lock(header: &mut Header, instance: Instance)
-    ensures { header.new ≡ record header.old { owner = if is_some header.old.owner then header.old.owner else Some instance } }
+    ensures { header.new
+        ≡ record header.old { owner = if is_some header.old.owner then header.old.owner else Some instance } }
 {
     let _taken = header.lock(instance);
 }

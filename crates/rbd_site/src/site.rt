@@ -130,7 +130,8 @@ impl Site {
         requires may { MayDo (records_of self.old) instance op }
         requires answer { answer.now ≡ answer_to (records_of self.old) instance op }
         ensures ok { let number = length self.old.log + 1 in
-            OnOk result (self.new ≡ record self.old { log = self.old.log ++ log_line number instance op answer.now ∷ [] }) }
+            OnOk result (self.new
+            ≡ record self.old { log = self.old.log ++ log_line number instance op answer.now ∷ [] }) }
         ensures records { OnOk result (records_of self.new ≡ after (records_of self.old) instance op) }
         ensures mail { OnOk result (mail.new ≡ mail_after self.old.id (records_of self.old) instance op mail.old) }
         ensures form { AreInForm (records_of self.new) (length self.new.log) }

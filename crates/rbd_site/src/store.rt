@@ -264,7 +264,8 @@ impl Store {
     /// An instance doesn't watch the header of an image any longer, where it is there.
     fn unwatch(&mut self, me: Instance, image: ImageId)
         ensures { let r = kept self.old in
-            kept self.new ≡ with_watchers image (watchers_after me (r.headers image) (r.watchers image) header_op.Unwatch) r }
+            kept self.new
+            ≡ with_watchers image (watchers_after me (r.headers image) (r.watchers image) header_op.Unwatch) r }
     {
         if !self.headers.contains_key(&image) {
             return;
@@ -275,7 +276,8 @@ impl Store {
     /// Removes the header of an image, with its watchers, where it is there.
     fn remove_header(&mut self, image: ImageId)
         ensures { (me : Instance) → let r = kept self.old in
-            kept self.new ≡ with_header image (header_after me (r.headers image) header_op.Remove) (with_watchers image (watchers_after me (r.headers image) (r.watchers image) header_op.Remove) r) }
+            kept self.new ≡ with_header image (header_after me (r.headers image) header_op.Remove)
+            (with_watchers image (watchers_after me (r.headers image) (r.watchers image) header_op.Remove) r) }
     {
         if !self.headers.contains_key(&image) {
             return;

@@ -55,7 +55,8 @@ trace_text script history a b = history_text script.sessions history ++ log_text
     ++ log_text script.sessions B b ++ replies_text script history a b
 
 abbrev pub usage_text : List ℕ
-usage_text = codes "usage: rbd_lab run [--trace] | threads [--trace] [--turns N] | gen --seed N --clients C --commands K" ++ 10 ∷ []
+usage_text =
+    codes "usage: rbd_lab run [--trace] | threads [--trace] [--turns N] | gen --seed N --clients C --commands K" ++ 10 ∷ []
 
 abbrev pub IsShownEntry : Entry → Type 0
 IsShownEntry (entry.Reply line reply) = IsShowable reply

@@ -21,7 +21,14 @@ pub fn receivers_find_their_notices()
         (kind : NoticeKind) (place : ℕ)
         → AreNumberedFrom 1 mail → slice_get receivers place ≡ Some to
         → notice_numbered (length mail + 1 + place) (mail ++ notices (length mail + 1) site image from receivers kind)
-        ≡ Some (record { number = length mail + 1 + place; to = to; from = from; site = site; image = image; kind = kind }) }
+        ≡ Some (record {
+          number = length mail + 1 + place;
+          to = to;
+          from = from;
+          site = site;
+          image = image;
+          kind = kind;
+        }) }
 {}
 
 /// A post makes as many notices as there are receivers.

@@ -43,4 +43,5 @@ pub record StandsFirst (slot : ℕ) (line : List Member) : Type 0 where
 -- a request whose line has let go of the image's lock stands first in the image's line
 abbrev pub StandsFirstIf : {R : Type 0} → List Happening → (slot : ℕ) → LinesView → Option (Running R) → Type 0
 StandsFirstIf run slot lines None = Unit {0}
-StandsFirstIf run slot lines (Some r) = (s : SiteId) (image : ℕ) → has_let_go s image (steps_of r.line run) ≡ true → StandsFirst slot (lines_of lines s image)
+StandsFirstIf run slot lines (Some r) = (s : SiteId) (image : ℕ) → has_let_go s image (steps_of r.line run) ≡ true
+    → StandsFirst slot (lines_of lines s image)

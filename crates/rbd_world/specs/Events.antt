@@ -16,4 +16,5 @@ pub record IsCallOf {R : Type 0} (stands : R → Standing) (c : Call) (old new :
 -- These calls were made one after another.
 abbrev pub AreCallsOf : {R : Type 0} → (stands : R → Standing) → List Call → (old new : WorldView R) → Type 0
 AreCallsOf stands [] old new = new ≡ old
-AreCallsOf {R} stands (c ∷ calls) old new = (next : WorldView R) × (IsCallOf stands c old next × AreCallsOf stands calls next new)
+AreCallsOf {R} stands (c ∷ calls) old new = (next : WorldView R)
+    × (IsCallOf stands c old next × AreCallsOf stands calls next new)

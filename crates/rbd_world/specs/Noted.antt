@@ -30,7 +30,8 @@ is_start (outcome.Submitted slot) = true
 is_start _ = false
 
 -- An event did this to all parts, and so it is noted; its call isn't kept yet.
-pub record IsNotedStep {R : Type 0} (stands : R → Standing) (e : Event) (h : Happening) (old_sites new_sites : Sites) (old new : List (LivesView R)) (old_begun new_begun : BegunLines)
+pub record IsNotedStep {R : Type 0} (stands : R → Standing) (e : Event) (h : Happening) (old_sites new_sites : Sites)
+    (old new : List (LivesView R)) (old_begun new_begun : BegunLines)
     (old_history new_history : List Entry) (result : Outcome) : Type 0 where
   pub parts : DoesToParts stands e h old_sites new_sites old new old_begun new_begun
   pub history : new_history ≡ history_with old_history h

@@ -33,33 +33,41 @@ pub record IsLogged (who : Instance) (o : Op) (old new : SiteLog) (mail_before m
   pub mail : mail_now ≡ mail_after old.id (records_of old) who o mail_before
 
 -- the history and the outcome of the operation, by whom it was done for
-pub record IsNoted (who : Instance) (by : Doer) (s : SiteId) (o : Op) (before : SiteLog) (reply : Option Reply) (earlier later : List Entry) (result : Outcome) : Type 0 where
+pub record IsNoted (who : Instance) (by : Doer) (s : SiteId) (o : Op) (before : SiteLog) (reply : Option Reply)
+    (earlier later : List Entry) (result : Outcome) : Type 0 where
   pub history : later ≡ earlier ++ entries_of (Did (operation_at before who by s o) reply)
   pub outcome : result ≡ outcome_of (Did (operation_at before who by s o) reply)
 
 -- the other site is as it was
 abbrev pub IsSameElsewhere : SiteId → (before behind : Sites) → Type 0
-IsSameElsewhere s before behind = (other : SiteId) → same_site s other ≡ false → site_in other behind ≡ site_in other before
+IsSameElsewhere s before behind = (other : SiteId) → same_site s other ≡ false
+    → site_in other behind ≡ site_in other before
 
 module _ {R : Type 0} (stands : R → Standing) where
   -- the operation that was wanted at a slot of a client was done at its site, and who acted there
   -- was fed the answer
-  pub record IsOperated (slot : ℕ) (by : Doer) (s : SiteId) (o : Op) (before behind : SiteLog) (mail_before mail_now : List Notice) (old new : ClientView R) (earlier later : List Entry) (result : Outcome) : Type 0 where
+  pub record IsOperated (slot : ℕ) (by : Doer) (s : SiteId) (o : Op) (before behind : SiteLog)
+      (mail_before mail_now : List Notice) (old new : ClientView R) (earlier later : List Entry)
+      (result : Outcome) : Type 0 where
     pub reply : Option Reply
     pub logged : IsLogged old.session.instance o before behind mail_before mail_now
     pub goes : Goes stands slot (operation_at before old.session.instance by s o) reply old new
     pub noted : IsNoted old.session.instance by s o before reply earlier later result
 
   -- at its site, and at no other
-  pub record IsOperatedAt (slot : ℕ) (by : Doer) (s : SiteId) (o : Op) (before behind : Sites) (old new : ClientView R) (earlier later : List Entry) (result : Outcome) : Type 0 where
-    pub here : IsOperated slot by s o (site_in s before) (site_in s behind) before.mail behind.mail old new earlier later result
+  pub record IsOperatedAt (slot : ℕ) (by : Doer) (s : SiteId) (o : Op) (before behind : Sites) (old new : ClientView R)
+      (earlier later : List Entry) (result : Outcome) : Type 0 where
+    pub here : IsOperated slot by s o (site_in s before)
+        (site_in s behind) before.mail behind.mail old new earlier later result
     pub elsewhere : IsSameElsewhere s before behind
 
 -- An operation of an instance that was stopped was done at its site.
-pub record HasCome (who : Instance) (by : Doer) (s : SiteId) (o : Op) (before behind : SiteLog) (mail_before mail_now : List Notice) (earlier later : List Entry) (result : Outcome) : Type 0 where
+pub record HasCome (who : Instance) (by : Doer) (s : SiteId) (o : Op) (before behind : SiteLog)
+    (mail_before mail_now : List Notice) (earlier later : List Entry) (result : Outcome) : Type 0 where
   pub logged : IsLogged who o before behind mail_before mail_now
   pub noted : IsNoted who by s o before None earlier later result
 
-pub record HasComeAt (who : Instance) (by : Doer) (s : SiteId) (o : Op) (before behind : Sites) (earlier later : List Entry) (result : Outcome) : Type 0 where
+pub record HasComeAt (who : Instance) (by : Doer) (s : SiteId) (o : Op) (before behind : Sites)
+    (earlier later : List Entry) (result : Outcome) : Type 0 where
   pub here : HasCome who by s o (site_in s before) (site_in s behind) before.mail behind.mail earlier later result
   pub elsewhere : IsSameElsewhere s before behind

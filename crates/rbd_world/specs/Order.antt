@@ -40,7 +40,8 @@ finds_in line s image (Did o reply) = is_own line o.by && (same_site o.site s &&
 finds_in line s image h = false
 
 abbrev pub writes_in : (line : ℕ) → SiteId → (image number : ℕ) → Happening → Bool
-writes_in line s image number (Did o reply) = is_own line o.by && (same_site o.site s && writes_object image number o.op)
+writes_in line s image number (Did o reply) =
+    is_own line o.by && (same_site o.site s && writes_object image number o.op)
 writes_in line s image number h = false
 
 -- the line has found the image by its name
@@ -56,7 +57,8 @@ has_written line s image number (h ∷ run) = writes_in line s image number h ||
 -- One line had found the image when the other hadn't.
 abbrev pub found_before : (one other : ℕ) → SiteId → (image : ℕ) → List Happening → Bool
 found_before one other s image [] = false
-found_before one other s image (h ∷ run) = (has_found one s image (h ∷ run) && not (has_found other s image (h ∷ run))) || found_before one other s image run
+found_before one other s image (h ∷ run) =
+    (has_found one s image (h ∷ run) && not (has_found other s image (h ∷ run))) || found_before one other s image run
 
 -- ---- the order
 
@@ -69,14 +71,17 @@ pub record IsWriterOf (who : Instance) (line : ℕ) (run : List Happening) : Typ
 
 -- The line has found the image, and no other write of its instance that found it later has written
 -- the object.
-pub record IsFirstToWrite (who : Instance) (line : ℕ) (s : SiteId) (image number : ℕ) (run : List Happening) : Type 0 where
+pub record IsFirstToWrite (who : Instance) (line : ℕ) (s : SiteId) (image number : ℕ)
+    (run : List Happening) : Type 0 where
   pub found : has_found line s image run ≡ true
-  pub first : (other : ℕ) → IsWriterOf who other run → found_before line other s image run ≡ true → has_written other s image number run ≡ false
+  pub first : (other : ℕ) → IsWriterOf who other run → found_before line other s image run ≡ true
+      → has_written other s image number run ≡ false
 
 -- a write that writes an object is the first one to write it
 abbrev pub IsInTurn : Happening → (before : List Happening) → Type 0
 IsInTurn (Did o reply) before =
-    (who : Instance) (line image number : ℕ) → is_own line o.by ≡ true → IsWriterOf who line before → writes_object image number o.op ≡ true
+    (who : Instance) (line image number : ℕ) → is_own line o.by ≡ true → IsWriterOf who line before
+    → writes_object image number o.op ≡ true
     → IsFirstToWrite who line o.site image number before
 IsInTurn h before = Unit {0}
 
@@ -90,12 +95,14 @@ KeepsOrder (h ∷ run) = IsInTurn h run × KeepsOrder run
 abbrev pub WritesFirst : (one other : ℕ) → SiteId → (image number : ℕ) → List Happening → Type 0
 WritesFirst one other s image number [] = Unit {0}
 WritesFirst one other s image number (h ∷ run) =
-    (writes_in one s image number h ≡ true → has_written other s image number run ≡ false) × WritesFirst one other s image number run
+    (writes_in one s image number h ≡ true → has_written other s image number run ≡ false)
+    × WritesFirst one other s image number run
 
 -- ---- where the writes of an instance stand
 
 -- The request has found no image yet, and is in no line.
-pub record IsBeforeFinding {R : Type 0} (stands : R → Standing) (home : SiteId) (run : List Happening) (r : Running R) : Type 0 where
+pub record IsBeforeFinding {R : Type 0} (stands : R → Standing) (home : SiteId) (run : List Happening)
+    (r : Running R) : Type 0 where
   pub changes : ChangesInLine home (stands r.request)
   pub place : r.place ≡ None
   pub unfound : (s : SiteId) (image : ℕ) → has_found r.line s image run ≡ false
@@ -113,12 +120,18 @@ pub record IsBehindFinding {R : Type 0} (stands : R → Standing) (run : List Ha
 -- Of the writes in a line, the one that found the image earlier stands ahead. Where one that found
 -- it later has written an object, whether it has ended or not, the earlier one has no ticket for
 -- that object.
-pub record AreWritesInOrder {R : Type 0} (stands : R → Standing) (home : SiteId) (who : Instance) (run : List Happening) (c : SessionView R) : Type 0 where
-  pub extents : (x : ℕ) (r : Running R) → running_at x c ≡ Some r → (asked : Asked) → asked_by r.line run ≡ Some asked → r.extent ≡ changed_extent asked.command
-  pub comes : (x : ℕ) (r : Running R) → running_at x c ≡ Some r → IsSome r.extent → (IsBeforeFinding stands home run r) ⊎ (IsBehindFinding stands run r)
-  pub in_line : (x y : ℕ) (r q : Running R) → running_at x c ≡ Some r → running_at y c ≡ Some q → IsSome r.extent → IsSome q.extent
+pub record AreWritesInOrder {R : Type 0} (stands : R → Standing) (home : SiteId) (who : Instance) (run : List Happening)
+    (c : SessionView R) : Type 0 where
+  pub extents : (x : ℕ) (r : Running R) → running_at x c ≡ Some r → (asked : Asked) → asked_by r.line run ≡ Some asked
+      → r.extent ≡ changed_extent asked.command
+  pub comes : (x : ℕ) (r : Running R) → running_at x c ≡ Some r → IsSome r.extent → (IsBeforeFinding stands home run r)
+      ⊎ (IsBehindFinding stands run r)
+  pub in_line : (x y : ℕ) (r q : Running R) → running_at x c ≡ Some r → running_at y c ≡ Some q → IsSome r.extent
+      → IsSome q.extent
       → (s : SiteId) (image : ℕ) → found_before r.line q.line s image run ≡ true
       → is_member y (lines_of c.lines s image) ≡ true → is_member x (ahead y (lines_of c.lines s image)) ≡ true
-  pub past : (x : ℕ) (r : Running R) → running_at x c ≡ Some r → IsSome r.extent → (other : ℕ) → IsWriterOf who other run
-      → (s : SiteId) (image number : ℕ) → found_before r.line other s image run ≡ true → has_written other s image number run ≡ true
+  pub past : (x : ℕ) (r : Running R) → running_at x c ≡ Some r → IsSome r.extent → (other : ℕ)
+      → IsWriterOf who other run
+      → (s : SiteId) (image number : ℕ) → found_before r.line other s image run ≡ true
+      → has_written other s image number run ≡ true
       → IsPastWithout x number (lines_of c.lines s image)

@@ -16,7 +16,10 @@ HadNoHeader s image (h ∷ run) = ((records_after s (h ∷ run)).headers image �
 -- what is known along a walk
 abbrev pub known_along : (labels : Label → Plan) → Knowledge → Plan → List Fed → Knowledge
 known_along labels k plan [] = k
-known_along labels k (Ask site why o next) (fed.Answer a ∷ more) = known_along labels (learned k site o a) (past_label labels (next a)) more
-known_along labels k (Await wait next) (fed.Passed ∷ more) = known_along labels (known_after_wait k wait) (past_label labels next) more
-known_along labels k (Note site image event next) (fed.Passed ∷ more) = known_along labels k (past_label labels next) more
+known_along labels k (Ask site why o next) (fed.Answer a ∷ more) =
+    known_along labels (learned k site o a) (past_label labels (next a)) more
+known_along labels k (Await wait next) (fed.Passed ∷ more) = known_along labels (known_after_wait k wait)
+    (past_label labels next) more
+known_along labels k (Note site image event next) (fed.Passed ∷ more) =
+    known_along labels k (past_label labels next) more
 known_along labels k plan (f ∷ more) = k

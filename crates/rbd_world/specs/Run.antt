@@ -162,7 +162,8 @@ abbrev pub outcome_of : Happening → Outcome
 outcome_of Nothing = outcome.Nothing
 outcome_of Waited = outcome.Waits
 outcome_of (Began asked slot) = outcome.Submitted slot
-outcome_of (Did o reply) = outcome.Step o.site o.number (asks_for_lock (reason_of o.by) (kind_of o.op) o.answer) (is_some reply)
+outcome_of (Did o reply) = outcome.Step o.site o.number (asks_for_lock (reason_of o.by) (kind_of o.op) o.answer)
+    (is_some reply)
 outcome_of (Refused site line reply) = outcome.Step site 0 false true
 outcome_of (Trimmed site number image object) = outcome.Stored
 outcome_of (Expired site number image who) = outcome.Stored
@@ -270,7 +271,8 @@ pub record Life : Type 0 where
   pub runs : Bool
 
 abbrev pub life_behind : (session : ℕ) → Happening → Life → Life
-life_behind session (Stopped who wanted lost) l = if who.session == session then record { number = l.number; runs = false } else l
+life_behind session (Stopped who wanted lost) l = if who.session == session
+    then record { number = l.number; runs = false } else l
 life_behind session (Restarted who) l = if who.session == session then record { number = who.life; runs = true } else l
 life_behind session _ l = l
 
@@ -288,7 +290,8 @@ comes_of session slot who (AfterStop at) = who.session == session && at == slot
 comes_of session slot who by = false
 
 abbrev pub sent_behind : (session slot : ℕ) → Happening → Option Sent → Option Sent
-sent_behind session slot (Stopped who wanted lost) before = if who.session == session then sent_of who (held_in slot wanted) else before
+sent_behind session slot (Stopped who wanted lost) before = if who.session == session
+    then sent_of who (held_in slot wanted) else before
 sent_behind session slot (Did o reply) before = if comes_of session slot o.instance o.by then None else before
 sent_behind session slot _ before = before
 
@@ -317,7 +320,8 @@ IsOfEvent (event.Poll session slot) Waited = Unit {0}
 IsOfEvent (event.Poll session slot) (Did o reply) = o.instance.session ≡ session
 IsOfEvent (event.Poll session slot) (Refused site line reply) = Unit {0}
 IsOfEvent (event.Deliver number) (Heard notice) = notice.number ≡ number
-IsOfEvent (event.Expire session site image) (Expired there number on who) = (who.session ≡ session) × (there ≡ site) × (on ≡ image)
+IsOfEvent (event.Expire session site image) (Expired there number on who) = (who.session ≡ session) × (there ≡ site)
+    × (on ≡ image)
 IsOfEvent (event.Stop session) (Stopped who wanted lost) = who.session ≡ session
 IsOfEvent (event.Late session slot) (Did o reply) = IsLateOf session slot o reply
 IsOfEvent (event.Restart session) (Restarted who) = who.session ≡ session

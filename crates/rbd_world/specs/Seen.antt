@@ -11,7 +11,12 @@ use Rattle.rbd_world.specs.World.{LivesView, WorldView}
 
 module _ {R : Type 0} (stands : R → Standing) where
   abbrev pub seen_life : LivesView R → LivesView Standing
-  seen_life l = record { home = l.home; latest = l.latest; running = option_map (of_client.seen stands) l.running; late = l.late }
+  seen_life l = record {
+    home = l.home;
+    latest = l.latest;
+    running = option_map (of_client.seen stands) l.running;
+    late = l.late;
+  }
 
   abbrev pub seen_lives : List (LivesView R) → List (LivesView Standing)
   seen_lives lives = map seen_life lives

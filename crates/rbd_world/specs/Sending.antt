@@ -46,7 +46,8 @@ latest_op log = op_in (slice_get log (length log - 1))
 -- ---- what comes of who acts at a slot
 
 -- The slot waits, and nothing changed.
-pub record OnlyWaits {R : Type 0} (before behind : Sites) (old new : ClientView R) (earlier later : List Entry) (result : Outcome) : Type 0 where
+pub record OnlyWaits {R : Type 0} (before behind : Sites) (old new : ClientView R) (earlier later : List Entry)
+    (result : Outcome) : Type 0 where
   pub sites : behind ≡ before
   pub client : new ≡ old
   pub history : later ≡ earlier
@@ -54,6 +55,8 @@ pub record OnlyWaits {R : Type 0} (before behind : Sites) (old new : ClientView 
 
 module _ {R : Type 0} (stands : R → Standing) where
   -- the operation that a slot wants was done, or there is none
-  abbrev pub ActsAt : (slot : ℕ) → Doer → Option (SiteId × Op) → (before behind : Sites) → (old new : ClientView R) → (earlier later : List Entry) → Outcome → Type 0
+  abbrev pub ActsAt : (slot : ℕ) → Doer → Option (SiteId × Op) → (before behind : Sites) → (old new : ClientView R)
+      → (earlier later : List Entry) → Outcome → Type 0
   ActsAt slot by None before behind old new earlier later result = OnlyWaits before behind old new earlier later result
-  ActsAt slot by (Some wanted) before behind old new earlier later result = IsOperatedAt stands slot by wanted.0 wanted.1 before behind old new earlier later result
+  ActsAt slot by (Some wanted) before behind old new earlier later result =
+      IsOperatedAt stands slot by wanted.0 wanted.1 before behind old new earlier later result

@@ -103,7 +103,8 @@ look_answered site image told = record { site = site; op = op.Header image heade
 -- The request wants its look under the lock next, and is refused on its way to the lock: as if that
 -- look had been answered what the last step of the way was answered, that something isn't there or
 -- that the instance is fenced.
-pub record IsRefusedOnWay (homes : ℕ → SiteId) (line : ℕ) (reply : Reply) (o : Operation) (before : List Happening) : Type 0 where
+pub record IsRefusedOnWay (homes : ℕ → SiteId) (line : ℕ) (reply : Reply) (o : Operation)
+    (before : List Happening) : Type 0 where
   pub begun : IsOpen line before
   pub tells : EndsIt o.answer
   pub refuses : not_there o.answer ≡ Return reply
@@ -111,7 +112,8 @@ pub record IsRefusedOnWay (homes : ℕ → SiteId) (line : ℕ) (reply : Reply) 
   pub led : IsLedTo (seat_at homes begun.asked.who.session) begun.asked.command (steps_of line before) plan
   pub wants : is_look_at o.site (kind_asked plan) ≡ true
   pub image : ℕ
-  pub meant : IsMeantBy (seat_at homes begun.asked.who.session) begun.asked.command (steps_of line before ++ look_answered o.site image o.answer ∷ []) reply
+  pub meant : IsMeantBy (seat_at homes begun.asked.who.session) begun.asked.command
+      (steps_of line before ++ look_answered o.site image o.answer ∷ []) reply
   pub over : WasRefused o.site reply (way_of line before ++ step_of o ∷ [])
 
 -- ---- whose an operation is
@@ -128,11 +130,13 @@ abbrev pub IsOf : Doer → Instance → SiteId → Op → (before : List Happeni
 IsOf (Itself line) who s o before = IsOfLine line who before
 IsOf (OnWay line) who s o before = IsOfLine line who before
 IsOf House who s o before = IsRunning who before
-IsOf (AfterStop slot) who s o before = sent_after who.session slot before ≡ Some (record { instance = who; site = s; op = o })
+IsOf (AfterStop slot) who s o before = sent_after who.session slot before
+    ≡ Some (record { instance = who; site = s; op = o })
 
 -- Where the operation takes the lock of an image, no open line of the instance has let go of it.
 abbrev pub TakesAlone : Instance → SiteId → Op → (before : List Happening) → Type 0
-TakesAlone who s o before = (image : ℕ) → o ≡ lock_take image → (line : ℕ) → (begun : IsOpen line before) → begun.asked.who ≡ who → has_let_go s image (steps_of line before) ≡ false
+TakesAlone who s o before = (image : ℕ) → o ≡ lock_take image → (line : ℕ) → (begun : IsOpen line before)
+    → begun.asked.who ≡ who → has_let_go s image (steps_of line before) ≡ false
 
 -- It is the next of what it is done for. One of a line itself comes where its way wasn't begun or
 -- is over, and one on the way is what the way asks for there. Where that takes the lock, the
@@ -141,7 +145,8 @@ TakesAlone who s o before = (image : ℕ) → o ≡ lock_take image → (line : 
 -- other.
 abbrev pub IsNextOf : Doer → Instance → SiteId → Op → (before : List Happening) → Type 0
 IsNextOf (Itself line) who s o before = IsOver (way_of line before)
-IsNextOf (OnWay line) who s o before = AsksNext s o (way_of line before) × TakesBehindWatch who s o before × TakesAlone who s o before
+IsNextOf (OnWay line) who s o before = AsksNext s o (way_of line before) × TakesBehindWatch who s o before
+    × TakesAlone who s o before
 IsNextOf House who s o before = IsNextOfRelease (release_of who before) s o
 IsNextOf (AfterStop slot) who s o before = Unit {0}
 
@@ -222,19 +227,23 @@ pub record AsksFor (homes : ℕ → SiteId) (line : ℕ) (s : SiteId) (o : Op) (
   pub begun : IsOpen line before
   pub why : Reason
   pub next : Answer → Plan
-  pub led : IsLedTo (seat_at homes begun.asked.who.session) begun.asked.command (steps_of line before) (Ask s why o next)
+  pub led : IsLedTo (seat_at homes begun.asked.who.session) begun.asked.command (steps_of line before)
+      (Ask s why o next)
 
 -- For whom a slot wants an operation when its instance is stopped: the command of a line that is
 -- lost, which stands there, itself or on its way to the lock; or, at slot 0, the house.
-abbrev pub IsWantedFor : (homes : ℕ → SiteId) → (lost : List ℕ) → (slot : ℕ) → SiteId → Op → Doer → (before : List Happening) → Type 0
+abbrev pub IsWantedFor : (homes : ℕ → SiteId) → (lost : List ℕ) → (slot : ℕ) → SiteId → Op → Doer
+    → (before : List Happening) → Type 0
 IsWantedFor homes lost slot s o (Itself line) before = (is_line_among line lost ≡ true) × AsksFor homes line s o before
-IsWantedFor homes lost slot s o (OnWay line) before = (is_line_among line lost ≡ true) × StandsAtLook homes line s before
+IsWantedFor homes lost slot s o (OnWay line) before = (is_line_among line lost ≡ true)
+    × StandsAtLook homes line s before
 IsWantedFor homes lost slot s o House before = slot ≡ 0
 IsWantedFor homes lost slot s o (AfterStop there) before = ⊥
 
 -- What a slot wanted then, which may still come: an operation of the instance, the next of whom it
 -- is wanted for.
-pub record IsStillSent (homes : ℕ → SiteId) (who : Instance) (lost : List ℕ) (slot : ℕ) (s : SiteId) (o : Op) (by : Doer) (before : List Happening) : Type 0 where
+pub record IsStillSent (homes : ℕ → SiteId) (who : Instance) (lost : List ℕ) (slot : ℕ) (s : SiteId) (o : Op)
+    (by : Doer) (before : List Happening) : Type 0 where
   pub wanted : IsWantedFor homes lost slot s o by before
   pub whose : IsOf by who s o before
   pub next : IsNextOf by who s o before
@@ -244,25 +253,30 @@ pub record IsStillSent (homes : ℕ → SiteId) (who : Instance) (lost : List �
 -- its own, and no other slot wants to take that lock.
 pub record SendsRightly (who : Instance) (wanted : List (Option (SiteId × Op))) (before : List Happening) : Type 0 where
   pub takes : (slot : ℕ) (s : SiteId) (o : Op) → held_in slot wanted ≡ Some (s, o) → TakesBehindWatch who s o before
-  pub unowned : (slot : ℕ) (s : SiteId) (image : ℕ) → held_in slot wanted ≡ Some (s, unwatch image) → HasLock image who (records_after s before) → ⊥
-  pub lone : (slot there : ℕ) (s : SiteId) (image : ℕ) → held_in slot wanted ≡ Some (s, unwatch image) → held_in there wanted ≡ Some (s, lock_take image) → ⊥
+  pub unowned : (slot : ℕ) (s : SiteId) (image : ℕ) → held_in slot wanted ≡ Some (s, unwatch image)
+      → HasLock image who (records_after s before) → ⊥
+  pub lone : (slot there : ℕ) (s : SiteId) (image : ℕ) → held_in slot wanted ≡ Some (s, unwatch image)
+      → held_in there wanted ≡ Some (s, lock_take image) → ⊥
 
 -- The lost lines are those of the instance that have no reply, in their order, and the instance
 -- ran. What each slot wanted is kept, for one line or for the house, and twice for no line; and it
 -- may still come.
-pub record IsStop (homes : ℕ → SiteId) (who : Instance) (wanted : List (Option (SiteId × Op))) (lost : List ℕ) (before : List Happening) : Type 0 where
+pub record IsStop (homes : ℕ → SiteId) (who : Instance) (wanted : List (Option (SiteId × Op))) (lost : List ℕ)
+    (before : List Happening) : Type 0 where
   pub runs : IsRunning who before
   pub each : (line : ℕ) → is_line_among line lost ≡ true → IsLostOf homes who line before
   pub all : (line : ℕ) → (begun : IsOpen line before) → begun.asked.who ≡ who → is_line_among line lost ≡ true
   pub ascends : IsStrictlyIncreasing lost
   pub by : (slot : ℕ) → Doer
-  pub left : (slot : ℕ) (w : SiteId × Op) → held_in slot wanted ≡ Some w → IsStillSent homes who lost slot w.0 w.1 (by slot) before
+  pub left : (slot : ℕ) (w : SiteId × Op) → held_in slot wanted ≡ Some w
+      → IsStillSent homes who lost slot w.0 w.1 (by slot) before
   pub apart : (line slot there : ℕ) → is_for line (by slot) ≡ true → is_for line (by there) ≡ true → slot ≡ there
   pub sends : SendsRightly who wanted before
 
 -- What a slot of the instance wanted when the session was stopped last, and for whom; and where a
 -- lost line's command wanted it itself, this is what that command had learned by then.
-pub record WasLeft (homes : ℕ → SiteId) (slot : ℕ) (who : Instance) (s : SiteId) (o : Op) (k : Knowledge) (before : List Happening) : Type 0 where
+pub record WasLeft (homes : ℕ → SiteId) (slot : ℕ) (who : Instance) (s : SiteId) (o : Op) (k : Knowledge)
+    (before : List Happening) : Type 0 where
   -- what the slots wanted, which lines were lost, what was until the stop, and what came since
   pub wanted : List (Option (SiteId × Op))
   pub lost : List ℕ
@@ -335,7 +349,8 @@ IsRight homes (h ∷ run) = AreStanding (h ∷ run) × IsDue homes h run × IsRi
 -- The request of a command is where a walk of the command's plan led it, by the operations that
 -- were done for its line; and where the command changes no image that is there, it waits for
 -- nothing and is in no line.
-pub record IsUnderWay {R : Type 0} (stands : R → Standing) (seat : Seat) (who : Instance) (run : List Happening) (r : Running R) : Type 0 where
+pub record IsUnderWay {R : Type 0} (stands : R → Standing) (seat : Seat) (who : Instance) (run : List Happening)
+    (r : Running R) : Type 0 where
   pub begun : IsOpen r.line run
   pub mine : begun.asked.who ≡ who
   pub start : Standing
@@ -348,7 +363,8 @@ pub record IsUnderWay {R : Type 0} (stands : R → Standing) (seat : Seat) (who 
   pub calm : joins_a_line (profile begun.asked.command) ≡ false → IsCalmRequest (stands r.request) × (r.place ≡ None)
 
 -- a command that is refused before any operation
-pub record IsRefusedAtOnce (seat : Seat) (who : Instance) (run : List Happening) (line : ℕ) (refusal : Refusal) : Type 0 where
+pub record IsRefusedAtOnce (seat : Seat) (who : Instance) (run : List Happening) (line : ℕ)
+    (refusal : Refusal) : Type 0 where
   pub begun : IsOpen line run
   pub mine : begun.asked.who ≡ who
   pub start : Standing
@@ -356,13 +372,15 @@ pub record IsRefusedAtOnce (seat : Seat) (who : Instance) (run : List Happening)
   pub ends : start.plan ≡ refused refusal
   pub none : steps_of line run ≡ []
 
-abbrev pub IsHeldRightly : {R : Type 0} → (stands : R → Standing) → Seat → Instance → List Happening → Option (Occupant R) → Type 0
+abbrev pub IsHeldRightly : {R : Type 0} → (stands : R → Standing) → Seat → Instance → List Happening
+    → Option (Occupant R) → Type 0
 IsHeldRightly stands seat who run None = Unit {0}
 IsHeldRightly stands seat who run (Some (occupant.Refused line refusal)) = IsRefusedAtOnce seat who run line refusal
 IsHeldRightly stands seat who run (Some (occupant.Running r)) = IsUnderWay stands seat who run r
 
 -- the request in a slot knows what a walk of its command taught
-pub record HasLearned {R : Type 0} (stands : R → Standing) (run : List Happening) (r : Running R) (k : Knowledge) : Type 0 where
+pub record HasLearned {R : Type 0} (stands : R → Standing) (run : List Happening) (r : Running R)
+    (k : Knowledge) : Type 0 where
   pub begun : IsOpen r.line run
   pub seat : Seat
   pub start : Standing
@@ -372,7 +390,8 @@ pub record HasLearned {R : Type 0} (stands : R → Standing) (run : List Happeni
   pub walk : IsWalk start.labels start.plan feds (steps_of r.line run) (stands r.request).plan
   pub known : k ≡ known_along start.labels nothing_known start.plan feds
 
-abbrev pub HasLearnedIf : {R : Type 0} → (stands : R → Standing) → List Happening → Option (Running R) → Knowledge → Type 0
+abbrev pub HasLearnedIf : {R : Type 0} → (stands : R → Standing) → List Happening → Option (Running R) → Knowledge
+    → Type 0
 HasLearnedIf stands run None k = Unit {0}
 HasLearnedIf stands run (Some r) k = HasLearned stands run r k
 
@@ -382,13 +401,15 @@ KeepsToItsWay stands run w None = Unit {0}
 KeepsToItsWay stands run w (Some r) = AgreesWithWay (stands r.request).plan w (way_of r.line run)
 
 -- what holds of the client of a life that runs
-pub record IsLiving {R : Type 0} (stands : R → Standing) (home : SiteId) (session : ℕ) (run : List Happening) (knows : (slot : ℕ) → Knowledge) (c : ClientView R) : Type 0 where
+pub record IsLiving {R : Type 0} (stands : R → Standing) (home : SiteId) (session : ℕ) (run : List Happening)
+    (knows : (slot : ℕ) → Knowledge) (c : ClientView R) : Type 0 where
   pub whose : c.session.instance.session ≡ session
   pub runs : IsRunning c.session.instance run
   pub at_home : c.session.home ≡ home
   pub sound : IsSoundClient stands c
   pub know : AllKnow stands knows c.session
-  pub held : (slot : ℕ) → IsHeldRightly stands (seat_of_home session home) c.session.instance run (held_in slot c.session.slots)
+  pub held : (slot : ℕ) → IsHeldRightly stands (seat_of_home session home) c.session.instance run
+      (held_in slot c.session.slots)
   pub ways : (slot : ℕ) → KeepsToItsWay stands run (slot_state slot c.slots).way (running_at slot c.session)
   pub learned : (slot : ℕ) → HasLearnedIf stands run (running_at slot c.session) (knows slot)
   pub releases : c.release ≡ release_of c.session.instance run
@@ -417,7 +438,8 @@ line_at session slot lives = script_line (held_of slot (session_in session lives
 
 -- a line is in one slot
 abbrev pub AreLinesApart : {R : Type 0} → List (LivesView R) → Type 0
-AreLinesApart lives = (line session slot other there : ℕ) → line_at session slot lives ≡ Some line → line_at other there lives ≡ Some line
+AreLinesApart lives = (line session slot other there : ℕ) → line_at session slot lives ≡ Some line
+    → line_at other there lives ≡ Some line
     → (session ≡ other) × (slot ≡ there)
 
 -- the line is in a slot of a session
@@ -454,7 +476,8 @@ pub record AreLivesOf {R : Type 0} (run : List Happening) (home : SiteId) (sessi
   pub life : life_after session run ≡ record { number = l.latest.life; runs = is_some l.running }
   pub latest : (c : ClientView R) → l.running ≡ Some c → c.session.instance ≡ l.latest
   pub most : (v : LateView) → l.late ≡ Some v → v.instance.life ≤ l.latest.life
-  pub older : (v : LateView) → l.late ≡ Some v → (c : ClientView R) → l.running ≡ Some c → v.instance.life < l.latest.life
+  pub older : (v : LateView) → l.late ≡ Some v → (c : ClientView R) → l.running ≡ Some c
+      → v.instance.life < l.latest.life
 
 -- What is promised of a world: all that happened to it is one run, which is right at each place.
 -- Its calls, history, logs, records and mail are those of the run, and so are the lives of its
@@ -470,7 +493,8 @@ pub record HasRun {R : Type 0} (w : WorldView R) : Type 0 where
   pub logs : (s : SiteId) → (site_in s w.sites).log ≡ log_of s run
   pub records : (s : SiteId) → records_in s w.sites ≡ records_after s run
   pub mail : w.sites.mail ≡ mail_of run
-  pub lives : (session : ℕ) (l : LivesView R) → lives_in session w.lives ≡ Some l → AreLivesOf run (homes session) session l
+  pub lives : (session : ℕ) (l : LivesView R) → lives_in session w.lives ≡ Some l
+      → AreLivesOf run (homes session) session l
   -- where nobody was stopped or fenced, maps tell exactly what exists, but for what lines owe
   pub exact : HasNoHindrance run → (s : SiteId) → IsExactBut (IsOwed (owed_in run) s) (records_in s w.sites)
   -- the writes of each instance change an image in the order in which they found it
@@ -487,31 +511,40 @@ pub record IsSoundWorld {R : Type 0} (stands : R → Standing) (w : WorldView R)
   pub standalone : (s : SiteId) → AreStandalone (records_in s w.sites)
   pub mapped : (s : SiteId) → AreMapped (records_in s w.sites)
   -- the requests of a life that runs are under way by what they know
-  pub clients : (session : ℕ) (c : ClientView R) → client_in session w.lives ≡ Some c → IsLiving stands (told.homes session) session told.run (known_in knows session) c
-  pub in_slots : (session slot : ℕ) (c : ClientView R) → client_in session w.lives ≡ Some c → who (InSlot session slot) ≡ c.session.instance
-  pub nobody : (session : ℕ) → client_in session w.lives ≡ None → (slot : ℕ) → knows (InSlot session slot) ≡ nothing_known
+  pub clients : (session : ℕ) (c : ClientView R) → client_in session w.lives ≡ Some c
+      → IsLiving stands (told.homes session) session told.run (known_in knows session) c
+  pub in_slots : (session slot : ℕ) (c : ClientView R) → client_in session w.lives ≡ Some c
+      → who (InSlot session slot) ≡ c.session.instance
+  pub nobody : (session : ℕ) → client_in session w.lives ≡ None → (slot : ℕ)
+      → knows (InSlot session slot) ≡ nothing_known
   pub apart : AreLinesApart w.lives
   pub slots : AreInSlots told.run w.lives
   -- what a client knows, and counts of its locks, is true
   pub truth : (session : ℕ) (c : ClientView R) → client_in session w.lives ≡ Some c → (s : SiteId)
       → IsTrueOf s (records_in s w.sites) c.session.instance (known_in knows session) c
   -- it counts its locks by its own operations
-  pub owns : (session : ℕ) (c : ClientView R) → client_in session w.lives ≡ Some c → CountsItsLocks c.session.instance told.run c
+  pub owns : (session : ℕ) (c : ClientView R) → client_in session w.lives ≡ Some c
+      → CountsItsLocks c.session.instance told.run c
   -- what stopped lives may still send is what the run says, and may be done by what they knew
   pub late : (session slot : ℕ) → late_at session slot w.lives ≡ sent_after session slot told.run
   pub sending : (session slot : ℕ) (x : Sent) → late_at session slot w.lives ≡ Some x
-      → (who (Sending session slot) ≡ x.instance) × MayStillCome session (λ s. records_in s w.sites) x (knows (Sending session slot))
+      → (who (Sending session slot) ≡ x.instance) × MayStillCome session (λ s. records_in s w.sites) x
+      (knows (Sending session slot))
   pub was_left : (session slot : ℕ) (x : Sent) → late_at session slot w.lives ≡ Some x
       → WasLeft told.homes slot x.instance x.site x.op (knows (Sending session slot)) told.run
   pub unsent : (session slot : ℕ) → late_at session slot w.lives ≡ None → knows (Sending session slot) ≡ nothing_known
   pub drops : (session slot there : ℕ) (x : Sent) → slot ≢ there → late_at session slot w.lives ≡ Some x → (r : Records)
-      → MayAct x.site r (who (Sending session slot)) (who (Sending session there)) (knows (Sending session slot)) (knows (Sending session there)) x.op
+      → MayAct x.site r (who (Sending session slot)) (who (Sending session there)) (knows (Sending session slot))
+      (knows (Sending session there)) x.op
   -- an id that somebody drew had no header so far
-  pub new : (h : Holder) (s : SiteId) (image : ℕ) → is_drawn (knows h).drawn s image ≡ true → HadNoHeader s image told.run
+  pub new : (h : Holder) (s : SiteId) (image : ℕ) → is_drawn (knows h).drawn s image ≡ true
+      → HadNoHeader s image told.run
   -- no two that aren't of one client are in each other's way
-  pub beside : (h g : Holder) → AreStrangers h g → (s : SiteId) → AreBeside s (records_in s w.sites) (who h) (who g) (knows h) (knows g)
+  pub beside : (h g : Holder) → AreStrangers h g → (s : SiteId)
+      → AreBeside s (records_in s w.sites) (who h) (who g) (knows h) (knows g)
   -- requests stand in the order in which they found their image
-  pub in_order : (session : ℕ) (c : ClientView R) → client_in session w.lives ≡ Some c → AreWritesInOrder stands (told.homes session) c.session.instance told.run c.session
+  pub in_order : (session : ℕ) (c : ClientView R) → client_in session w.lives ≡ Some c
+      → AreWritesInOrder stands (told.homes session) c.session.instance told.run c.session
 
 -- ---- a new world
 

@@ -92,14 +92,16 @@ reply_on_way a told = reply_at (plan_after (rest_of_acquire a (Goto Lock)) (fed.
 -- ends after the answer
 abbrev pub done_by : Sites → Instance → (line : ℕ) → (labels : Label → Plan) → Plan → Happening
 done_by sites who line labels (Ask s why o next) =
-    Did (operation_at (site_in s sites) who (Itself line) s o) (reply_at (at_operation labels (next (answer_to (records_in s sites) who o))))
+    Did (operation_at (site_in s sites) who (Itself line) s o)
+    (reply_at (at_operation labels (next (answer_to (records_in s sites) who o))))
 done_by sites who line labels plan = Nothing
 
 -- what happens when its way to the lock does an operation: the way goes on, or the request is
 -- refused there
 abbrev pub gone_by : Sites → Instance → (line : ℕ) → Acquire → Happening
 gone_by sites who line a =
-    Did (operation_at (site_in a.site sites) who (OnWay line) a.site (op_of a)) (reply_on_way a (answer_to (records_in a.site sites) who (op_of a)))
+    Did (operation_at (site_in a.site sites) who (OnWay line) a.site (op_of a))
+    (reply_on_way a (answer_to (records_in a.site sites) who (op_of a)))
 
 -- what happens when a release does an operation
 abbrev pub release_done : Sites → Instance → Release → Happening
@@ -121,7 +123,8 @@ module _ {R : Type 0} (stands : R → Standing) where
   goes_on_by sites c slot r (actor.Release x) = Waited
 
   abbrev pub polled_in : Sites → ClientView R → (slot : ℕ) → Option (Occupant R) → Happening
-  polled_in sites c slot None = if slot == 0 then releases sites c.session.instance (actor_at stands slot c) else Nothing
+  polled_in sites c slot None = if slot == 0 then releases sites c.session.instance (actor_at stands slot c)
+      else Nothing
   polled_in sites c slot (Some (occupant.Refused line refusal)) = Refused c.session.home line (reply.Refused refusal)
   polled_in sites c slot (Some (occupant.Running r)) = goes_on_by sites c slot r (actor_at stands slot c)
 
@@ -146,7 +149,8 @@ begins_of who line c = record { who = who; line = line; command = c }
 abbrev pub submitted : {R : Type 0} → (is_begun : Bool) → (line : ℕ) → Command → Option (ClientView R) → Happening
 submitted begun line c None = Nothing
 submitted begun line c (Some client) =
-    if begun || nat_lt 64 client.session.lowest then Nothing else Began (begins_of client.session.instance line c) client.session.lowest
+    if begun || nat_lt 64 client.session.lowest then Nothing
+    else Began (begins_of client.session.instance line c) client.session.lowest
 
 -- ---- a notice
 
@@ -162,7 +166,8 @@ delivered (Some notice) lives = heard_by notice (client_in notice.to.session liv
 -- ---- the store
 
 abbrev pub trimmed_of : SiteLog → SiteId → (image object : ℕ) → Happening
-trimmed_of at_site s image object = if is_some ((records_of at_site).objects image object) then Trimmed s (next_number at_site) image object else Nothing
+trimmed_of at_site s image object = if is_some ((records_of at_site).objects image object)
+    then Trimmed s (next_number at_site) image object else Nothing
 
 abbrev pub trimmed_at : Sites → SiteId → (image object : ℕ) → Happening
 trimmed_at sites s image object = trimmed_of (site_in s sites) s image object
@@ -173,7 +178,8 @@ ended_watch at_site s image (Some who) = Expired s (next_number at_site) image w
 
 -- of a session's instances the oldest that watches loses its watch
 abbrev pub expired_of : SiteLog → (session : ℕ) → SiteId → (image : ℕ) → Happening
-expired_of at_site session s image = ended_watch at_site s image (oldest_of session ((records_of at_site).watchers image))
+expired_of at_site session s image =
+    ended_watch at_site s image (oldest_of session ((records_of at_site).watchers image))
 
 abbrev pub expired_at : Sites → (session : ℕ) → SiteId → (image : ℕ) → Happening
 expired_at sites session s image = expired_of (site_in s sites) session s image
@@ -234,7 +240,8 @@ restarted (Some l) = restarted_of l.latest l.running
 -- ---- any event
 
 -- what an event does, as a function of the lines that were begun, the sites and the sessions
-abbrev pub happens : {R : Type 0} → (stands : R → Standing) → Event → (begun : (line : ℕ) → Bool) → Sites → List (LivesView R) → Happening
+abbrev pub happens : {R : Type 0} → (stands : R → Standing) → Event → (begun : (line : ℕ) → Bool) → Sites
+    → List (LivesView R) → Happening
 happens stands (event.Submit session line c) begun sites lives = submitted (begun line) line c (client_in session lives)
 happens stands (event.Poll session slot) begun sites lives = polled stands sites slot (client_in session lives)
 happens stands (event.Deliver number) begun sites lives = delivered (notice_numbered number sites.mail) lives
@@ -268,7 +275,8 @@ pub record IsSameHouse {R : Type 0} (old new : ClientView R) : Type 0 where
   pub heard : new.heard ≡ old.heard
 
 -- a life without requests, which knows of no lock, lets none go, and has heard nothing
-pub record IsFresh {R : Type 0} (stands : R → Standing) (who : Instance) (home : SiteId) (c : ClientView R) : Type 0 where
+pub record IsFresh {R : Type 0} (stands : R → Standing) (who : Instance) (home : SiteId)
+    (c : ClientView R) : Type 0 where
   pub instance : c.session.instance ≡ who
   pub at_home : c.session.home ≡ home
   pub slots : (slot : ℕ) → held_in slot c.session.slots ≡ None
@@ -314,7 +322,8 @@ module _ {R : Type 0} (stands : R → Standing) where
     pub session : new.session ≡ old.session
     pub slots : new.slots ≡ old.slots
     pub release : new.release ≡ old.release
-    pub locks : (s : SiteId) (image : ℕ) → lock_state_at s image new.locks ≡ heard notice s image (lock_state_at s image old.locks)
+    pub locks : (s : SiteId) (image : ℕ)
+        → lock_state_at s image new.locks ≡ heard notice s image (lock_state_at s image old.locks)
     pub told : new.heard ≡ heard_with notice old.heard
 
   abbrev pub Becomes : Event → Happening → (old new : ClientView R) → Type 0
@@ -394,7 +403,8 @@ call_of e h = record { event = e; outcome = outcome_of h }
 
 -- the mail behind it
 abbrev pub mail_then : Happening → Sites → List Notice
-mail_then (Did o reply) sites = mail_after (site_in o.site sites).id (records_in o.site sites) o.instance o.op sites.mail
+mail_then (Did o reply) sites =
+    mail_after (site_in o.site sites).id (records_in o.site sites) o.instance o.op sites.mail
 mail_then h sites = sites.mail
 
 module _ {R : Type 0} (stands : R → Standing) where
@@ -405,11 +415,14 @@ module _ {R : Type 0} (stands : R → Standing) where
     pub history : new.history ≡ old.history ++ entries_of h
     pub sites : (s : SiteId) → site_in s new.sites ≡ with_log_lines (lines_at s h) (site_in s old.sites)
     pub mail : new.sites.mail ≡ mail_then h old.sites
-    pub named : (session : ℕ) → names_session e h session ≡ true → LivesOnIf stands e h (lives_in session old.lives) (lives_in session new.lives)
-    pub others : (session : ℕ) → names_session e h session ≡ false → lives_in session new.lives ≡ lives_in session old.lives
+    pub named : (session : ℕ) → names_session e h session ≡ true
+        → LivesOnIf stands e h (lives_in session old.lives) (lives_in session new.lives)
+    pub others : (session : ℕ) → names_session e h session ≡ false
+        → lives_in session new.lives ≡ lives_in session old.lives
 
   abbrev pub IsWorldStep : Event → (old : WorldView R) → Outcome → (new : WorldView R) → Type 0
-  IsWorldStep e old result new = (result ≡ outcome_of (happening stands e old)) × Does e (happening stands e old) old new
+  IsWorldStep e old result new = (result ≡ outcome_of (happening stands e old))
+      × Does e (happening stands e old) old new
 
   -- a step that is refused memory: all is as it was, but for what a client is ready for
   abbrev pub IsClientAlikeIf : (old new : Option (ClientView R)) → Type 0
@@ -446,7 +459,8 @@ pub record DoesAt (s : SiteId) (h : Happening) (old new : SiteLog) : Type 0 wher
 pub record DoesAtSites (h : Happening) (old new : Sites) : Type 0 where
   pub sites : (s : SiteId) → site_in s new ≡ with_log_lines (lines_at s h) (site_in s old)
   pub records : (s : SiteId) → records_in s new ≡ records_behind s (records_in s old) h
-  pub form : (s : SiteId) → AreInForm (records_in s old) (length (site_in s old).log) → AreInForm (records_in s new) (length (site_in s new).log)
+  pub form : (s : SiteId) → AreInForm (records_in s old) (length (site_in s old).log)
+      → AreInForm (records_in s new) (length (site_in s new).log)
   pub mail : new.mail ≡ mail_then h old
 
 -- no site changed
@@ -460,7 +474,8 @@ pub record IsPermitted (sites : Sites) (who : Instance) (s : SiteId) (o : Op) : 
   pub may : MayDo (records_in s sites) who o
   pub gives : CanGive o (answer_to (records_in s sites) who o)
   pub steps : (f : Flat) → StandsFor [] (records_in s sites) f
-      → StandsFor [] (after (records_in s sites) who o) (changed_by f (effect_of (records_in s sites) (done.Op o) (answer_to (records_in s sites) who o)))
+      → StandsFor [] (after (records_in s sites) who o)
+      (changed_by f (effect_of (records_in s sites) (done.Op o) (answer_to (records_in s sites) who o)))
 
 -- what a slot of a stopped life may still send may be done as well
 abbrev pub MayCome : Sites → Option Sent → Type 0
@@ -470,9 +485,11 @@ MayCome sites (Some x) = IsPermitted sites x.instance x.site x.op
 module _ {R : Type 0} (stands : R → Standing) where
   -- what becomes of the sessions: those that the event doesn't name stay
   pub record DoesToLives (e : Event) (h : Happening) (old new : List (LivesView R)) : Type 0 where
-    pub named : (session : ℕ) → names_session e h session ≡ true → LivesOnIf stands e h (lives_in session old) (lives_in session new)
+    pub named : (session : ℕ) → names_session e h session ≡ true
+        → LivesOnIf stands e h (lives_in session old) (lives_in session new)
     pub others : (session : ℕ) → names_session e h session ≡ false → lives_in session new ≡ lives_in session old
-    pub sound : (session : ℕ) (c : ClientView R) → names_session e h session ≡ true → client_in session new ≡ Some c → IsSoundClient stands c
+    pub sound : (session : ℕ) (c : ClientView R) → names_session e h session ≡ true → client_in session new ≡ Some c
+        → IsSoundClient stands c
 
   abbrev pub IsSoundIf : Option (ClientView R) → Type 0
   IsSoundIf None = Unit {0}
@@ -485,11 +502,13 @@ module _ {R : Type 0} (stands : R → Standing) where
 
   -- what a slot wants that may go on is permitted at its site
   abbrev pub WantsWhatItMay : Sites → (slot : ℕ) → ClientView R → Type 0
-  WantsWhatItMay sites slot c = (s : SiteId) (o : Op) → op_wanted stands slot c ≡ Some (s, o) → IsPermitted sites c.session.instance s o
+  WantsWhatItMay sites slot c = (s : SiteId) (o : Op) → op_wanted stands slot c ≡ Some (s, o)
+      → IsPermitted sites c.session.instance s o
 
   -- and a lock that it would drop may be dropped: no request of its client relies on it
   abbrev pub DropsWhatItMay : (slot : ℕ) → ClientView R → Type 0
-  DropsWhatItMay slot c = (s : SiteId) (o : Op) → op_wanted stands slot c ≡ Some (s, o) → DropsAtRest (actor_at stands slot c) s o c
+  DropsWhatItMay slot c = (s : SiteId) (o : Op) → op_wanted stands slot c ≡ Some (s, o)
+      → DropsAtRest (actor_at stands slot c) s o c
 
 -- the lines that were begun behind it
 abbrev pub begun_behind : (begun : (line : ℕ) → Bool) → Happening → (line : ℕ) → Bool
@@ -497,19 +516,22 @@ begun_behind begun h line = begun line || is_begun line (entries_of h)
 
 module _ {R : Type 0} (stands : R → Standing) where
   -- what an event does to all parts
-  pub record DoesToParts (e : Event) (h : Happening) (old_sites new_sites : Sites) (old new : List (LivesView R)) (old_begun new_begun : BegunLines) : Type 0 where
+  pub record DoesToParts (e : Event) (h : Happening) (old_sites new_sites : Sites) (old new : List (LivesView R))
+      (old_begun new_begun : BegunLines) : Type 0 where
     pub sites : DoesAtSites h old_sites new_sites
     pub lives : DoesToLives stands e h old new
     pub begun : (line : ℕ) → has_line line new_begun ≡ begun_behind (λ l. has_line l old_begun) h line
 
   -- what is left of them where it was refused memory
-  pub record LeavesParts (old_sites new_sites : Sites) (old new : List (LivesView R)) (old_begun new_begun : BegunLines) : Type 0 where
+  pub record LeavesParts (old_sites new_sites : Sites) (old new : List (LivesView R))
+      (old_begun new_begun : BegunLines) : Type 0 where
     pub sites : AreSameSites old_sites new_sites
     pub lives : LeavesLives stands old new
     pub begun : (line : ℕ) → has_line line new_begun ≡ has_line line old_begun
 
   -- A step of all parts: what it does to them, what history and calls have more, and its outcome.
-  pub record StepsParts (e : Event) (h : Happening) (old_sites new_sites : Sites) (old new : List (LivesView R)) (old_begun new_begun : BegunLines)
+  pub record StepsParts (e : Event) (h : Happening) (old_sites new_sites : Sites) (old new : List (LivesView R))
+      (old_begun new_begun : BegunLines)
       (old_history new_history : List Entry) (old_calls new_calls : List Call) (result : Outcome) : Type 0 where
     pub parts : DoesToParts e h old_sites new_sites old new old_begun new_begun
     pub history : new_history ≡ old_history ++ entries_of h

@@ -56,12 +56,14 @@ ends_watch who s image h = expires who s image h
 -- whether the watch was ended since the instance watched last
 abbrev pub has_watch_ended : Instance → SiteId → (image : ℕ) → List Happening → Bool
 has_watch_ended who s image [] = false
-has_watch_ended who s image (h ∷ run) = if watches_by who s image h then false else (ends_watch who s image h || has_watch_ended who s image run)
+has_watch_ended who s image (h ∷ run) = if watches_by who s image h then false
+    else (ends_watch who s image h || has_watch_ended who s image run)
 
 -- whether the store ended the watch since the instance watched last
 abbrev pub watch_expired : Instance → SiteId → (image : ℕ) → List Happening → Bool
 watch_expired who s image [] = false
-watch_expired who s image (h ∷ run) = if watches_by who s image h then false else (expires who s image h || watch_expired who s image run)
+watch_expired who s image (h ∷ run) = if watches_by who s image h then false
+    else (expires who s image h || watch_expired who s image run)
 
 -- ---- who keeps its watch
 
@@ -72,7 +74,8 @@ unwatches_by who s image h = false
 -- The instance watched, and did no `unwatch` since.
 abbrev pub keeps_watch : Instance → SiteId → (image : ℕ) → List Happening → Bool
 keeps_watch who s image [] = false
-keeps_watch who s image (h ∷ run) = watches_by who s image h || (not (unwatches_by who s image h) && keeps_watch who s image run)
+keeps_watch who s image (h ∷ run) =
+    watches_by who s image h || (not (unwatches_by who s image h) && keeps_watch who s image run)
 
 -- ---- who takes a lock
 
@@ -95,5 +98,6 @@ HasWatchedOn w who run = Unit {0}
 -- The client counts as watched only images that it watched, and whose watch it didn't end itself
 -- since. No way to a lock is past its watch unless that was done.
 pub record CountsItsWatches {R : Type 0} (who : Instance) (run : List Happening) (c : ClientView R) : Type 0 where
-  pub counts : (s : SiteId) (image : ℕ) → (lock_state_at s image c.locks).watched ≡ true → keeps_watch who s image run ≡ true
+  pub counts : (s : SiteId) (image : ℕ) → (lock_state_at s image c.locks).watched ≡ true
+      → keeps_watch who s image run ≡ true
   pub ways : (slot : ℕ) → HasWatchedOn (slot_state slot c.slots).way who run

@@ -88,7 +88,8 @@ free_in None = None
 free_in (Some c) = free_slot c.session.lowest
 
 -- the kind of a slot's next operation
-abbrev pub kind_in : {R : Type 0} → (stands : R → Standing) → (slot : ℕ) → Option (ClientView R) → Option (SiteId × OpKind)
+abbrev pub kind_in : {R : Type 0} → (stands : R → Standing) → (slot : ℕ) → Option (ClientView R)
+    → Option (SiteId × OpKind)
 kind_in stands slot None = None
 kind_in stands slot (Some c) = kind_wanted stands slot c
 

@@ -24,7 +24,8 @@ pub fn deliver<R: Request>(
 ) -> Result<Outcome, NoMemory>
     requires { (session : ℕ) → IsSoundIf R.stands (client_in session lives.old.items) }
     ensures outcome { IfOk result (λ o. o ≡ outcome_of (delivered (notice_numbered number mail.now) lives.old.items)) }
-    ensures lives { OnOk result (DoesToLives R.stands (of_event.Deliver number) (delivered (notice_numbered number mail.now) lives.old.items) lives.old.items lives.new.items) }
+    ensures lives { OnOk result (DoesToLives R.stands (of_event.Deliver number)
+        (delivered (notice_numbered number mail.now) lives.old.items) lives.old.items lives.new.items) }
     ensures err { OnErr result (lives.new.items ≡ lives.old.items) }
 {
     match mail.get(number) {
@@ -42,7 +43,9 @@ fn tell<R: Request>(
     requires session { session ≡ notice.now.to.session }
     requires sound { (number : ℕ) → IsSoundIf R.stands (client_in number lives.old.items) }
     ensures outcome { IfOk result (λ o. o ≡ outcome_of (delivered (Some notice.now) lives.old.items)) }
-    ensures lives { OnOk result ((number : ℕ) → DoesToLives R.stands (of_event.Deliver number) (delivered (Some notice.now) lives.old.items) lives.old.items lives.new.items) }
+    ensures lives { OnOk result ((number : ℕ)
+        → DoesToLives R.stands (of_event.Deliver number)
+        (delivered (Some notice.now) lives.old.items) lives.old.items lives.new.items) }
     ensures err { OnErr result (lives.new.items ≡ lives.old.items) }
 {
     let Some(life) = lives.get_mut(session.0 as usize) else {
@@ -58,7 +61,8 @@ fn tell<R: Request>(
 fn hear<R: Request>(client: &mut Client<R>, notice: &Notice) -> Result<Outcome, NoMemory>
     requires { IsSoundClient R.stands client.old }
     ensures outcome { IfOk result (λ o. o ≡ outcome_of (heard_by notice.now (Some client.old))) }
-    ensures becomes { OnOk result ((number : ℕ) → Becomes R.stands (of_event.Deliver number) (heard_by notice.now (Some client.old)) client.old client.new) }
+    ensures becomes { OnOk result ((number : ℕ)
+        → Becomes R.stands (of_event.Deliver number) (heard_by notice.now (Some client.old)) client.old client.new) }
     ensures sound { IsSoundClient R.stands client.new }
     ensures err { OnErr result (client.new ≡ client.old) }
 {

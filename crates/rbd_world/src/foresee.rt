@@ -67,10 +67,14 @@ impl Foreseen {
 /// refused.
 pub fn foresee(alloc: Global, sites: &Sites, due: &Due) -> Result<Foreseen, NoMemory>
     requires permitted { IsPermitted sites.now due.now.who due.now.site due.now.op }
-    ensures fed { IfOk result (λ f. f.fed ≡ of_fed.Answer (answer_to (records_in due.now.site sites.now) due.now.who due.now.op)) }
+    ensures fed { IfOk result (λ f. f.fed ≡ of_fed.Answer
+        (answer_to (records_in due.now.site sites.now) due.now.who due.now.op)) }
     ensures number { IfOk result (λ f. f.number ≡ next_number (site_in due.now.site sites.now)) }
-    ensures waiting { IfOk result (λ f. f.waiting ≡ waits (reason_of (doer_of due.now.by)) (kind_of due.now.op) (answer_to (records_in due.now.site sites.now) due.now.who due.now.op)) }
-    ensures entry { IfOk result (λ f. f.entry ≡ entry_of (operation_at (site_in due.now.site sites.now) due.now.who (doer_of due.now.by) due.now.site due.now.op)) }
+    ensures waiting { IfOk result (λ f. f.waiting ≡ waits (reason_of (doer_of due.now.by)) (kind_of due.now.op)
+        (answer_to (records_in due.now.site sites.now) due.now.who due.now.op)) }
+    ensures entry { IfOk result (λ f. f.entry
+        ≡ entry_of (operation_at (site_in due.now.site sites.now) due.now.who
+        (doer_of due.now.by) due.now.site due.now.op)) }
 {
     let at = sites.at(due.site);
     match at.answer(due.who, &due.op) {
@@ -89,8 +93,10 @@ fn foresee_answered(
     requires { answer ≡ answer_to (records_of at.now) due.now.who due.now.op }
     ensures fed { IfOk result (λ f. f.fed ≡ of_fed.Answer answer) }
     ensures number { IfOk result (λ f. f.number ≡ next_number at.now) }
-    ensures waiting { IfOk result (λ f. f.waiting ≡ waits (reason_of (doer_of due.now.by)) (kind_of due.now.op) answer) }
-    ensures entry { IfOk result (λ f. f.entry ≡ entry_of (operation_at at.now due.now.who (doer_of due.now.by) due.now.site due.now.op)) }
+    ensures waiting { IfOk result (λ f. f.waiting ≡ waits (reason_of (doer_of due.now.by))
+        (kind_of due.now.op) answer) }
+    ensures entry { IfOk result (λ f. f.entry
+        ≡ entry_of (operation_at at.now due.now.who (doer_of due.now.by) due.now.site due.now.op)) }
 {
     let number = at.log().len() as u64 + 1;
     match effect_now(alloc, at, &due.op, &answer) {

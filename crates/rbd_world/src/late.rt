@@ -34,9 +34,12 @@ pub fn come<R: Request>(
     requires may { MayCome sites.old (late_at session slot lives.old.items) }
     requires sound { IsSoundIf R.stands (client_in session lives.old.items) }
     ensures outcome { IfOk result (λ o. o ≡ outcome_of (come sites.old slot (late_at session slot lives.old.items))) }
-    ensures history { OnOk result (history.new.items ≡ history_with history.old.items (come sites.old slot (late_at session slot lives.old.items))) }
-    ensures sites { OnOk result (DoesAtSites (come sites.old slot (late_at session slot lives.old.items)) sites.old sites.new) }
-    ensures lives { OnOk result (DoesToLives R.stands (of_event.Late session slot) (come sites.old slot (late_at session slot lives.old.items)) lives.old.items lives.new.items) }
+    ensures history { OnOk result (history.new.items ≡ history_with history.old.items
+        (come sites.old slot (late_at session slot lives.old.items))) }
+    ensures sites { OnOk result (DoesAtSites
+        (come sites.old slot (late_at session slot lives.old.items)) sites.old sites.new) }
+    ensures lives { OnOk result (DoesToLives R.stands (of_event.Late session slot)
+        (come sites.old slot (late_at session slot lives.old.items)) lives.old.items lives.new.items) }
     ensures err { OnErr result (AreSameSites sites.old sites.new) }
     ensures left { OnErr result (lives.new.items ≡ lives.old.items) }
     ensures unnoted { OnErr result (history.new.items ≡ history.old.items) }
@@ -60,10 +63,14 @@ fn come_from(
 ) -> Result<Outcome, NoMemory>
     requires room { vec_len history.old + 2 ≤ vec_capacity history.old }
     requires may { MayCome sites.old (sent_of late.old.instance (held_in slot late.old.wanted)) }
-    ensures outcome { IfOk result (λ o. o ≡ outcome_of (come sites.old slot (sent_of late.old.instance (held_in slot late.old.wanted)))) }
-    ensures history { OnOk result (history.new.items ≡ history_with history.old.items (come sites.old slot (sent_of late.old.instance (held_in slot late.old.wanted)))) }
-    ensures sites { OnOk result (DoesAtSites (come sites.old slot (sent_of late.old.instance (held_in slot late.old.wanted))) sites.old sites.new) }
-    ensures late { OnOk result ((session : ℕ) → Some late.new ≡ late_behind (of_event.Late session slot) (come sites.old slot (sent_of late.old.instance (held_in slot late.old.wanted))) (Some late.old)) }
+    ensures outcome { IfOk result (λ o. o
+        ≡ outcome_of (come sites.old slot (sent_of late.old.instance (held_in slot late.old.wanted)))) }
+    ensures history { OnOk result (history.new.items ≡ history_with history.old.items
+        (come sites.old slot (sent_of late.old.instance (held_in slot late.old.wanted)))) }
+    ensures sites { OnOk result (DoesAtSites
+        (come sites.old slot (sent_of late.old.instance (held_in slot late.old.wanted))) sites.old sites.new) }
+    ensures late { OnOk result ((session : ℕ) → Some late.new ≡ late_behind (of_event.Late session slot)
+        (come sites.old slot (sent_of late.old.instance (held_in slot late.old.wanted))) (Some late.old)) }
     ensures err { OnErr result (AreSameSites sites.old sites.new) }
     ensures left { OnErr result (late.new ≡ late.old) }
     ensures unnoted { OnErr result (history.new.items ≡ history.old.items) }

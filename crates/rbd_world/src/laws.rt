@@ -50,7 +50,8 @@ pub fn steps_keep_worlds_sound()
 /// Behind any list of events the world is sound: so its calls, history, logs and mail are those of
 /// one run, of which all holds that [`steps_keep_worlds_sound`] keeps.
 pub fn lists_of_events_are_runs()
-    ensures { (calls : List Call) (old new : WorldView Standing) → IsSoundWorld as_is old → AreCallsOf as_is calls old new → IsSoundWorld as_is new }
+    ensures { (calls : List Call) (old new : WorldView Standing) → IsSoundWorld as_is old
+        → AreCallsOf as_is calls old new → IsSoundWorld as_is new }
 {}
 
 /// A step that is refused memory leaves the world sound.
@@ -66,7 +67,8 @@ pub fn refused_steps_leave_worlds_sound()
 pub fn what_is_wanted_may_be_done()
     ensures wanted { (w : WorldView Standing) (session slot : ℕ) (c : ClientView Standing)
         → IsSoundWorld as_is w → client_in session w.lives ≡ Some c → WantsWhatItMay as_is w.sites slot c }
-    ensures late { (w : WorldView Standing) (session slot : ℕ) → IsSoundWorld as_is w → MayCome w.sites (late_at session slot w.lives) }
+    ensures late { (w : WorldView Standing) (session slot : ℕ) → IsSoundWorld as_is w
+        → MayCome w.sites (late_at session slot w.lives) }
     ensures drops { (w : WorldView Standing) (session slot : ℕ) (c : ClientView Standing)
         → IsSoundWorld as_is w → client_in session w.lives ≡ Some c → DropsWhatItMay as_is slot c }
 {}
@@ -75,15 +77,18 @@ pub fn what_is_wanted_may_be_done()
 /// changes each of its objects first: wherever in the run it changes an object, the other one
 /// hasn't changed that object yet.
 pub fn writes_keep_their_order()
-    ensures { (w : WorldView Standing) (sound : IsSoundWorld as_is w) (who : Who) (one other : ℕ) (s : Which) (image number : ℕ)
-        → IsWriterOf who one sound.told.run → IsWriterOf who other sound.told.run → found_before one other s image sound.told.run ≡ true
+    ensures { (w : WorldView Standing) (sound : IsSoundWorld as_is w) (who : Who) (one other : ℕ) (s : Which)
+        (image number : ℕ)
+        → IsWriterOf who one sound.told.run → IsWriterOf who other sound.told.run
+        → found_before one other s image sound.told.run ≡ true
         → WritesFirst one other s image number sound.told.run }
 {}
 
 /// A line that was begun, has no reply yet and isn't lost is in a slot of a session, and goes on by
 /// the polls of that slot.
 pub fn open_lines_are_in_slots()
-    ensures { (w : WorldView Standing) (sound : IsSoundWorld as_is w) (line : ℕ) → IsOpen line sound.told.run → IsInSlot line w.lives }
+    ensures { (w : WorldView Standing) (sound : IsSoundWorld as_is w) (line : ℕ) → IsOpen line sound.told.run
+        → IsInSlot line w.lives }
 {}
 
 /// As long as nobody is stopped or fenced, the object maps of an image at rest tell exactly which
@@ -116,9 +121,12 @@ pub fn late_operations_come_once()
 /// once more for each round; and beside the steps that ask again there are at most one watch, two
 /// operations for each owner that was fenced, and one that ends the way.
 pub fn ways_lead_to_locks()
-    ensures ways { (w : WorldView Standing) (sound : IsSoundWorld as_is w) (line : ℕ) → AreAWay (way_of line sound.told.run) }
-    ensures broken { (w : WorldView Standing) (sound : IsSoundWorld as_is w) (line image : ℕ) (owner : Who) (s : Which) (a : Word) (before after : List Answered)
-        → way_of line sound.told.run ≡ before ++ record { site = s; op = lock_break image owner; answer = a } ∷ after → EndsWith (fenced s owner) before }
+    ensures ways { (w : WorldView Standing) (sound : IsSoundWorld as_is w) (line : ℕ)
+        → AreAWay (way_of line sound.told.run) }
+    ensures broken { (w : WorldView Standing) (sound : IsSoundWorld as_is w) (line image : ℕ) (owner : Who) (s : Which)
+        (a : Word) (before after : List Answered)
+        → way_of line sound.told.run ≡ before ++ record { site = s; op = lock_break image owner; answer = a } ∷ after
+        → EndsWith (fenced s owner) before }
     ensures takes { (w : WorldView Standing) (sound : IsSoundWorld as_is w) (line : ℕ)
         → count_by is_take_step (way_of line sound.told.run) ≤ 1 + count_by is_round (way_of line sound.told.run) }
     ensures all { (w : WorldView Standing) (sound : IsSoundWorld as_is w) (line : ℕ)
@@ -135,7 +143,8 @@ pub fn operations_come_in_their_turn()
     ensures look { (homes : ℕ → Which) (line : ℕ) (o : Operation) (reply : Option Told) (run : List Happening)
         → IsRight homes (Did o reply ∷ run) → o.by ≡ OnWay line → StandsAtLook homes line o.site run }
     ensures refused { (homes : ℕ → Which) (line : ℕ) (o : Operation) (reply : Told) (run : List Happening)
-        → IsRight homes (Did o (Some reply) ∷ run) → o.by ≡ OnWay line → WasRefused o.site reply (way_of line run ++ step_of o ∷ []) }
+        → IsRight homes (Did o (Some reply) ∷ run) → o.by ≡ OnWay line
+        → WasRefused o.site reply (way_of line run ++ step_of o ∷ []) }
     ensures itself { (homes : ℕ → Which) (line : ℕ) (o : Operation) (reply : Option Told) (run : List Happening)
         → IsRight homes (Did o reply ∷ run) → o.by ≡ Itself line → IsOver (way_of line run) }
     ensures house { (homes : ℕ → Which) (o : Operation) (reply : Option Told) (run : List Happening)
@@ -146,9 +155,11 @@ pub fn operations_come_in_their_turn()
 /// nothing since, and its life went on. It drops no further lock while it has one to tell of.
 pub fn a_house_tells_only_behind_its_own_drop()
     ensures tells { (homes : ℕ → Which) (o : Operation) (reply : Option Told) (run : List Happening) (image : ℕ)
-        → IsRight homes (Did o reply ∷ run) → o.by ≡ House → o.op ≡ released_lock image → HasDropped o.instance o.site image run }
+        → IsRight homes (Did o reply ∷ run) → o.by ≡ House → o.op ≡ released_lock image
+        → HasDropped o.instance o.site image run }
     ensures drops { (homes : ℕ → Which) (o : Operation) (reply : Option Told) (run : List Happening) (image : ℕ)
-        → IsRight homes (Did o reply ∷ run) → o.by ≡ House → o.op ≡ lock_drop image → (s : Which) (other : ℕ) → HasDropped o.instance s other run → ⊥ }
+        → IsRight homes (Did o reply ∷ run) → o.by ≡ House → o.op ≡ lock_drop image → (s : Which) (other : ℕ)
+        → HasDropped o.instance s other run → ⊥ }
 {}
 
 /// Who takes the lock of an image has watched the image in this life, by a `watch` that was done,
@@ -159,12 +170,15 @@ pub fn an_owner_watches_its_image()
     ensures takes { (homes : ℕ → Which) (o : Operation) (reply : Option Told) (run : List Happening) (image : ℕ)
         → IsRight homes (Did o reply ∷ run) → o.op ≡ lock_take image → keeps_watch o.instance o.site image run ≡ true }
     ensures watched { (homes : ℕ → Which) (run : List Happening) (s : Which) (image : ℕ) (h : HeaderView) (who : Who)
-        → IsRight homes run → (records_after s run).headers image ≡ Some h → h.owner ≡ Some who → has_watched who s image run ≡ true }
+        → IsRight homes run → (records_after s run).headers image ≡ Some h → h.owner ≡ Some who
+        → has_watched who s image run ≡ true }
     ensures watches { (homes : ℕ → Which) (run : List Happening) (s : Which) (image : ℕ) (h : HeaderView) (who : Who)
         → IsRight homes run → (records_after s run).headers image ≡ Some h → h.owner ≡ Some who
         → (watches who ((records_after s run).watchers image) ≡ true) ⊎ (watch_expired who s image run ≡ true) }
-    ensures unwatches { (homes : ℕ → Which) (o : Operation) (reply : Option Told) (run : List Happening) (image : ℕ) (h : HeaderView)
-        → IsRight homes (Did o reply ∷ run) → o.op ≡ unwatch image → (records_after o.site run).headers image ≡ Some h → h.owner ≢ Some o.instance }
+    ensures unwatches { (homes : ℕ → Which) (o : Operation) (reply : Option Told) (run : List Happening) (image : ℕ)
+        (h : HeaderView)
+        → IsRight homes (Did o reply ∷ run) → o.op ≡ unwatch image → (records_after o.site run).headers image ≡ Some h
+        → h.owner ≢ Some o.instance }
 {}
 
 /// A watch lasts: among those who watch an image are just the instances that have watched it and
@@ -183,13 +197,17 @@ pub fn watches_last()
 /// so, unless it is fenced. So an instance that runs, and doesn't count a lock that it has, was
 /// fenced.
 pub fn owners_count_their_locks()
-    ensures counts { (w : WorldView Standing) (sound : IsSoundWorld as_is w) (session : ℕ) (c : ClientView Standing) (s : Which) (image : ℕ)
-        → client_in session w.lives ≡ Some c → (lock_state_at s image c.locks).owned ≡ owns_in c.session.instance s image sound.told.run }
+    ensures counts { (w : WorldView Standing) (sound : IsSoundWorld as_is w) (session : ℕ) (c : ClientView Standing)
+        (s : Which) (image : ℕ)
+        → client_in session w.lives ≡ Some c
+        → (lock_state_at s image c.locks).owned ≡ owns_in c.session.instance s image sound.told.run }
     ensures owner { (homes : ℕ → Which) (run : List Happening) (s : Which) (image : ℕ) (h : HeaderView) (who : Who)
         → IsRight homes run → (records_after s run).headers image ≡ Some h → h.owner ≡ Some who
         → is_fenced (records_after s run) who ≡ false → owns_in who s image run ≡ true }
-    ensures fenced { (w : WorldView Standing) (session : ℕ) (c : ClientView Standing) (s : Which) (image : ℕ) (h : HeaderView)
+    ensures fenced { (w : WorldView Standing) (session : ℕ) (c : ClientView Standing) (s : Which) (image : ℕ)
+        (h : HeaderView)
         → IsSoundWorld as_is w → client_in session w.lives ≡ Some c
-        → (records_in s w.sites).headers image ≡ Some h → h.owner ≡ Some c.session.instance → (lock_state_at s image c.locks).owned ≡ false
+        → (records_in s w.sites).headers image ≡ Some h → h.owner ≡ Some c.session.instance
+        → (lock_state_at s image c.locks).owned ≡ false
         → is_fenced (records_in s w.sites) c.session.instance ≡ true }
 {}

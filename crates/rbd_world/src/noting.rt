@@ -23,7 +23,8 @@ pub struct Book {
 pub fn reserve(book: &mut Book) -> Result<(), NoMemory>
     ensures history { book.new.history.items ≡ book.old.history.items }
     ensures calls { book.new.calls ≡ book.old.calls }
-    ensures ok { OnOk result ((vec_len book.new.history + 2 ≤ vec_capacity book.new.history) × (length book.new.calls + 1 < 2 ^ 59)) }
+    ensures ok { OnOk result ((vec_len book.new.history + 2 ≤ vec_capacity book.new.history)
+        × (length book.new.calls + 1 < 2 ^ 59)) }
 {
     book.history.reserve(2)?;
     book.calls.reserve()?;
@@ -42,7 +43,8 @@ pub fn keep_call(book: &mut Book, event: &Event, outcome: &Outcome)
 /// The same of a poll, for who has no event at hand.
 pub fn keep_poll(book: &mut Book, session: SessionNo, slot: Slot, outcome: &Outcome)
     requires { length book.old.calls + 1 < 2 ^ 59 }
-    ensures calls { book.new.calls ≡ book.old.calls ++ record { event = of_event.Poll session slot; outcome = outcome.now } ∷ [] }
+    ensures calls { book.new.calls ≡ book.old.calls
+        ++ record { event = of_event.Poll session slot; outcome = outcome.now } ∷ [] }
     ensures history { book.new.history ≡ book.old.history }
 {
     let event = Event::Poll { session, slot };
@@ -117,7 +119,8 @@ fn unfenced(cause: Cause, site: SiteId, number: u64, effect: Option<Shared<Effec
 /// Notes a stop, and each line that it lost. NoMemory where memory is refused; then nothing is
 /// noted.
 pub fn note_stop(history: &mut Vec<Entry>, who: &Instance, lost: &[u32]) -> Result<(), NoMemory>
-    ensures ok { OnOk result (history.new.items ≡ history.old.items ++ of_entry.Stop who.now.session ∷ map of_entry.Lost lost.now) }
+    ensures ok { OnOk result (history.new.items ≡ history.old.items
+        ++ of_entry.Stop who.now.session ∷ map of_entry.Lost lost.now) }
     ensures err { OnErr result (history.new.items ≡ history.old.items) }
 {
     history.reserve(1 + lost.len())?;

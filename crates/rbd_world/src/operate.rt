@@ -54,7 +54,9 @@ pub fn operate<R: Request>(
     requires wants { WantsWhatItMay R.stands sites.old acting.now.slot client.old }
     requires rest { DropsWhatItMay R.stands acting.now.slot client.old }
     requires actor { acting.now.actor ≡ actor_at R.stands acting.now.slot client.old }
-    ensures acts { IfOk result (ActsAt R.stands acting.now.slot (doer_of by) (op_wanted R.stands acting.now.slot client.old) sites.old sites.new client.old client.new history.old.items history.new.items) }
+    ensures acts { IfOk result (ActsAt R.stands acting.now.slot (doer_of by)
+        (op_wanted R.stands acting.now.slot client.old) sites.old sites.new client.old client.new history.old.items
+        history.new.items) }
     ensures err { OnErr result (AreSameSites sites.old sites.new) }
     ensures alike { OnErr result (IsClientAlike R.stands client.old client.new) }
     ensures unnoted { OnErr result (history.new.items ≡ history.old.items) }
@@ -101,7 +103,8 @@ pub fn send(
 ) -> Result<Outcome, NoMemory>
     requires room { vec_len history.old + 2 ≤ vec_capacity history.old }
     requires permitted { IsPermitted sites.old due.who due.site due.op }
-    ensures done { IfOk result (HasComeAt due.who (doer_of due.by) due.site due.op sites.old sites.new history.old.items history.new.items) }
+    ensures done { IfOk result (HasComeAt due.who
+        (doer_of due.by) due.site due.op sites.old sites.new history.old.items history.new.items) }
     ensures err { OnErr result (AreSameSites sites.old sites.new) }
     ensures unnoted { OnErr result (history.new.items ≡ history.old.items) }
 {

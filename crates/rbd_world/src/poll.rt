@@ -36,12 +36,17 @@ pub fn poll<R: Request>(
     slot: Slot,
 ) -> Result<Outcome, NoMemory>
     requires room { vec_len book.old.history + 2 ≤ vec_capacity book.old.history }
-    requires wants { (c : ClientView R) → client_in session lives.old.items ≡ Some c → WantsWhatItMay R.stands sites.old slot c }
+    requires wants { (c : ClientView R) → client_in session lives.old.items ≡ Some c
+        → WantsWhatItMay R.stands sites.old slot c }
     requires rest { (c : ClientView R) → client_in session lives.old.items ≡ Some c → DropsWhatItMay R.stands slot c }
-    ensures outcome { IfOk result (λ o. o ≡ outcome_of (polled R.stands sites.old slot (client_in session lives.old.items))) }
-    ensures history { OnOk result (book.new.history.items ≡ history_with book.old.history.items (polled R.stands sites.old slot (client_in session lives.old.items))) }
-    ensures sites { OnOk result (DoesAtSites (polled R.stands sites.old slot (client_in session lives.old.items)) sites.old sites.new) }
-    ensures lives { OnOk result (DoesToLives R.stands (of_event.Poll session slot) (polled R.stands sites.old slot (client_in session lives.old.items)) lives.old.items lives.new.items) }
+    ensures outcome { IfOk result (λ o. o
+        ≡ outcome_of (polled R.stands sites.old slot (client_in session lives.old.items))) }
+    ensures history { OnOk result (book.new.history.items ≡ history_with book.old.history.items
+        (polled R.stands sites.old slot (client_in session lives.old.items))) }
+    ensures sites { OnOk result (DoesAtSites
+        (polled R.stands sites.old slot (client_in session lives.old.items)) sites.old sites.new) }
+    ensures lives { OnOk result (DoesToLives R.stands (of_event.Poll session slot)
+        (polled R.stands sites.old slot (client_in session lives.old.items)) lives.old.items lives.new.items) }
     ensures err { OnErr result (AreSameSites sites.old sites.new) }
     ensures alike { OnErr result (LeavesLives R.stands lives.old.items lives.new.items) }
     ensures unnoted { OnErr result (book.new.history.items ≡ book.old.history.items) }
@@ -69,10 +74,15 @@ fn poll_slot<R: Request>(
     requires room { vec_len history.old + 2 ≤ vec_capacity history.old }
     requires wants { WantsWhatItMay R.stands sites.old slot client.old }
     requires rest { DropsWhatItMay R.stands slot client.old }
-    ensures outcome { IfOk result (λ o. o ≡ outcome_of (polled_in R.stands sites.old client.old slot (held_in slot client.old.session.slots))) }
-    ensures history { OnOk result (history.new.items ≡ history_with history.old.items (polled_in R.stands sites.old client.old slot (held_in slot client.old.session.slots))) }
-    ensures sites { OnOk result (DoesAtSites (polled_in R.stands sites.old client.old slot (held_in slot client.old.session.slots)) sites.old sites.new) }
-    ensures becomes { OnOk result ((session : ℕ) → Becomes R.stands (of_event.Poll session slot) (polled_in R.stands sites.old client.old slot (held_in slot client.old.session.slots)) client.old client.new) }
+    ensures outcome { IfOk result (λ o. o
+        ≡ outcome_of (polled_in R.stands sites.old client.old slot (held_in slot client.old.session.slots))) }
+    ensures history { OnOk result (history.new.items ≡ history_with history.old.items
+        (polled_in R.stands sites.old client.old slot (held_in slot client.old.session.slots))) }
+    ensures sites { OnOk result (DoesAtSites
+        (polled_in R.stands sites.old client.old slot (held_in slot client.old.session.slots)) sites.old sites.new) }
+    ensures becomes { OnOk result ((session : ℕ)
+        → Becomes R.stands (of_event.Poll session slot)
+        (polled_in R.stands sites.old client.old slot (held_in slot client.old.session.slots)) client.old client.new) }
     ensures sound { IsSoundClient R.stands client.new }
     ensures err { OnErr result (AreSameSites sites.old sites.new) }
     ensures alike { OnErr result (IsClientAlike R.stands client.old client.new) }

@@ -70,7 +70,8 @@ pub fn latest(log: &[Done]) -> Option<&Op>
 pub fn apply(sites: &mut Sites, due: Due, fed: &Fed) -> Result<(), NoMemory>
     requires may { MayDo (records_in due.site sites.old) due.who due.op }
     requires fed { fed.now ≡ of_fed.Answer (answer_to (records_in due.site sites.old) due.who due.op) }
-    ensures logged { OnOk result (IsLogged due.who due.op (site_in due.site sites.old) (site_in due.site sites.new) sites.old.mail sites.new.mail) }
+    ensures logged { OnOk result (IsLogged due.who due.op (site_in due.site sites.old)
+        (site_in due.site sites.new) sites.old.mail sites.new.mail) }
     ensures elsewhere { IsSameElsewhere due.site sites.old sites.new }
     ensures err { OnErr result (AreSameSites sites.old sites.new) }
 {

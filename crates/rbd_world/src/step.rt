@@ -37,12 +37,16 @@ pub fn step_parts(
 ) -> Result<Outcome, NoMemory>
     requires built { IsBuiltEvent event.now }
     requires sound { (session : ℕ) → IsSoundIf stands_of (client_in session lives.old.items) }
-    requires wants { (session slot : ℕ) (c : ClientView Of) → client_in session lives.old.items ≡ Some c → WantsWhatItMay stands_of sites.old slot c }
-    requires rest { (session slot : ℕ) (c : ClientView Of) → client_in session lives.old.items ≡ Some c → DropsWhatItMay stands_of slot c }
+    requires wants { (session slot : ℕ) (c : ClientView Of) → client_in session lives.old.items ≡ Some c
+        → WantsWhatItMay stands_of sites.old slot c }
+    requires rest { (session slot : ℕ) (c : ClientView Of) → client_in session lives.old.items ≡ Some c
+        → DropsWhatItMay stands_of slot c }
     requires late { (session slot : ℕ) → MayCome sites.old (late_at session slot lives.old.items) }
     ensures steps { let h = happens stands_of event.now (λ line. has_line line begun.old) sites.old lives.old.items in
-        IfOk result (StepsParts stands_of event.now h sites.old sites.new lives.old.items lives.new.items begun.old begun.new book.old.history.items book.new.history.items book.old.calls book.new.calls) }
-    ensures err { OnErr result (LeavesParts stands_of sites.old sites.new lives.old.items lives.new.items begun.old begun.new) }
+        IfOk result (StepsParts stands_of event.now h sites.old sites.new lives.old.items lives.new.items begun.old
+        begun.new book.old.history.items book.new.history.items book.old.calls book.new.calls) }
+    ensures err { OnErr result (LeavesParts stands_of sites.old sites.new lives.old.items lives.new.items begun.old
+        begun.new) }
     ensures history { OnErr result (book.new.history.items ≡ book.old.history.items) }
     ensures calls { OnErr result (book.new.calls ≡ book.old.calls) }
 {
@@ -64,12 +68,16 @@ fn happen(
     requires room { vec_len book.old.history + 2 ≤ vec_capacity book.old.history }
     requires built { IsBuiltEvent event.now }
     requires sound { (session : ℕ) → IsSoundIf stands_of (client_in session lives.old.items) }
-    requires wants { (session slot : ℕ) (c : ClientView Of) → client_in session lives.old.items ≡ Some c → WantsWhatItMay stands_of sites.old slot c }
-    requires rest { (session slot : ℕ) (c : ClientView Of) → client_in session lives.old.items ≡ Some c → DropsWhatItMay stands_of slot c }
+    requires wants { (session slot : ℕ) (c : ClientView Of) → client_in session lives.old.items ≡ Some c
+        → WantsWhatItMay stands_of sites.old slot c }
+    requires rest { (session slot : ℕ) (c : ClientView Of) → client_in session lives.old.items ≡ Some c
+        → DropsWhatItMay stands_of slot c }
     requires late { (session slot : ℕ) → MayCome sites.old (late_at session slot lives.old.items) }
     ensures did { let h = happens stands_of event.now (λ line. has_line line begun.old) sites.old lives.old.items in
-        IfOk result (IsNotedStep stands_of event.now h sites.old sites.new lives.old.items lives.new.items begun.old begun.new book.old.history.items book.new.history.items) }
-    ensures err { OnErr result (LeavesParts stands_of sites.old sites.new lives.old.items lives.new.items begun.old begun.new) }
+        IfOk result (IsNotedStep stands_of event.now h sites.old sites.new lives.old.items lives.new.items begun.old
+        begun.new book.old.history.items book.new.history.items) }
+    ensures err { OnErr result (LeavesParts stands_of sites.old sites.new lives.old.items lives.new.items begun.old
+        begun.new) }
     ensures unnoted { OnErr result (book.new.history.items ≡ book.old.history.items) }
     ensures calls { book.new.calls ≡ book.old.calls }
 {

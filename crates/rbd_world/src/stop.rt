@@ -26,8 +26,10 @@ pub fn stop<R: Request>(
     session: SessionNo,
 ) -> Result<Outcome, NoMemory>
     ensures outcome { IfOk result (λ o. o ≡ outcome_of (stopped R.stands (client_in session lives.old.items))) }
-    ensures history { OnOk result (history.new.items ≡ history_with history.old.items (stopped R.stands (client_in session lives.old.items))) }
-    ensures lives { OnOk result (DoesToLives R.stands (of_event.Stop session) (stopped R.stands (client_in session lives.old.items)) lives.old.items lives.new.items) }
+    ensures history { OnOk result (history.new.items ≡ history_with history.old.items
+        (stopped R.stands (client_in session lives.old.items))) }
+    ensures lives { OnOk result (DoesToLives R.stands (of_event.Stop session)
+        (stopped R.stands (client_in session lives.old.items)) lives.old.items lives.new.items) }
     ensures err { OnErr result (lives.new.items ≡ lives.old.items) }
     ensures unnoted { OnErr result (history.new.items ≡ history.old.items) }
 {
@@ -44,8 +46,10 @@ fn stop_life<R: Request>(
     history: &mut Vec<Entry>,
 ) -> Result<Outcome, NoMemory>
     ensures outcome { IfOk result (λ o. o ≡ outcome_of (stopped R.stands life.old.running)) }
-    ensures history { OnOk result (history.new.items ≡ history_with history.old.items (stopped R.stands life.old.running)) }
-    ensures life { OnOk result ((session : ℕ) → LivesOn R.stands (of_event.Stop session) (stopped R.stands life.old.running) life.old life.new) }
+    ensures history { OnOk result (history.new.items ≡ history_with history.old.items
+        (stopped R.stands life.old.running)) }
+    ensures life { OnOk result ((session : ℕ)
+        → LivesOn R.stands (of_event.Stop session) (stopped R.stands life.old.running) life.old life.new) }
     ensures sound { OnOk result (IsSoundIf R.stands life.new.running) }
     ensures err { OnErr result (life.new ≡ life.old) }
     ensures unnoted { OnErr result (history.new.items ≡ history.old.items) }
@@ -66,8 +70,10 @@ fn leave<R: Request>(
     client: &Client<R>,
     history: &mut Vec<Entry>,
 ) -> Result<Late, NoMemory>
-    ensures left { IfOk result (λ l. l ≡ record { instance = client.now.session.instance; wanted = wanted_in_slots R.stands client.now }) }
-    ensures history { OnOk result (history.new.items ≡ history_with history.old.items (stopped R.stands (Some client.now))) }
+    ensures left { IfOk result (λ l. l
+        ≡ record { instance = client.now.session.instance; wanted = wanted_in_slots R.stands client.now }) }
+    ensures history { OnOk result (history.new.items ≡ history_with history.old.items
+        (stopped R.stands (Some client.now))) }
     ensures unnoted { OnErr result (history.new.items ≡ history.old.items) }
 {
     let lost = lost_by(alloc, client)?;
@@ -133,7 +139,8 @@ pub fn restart<R: Request>(
 ) -> Result<Outcome, NoMemory>
     requires { IsSoundIf R.stands (client_in session lives.old.items) }
     ensures outcome { IfOk result (λ o. o ≡ outcome_of (restarted (lives_in session lives.old.items))) }
-    ensures lives { OnOk result (DoesToLives R.stands (of_event.Restart session) (restarted (lives_in session lives.old.items)) lives.old.items lives.new.items) }
+    ensures lives { OnOk result (DoesToLives R.stands (of_event.Restart session)
+        (restarted (lives_in session lives.old.items)) lives.old.items lives.new.items) }
     ensures err { OnErr result (lives.new.items ≡ lives.old.items) }
 {
     match lives.get_mut(session.0 as usize) {
@@ -146,7 +153,9 @@ pub fn restart<R: Request>(
 fn restart_life<R: Request>(alloc: Global, life: &mut Lives<R>) -> Result<Outcome, NoMemory>
     requires { IsSoundIf R.stands life.old.running }
     ensures outcome { IfOk result (λ o. o ≡ outcome_of (restarted_of life.old.latest life.old.running)) }
-    ensures life { OnOk result ((session : ℕ) → LivesOn R.stands (of_event.Restart session) (restarted_of life.old.latest life.old.running) life.old life.new) }
+    ensures life { OnOk result ((session : ℕ)
+        → LivesOn R.stands (of_event.Restart session)
+        (restarted_of life.old.latest life.old.running) life.old life.new) }
     ensures sound { OnOk result (IsSoundIf R.stands life.new.running) }
     ensures err { OnErr result (life.new ≡ life.old) }
 {

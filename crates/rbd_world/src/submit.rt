@@ -41,11 +41,18 @@ pub fn submit(
 ) -> Result<Outcome, NoMemory>
     requires built { is_built command.now ≡ true }
     requires room { vec_len history.old + 2 ≤ vec_capacity history.old }
-    ensures outcome { IfOk result (λ o. o ≡ outcome_of (submitted (has_line at.now.line begun.old) at.now.line command.now (client_in at.now.session lives.old.items))) }
-    ensures history { OnOk result (history.new.items ≡ history_with history.old.items (submitted (has_line at.now.line begun.old) at.now.line command.now (client_in at.now.session lives.old.items))) }
-    ensures lives { let h = submitted (has_line at.now.line begun.old) at.now.line command.now (client_in at.now.session lives.old.items) in
-        OnOk result (DoesToLives stands_of (of_event.Submit at.now.session at.now.line command.now) h lives.old.items lives.new.items) }
-    ensures begun { let h = submitted (has_line at.now.line begun.old) at.now.line command.now (client_in at.now.session lives.old.items) in
+    ensures outcome { IfOk result (λ o. o
+        ≡ outcome_of (submitted (has_line at.now.line begun.old) at.now.line command.now
+        (client_in at.now.session lives.old.items))) }
+    ensures history { OnOk result (history.new.items ≡ history_with history.old.items
+        (submitted (has_line at.now.line begun.old) at.now.line command.now
+        (client_in at.now.session lives.old.items))) }
+    ensures lives { let h = submitted (has_line at.now.line begun.old) at.now.line command.now
+        (client_in at.now.session lives.old.items) in
+        OnOk result (DoesToLives stands_of
+        (of_event.Submit at.now.session at.now.line command.now) h lives.old.items lives.new.items) }
+    ensures begun { let h = submitted (has_line at.now.line begun.old) at.now.line command.now
+        (client_in at.now.session lives.old.items) in
         OnOk result ((l : ℕ) → has_line l begun.new ≡ begun_behind (λ l. has_line l begun.old) h l) }
     ensures err { OnErr result (lives.new.items ≡ lives.old.items) }
     ensures same { OnErr result ((l : ℕ) → has_line l begun.new ≡ has_line l begun.old) }
@@ -71,9 +78,13 @@ fn submit_to(
 ) -> Result<Outcome, NoMemory>
     requires built { is_built command.now ≡ true }
     requires room { vec_len history.old + 2 ≤ vec_capacity history.old }
-    ensures outcome { IfOk result (λ o. o ≡ outcome_of (submitted is_begun at.now.line command.now (client_in at.now.session lives.old.items))) }
-    ensures history { OnOk result (history.new.items ≡ history_with history.old.items (submitted is_begun at.now.line command.now (client_in at.now.session lives.old.items))) }
-    ensures lives { OnOk result (DoesToLives stands_of (of_event.Submit at.now.session at.now.line command.now) (submitted is_begun at.now.line command.now (client_in at.now.session lives.old.items)) lives.old.items lives.new.items) }
+    ensures outcome { IfOk result (λ o. o
+        ≡ outcome_of (submitted is_begun at.now.line command.now (client_in at.now.session lives.old.items))) }
+    ensures history { OnOk result (history.new.items ≡ history_with history.old.items
+        (submitted is_begun at.now.line command.now (client_in at.now.session lives.old.items))) }
+    ensures lives { OnOk result (DoesToLives stands_of (of_event.Submit at.now.session at.now.line command.now)
+        (submitted is_begun at.now.line command.now (client_in at.now.session lives.old.items)) lives.old.items
+        lives.new.items) }
     ensures err { OnErr result (lives.new.items ≡ lives.old.items) }
     ensures unnoted { OnErr result (history.new.items ≡ history.old.items) }
 {
@@ -99,8 +110,10 @@ fn begin(
     requires built { is_built command.now ≡ true }
     requires room { vec_len history.old + 2 ≤ vec_capacity history.old }
     ensures outcome { IfOk result (λ o. o ≡ outcome_of (submitted is_begun line command.now (Some client.old))) }
-    ensures history { OnOk result (history.new.items ≡ history_with history.old.items (submitted is_begun line command.now (Some client.old))) }
-    ensures becomes { OnOk result ((session : ℕ) → Becomes stands_of (of_event.Submit session line command.now) (submitted is_begun line command.now (Some client.old)) client.old client.new) }
+    ensures history { OnOk result (history.new.items ≡ history_with history.old.items
+        (submitted is_begun line command.now (Some client.old))) }
+    ensures becomes { OnOk result ((session : ℕ) → Becomes stands_of (of_event.Submit session line command.now)
+        (submitted is_begun line command.now (Some client.old)) client.old client.new) }
     ensures sound { IsSoundClient stands_of client.new }
     ensures err { OnErr result (client.new ≡ client.old) }
     ensures unnoted { OnErr result (history.new.items ≡ history.old.items) }

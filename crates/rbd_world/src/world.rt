@@ -64,9 +64,20 @@ impl Model for World {
     ghost use Rattle.rbd_world.specs.Seen.{seen_by};
     ghost use Rattle.rbd_world.specs.Sound.{IsKeptWorld};
 
-    ghost view = { λ w. record { sites = w.sites; lives = w.lives.items; history = w.book.history.items; calls = w.book.calls } };
+    ghost view = { λ w. record {
+      sites = w.sites;
+      lives = w.lives.items;
+      history = w.book.history.items;
+      calls = w.book.calls;
+    } };
 
-    ghost invariant = { λ w. IsKeptWorld as_is w.begun (seen_by stands_of (record { sites = w.sites; lives = w.lives.items; history = w.book.history.items; calls = w.book.calls })) };
+    ghost invariant = { λ w. IsKeptWorld as_is w.begun
+        (seen_by stands_of (record {
+          sites = w.sites;
+          lives = w.lives.items;
+          history = w.book.history.items;
+          calls = w.book.calls;
+        })) };
 }
 
 impl World {
@@ -138,7 +149,8 @@ impl World {
         session: SessionNo,
         slot: Slot,
     ) -> Result<Outcome, NoMemory>
-        ensures step { IfOk result (λ outcome. IsWorldStep as_is (of_event.Poll session slot) (seen self.old) outcome (seen self.new)) }
+        ensures step { IfOk result (λ outcome. IsWorldStep as_is (of_event.Poll session slot) (seen self.old) outcome
+            (seen self.new)) }
         ensures err { OnErr result (IsUndone as_is (seen self.old) (seen self.new)) }
         ensures sound { IsSoundWorld as_is (seen self.new) }
     {
@@ -218,7 +230,8 @@ impl World {
     /// The life of a session that runs: `None` exactly where the session isn't there or doesn't
     /// run. It takes no memory.
     pub fn running(&self, session: SessionNo) -> Option<Instance>
-        ensures running { result ≡ option_map (λ (c : ClientView Standing). c.session.instance) (client_in session (seen self.now).lives) }
+        ensures running { result ≡ option_map (λ (c : ClientView Standing). c.session.instance)
+            (client_in session (seen self.now).lives) }
     {
         Some(client_of(self.lives.as_slice(), session)?.instance())
     }
