@@ -82,25 +82,30 @@ impl Runner {
         ensures goes { OnOk result (RunnerGoesOn self.old self.new) }
     {
         self.deliver_due(alloc, session)?;
-        self.polls(alloc, session, went_on)
+        self.poll_slots(alloc, session, went_on)
     }
 
     /// The polls of a session's turn: slot 0, and then each slot that is held at this point.
-    fn polls(&mut self, alloc: Global, session: SessionNo, went_on: bool) -> Result<bool, NoMemory>
+    fn poll_slots(
+        &mut self,
+        alloc: Global,
+        session: SessionNo,
+        went_on: bool,
+    ) -> Result<bool, NoMemory>
         requires { KeepsUp self.old }
         ensures polls { IfOk result (λ went_on'. PollsAll as_is (given_to self.old) session
             (record { world = seen self.old.world; went_on = went_on })
             (record { world = seen self.new.world; went_on = went_on' })) }
         ensures goes { OnOk result (RunnerGoesOn self.old self.new) }
     {
-        let outcome = self.poll(alloc, session, Slot(0))?;
+        let outcome = self.poll_and_start(alloc, session, Slot(0))?;
         let mut went_on = went_on_by(went_on, outcome);
         let held = self.held(session);
         for k in 0..self.highest() as usize {
             if !held[k] {
                 continue;
             }
-            let outcome = self.poll(alloc, session, Slot(k as u8 + 1))?;
+            let outcome = self.poll_and_start(alloc, session, Slot(k as u8 + 1))?;
             went_on = went_on_by(went_on, outcome);
         }
         Ok(went_on)

@@ -161,7 +161,7 @@ impl Runner {
     }
 
     /// A poll, and then all that may start.
-    pub fn poll(
+    pub fn poll_and_start(
         &mut self,
         alloc: Global,
         session: SessionNo,

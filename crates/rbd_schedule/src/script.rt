@@ -158,7 +158,7 @@ impl Runner {
         ensures goes { OnOk result (RunnerGoesOn self.old self.new) }
     {
         for _ in 0..times {
-            self.poll(alloc, session, slot)?;
+            self.poll_and_start(alloc, session, slot)?;
         }
         Ok(())
     }
@@ -180,7 +180,7 @@ impl Runner {
             if self.wants(session, slot, kind) {
                 return Ok(());
             }
-            self.poll(alloc, session, slot)?;
+            self.poll_and_start(alloc, session, slot)?;
         }
         Ok(())
     }

@@ -27,7 +27,7 @@ use std::alloc::Global;
 /// The client of a session that runs is polled at a slot: nothing where none does. The history has
 /// room for what comes of it. NoMemory where memory is refused; then nothing was done, and the
 /// client is where it was.
-pub fn poll<R: Request>(
+pub fn poll_session<R: Request>(
     alloc: Global,
     sites: &mut Sites,
     lives: &mut Vec<Lives<R>>,

@@ -15,7 +15,7 @@ use crate::event::{Event, Outcome};
 use crate::late::come;
 use crate::lives::Lives;
 use crate::noting::{Book, keep_call, reserve};
-use crate::poll::poll;
+use crate::poll::poll_session;
 use crate::sites::Sites;
 use crate::stop::{restart, stop};
 use crate::submit::{SessionLine, submit};
@@ -93,7 +93,7 @@ fn happen(
             };
             submit(alloc, lives, begun, &mut book.history, &at, command)
         }
-        Event::Poll { session, slot } => poll(alloc, sites, lives, book, *session, *slot),
+        Event::Poll { session, slot } => poll_session(alloc, sites, lives, book, *session, *slot),
         Event::Deliver { number } => deliver(&sites.mail, lives, *number),
         Event::Expire {
             session,

@@ -15,7 +15,7 @@ use crate::calls::Calls;
 use crate::event::{Event, Outcome};
 use crate::lives::Lives;
 use crate::noting::{Book, keep_poll, reserve};
-use crate::poll::poll;
+use crate::poll::poll_session;
 use crate::sites::Sites;
 use crate::step::step_parts;
 use rbd_catalog::SessionRequest;
@@ -155,7 +155,7 @@ impl World {
         ensures sound { IsSoundWorld as_is (seen self.new) }
     {
         reserve(&mut self.book)?;
-        let outcome = poll(
+        let outcome = poll_session(
             alloc,
             &mut self.sites,
             &mut self.lives,

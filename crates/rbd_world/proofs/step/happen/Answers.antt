@@ -9,8 +9,8 @@ use Rattle.rbd_world.proofs.OneLife.{always_err}
 use Rattle.rbd_world.proofs.Parts.{coming_noted, delivery_noted, expiry_noted, leaves_same, leaves_sites, poll_leaves, poll_noted, restart_noted, stop_noted, submission_noted, trim_noted}
 use Rattle.rbd_world.proofs.step.happen.Goals as goal
 
-pub poll-requires : goal.poll-requires
-poll-requires c = record { room = c.requires.room; wants = c.requires.wants c.in-Poll.session c.in-Poll.slot; rest = c.requires.rest c.in-Poll.session c.in-Poll.slot }
+pub poll_session-requires : goal.poll_session-requires
+poll_session-requires c = record { room = c.requires.room; wants = c.requires.wants c.in-Poll.session c.in-Poll.slot; rest = c.requires.rest c.in-Poll.session c.in-Poll.slot }
 
 pub deliver-requires : goal.deliver-requires
 deliver-requires c = c.requires.sound
@@ -34,13 +34,13 @@ returns-in-Submit-clause-err c =
 
 pub returns-in-Poll-clause-did : goal.returns-in-Poll-clause-did
 returns-in-Poll-clause-did c =
-    subst (λ (e : Event). IfOk c.poll.result (IsNotedStep stands_of e (happens stands_of e (λ l. has_line l c.args.begun.now) c.args.sites.now c.args.lives.now.items)
-    c.args.sites.now c.poll.new.sites c.args.lives.now.items c.poll.new.lives.items c.args.begun.now c.args.begun.now c.args.book.now.history.items c.poll.new.book.history.items)) (sym c.in-Poll.is)
-    (poll_noted stands_of c.poll.result c.args.sites.now c.args.lives.now.items c.args.begun.now c.args.book.now.history.items c.in-Poll.session c.in-Poll.slot c.poll.new.sites c.poll.new.lives.items c.poll.new.book.history.items c.poll.ensures.outcome c.poll.ensures.history c.poll.ensures.sites c.poll.ensures.lives)
+    subst (λ (e : Event). IfOk c.poll_session.result (IsNotedStep stands_of e (happens stands_of e (λ l. has_line l c.args.begun.now) c.args.sites.now c.args.lives.now.items)
+    c.args.sites.now c.poll_session.new.sites c.args.lives.now.items c.poll_session.new.lives.items c.args.begun.now c.args.begun.now c.args.book.now.history.items c.poll_session.new.book.history.items)) (sym c.in-Poll.is)
+    (poll_noted stands_of c.poll_session.result c.args.sites.now c.args.lives.now.items c.args.begun.now c.args.book.now.history.items c.in-Poll.session c.in-Poll.slot c.poll_session.new.sites c.poll_session.new.lives.items c.poll_session.new.book.history.items c.poll_session.ensures.outcome c.poll_session.ensures.history c.poll_session.ensures.sites c.poll_session.ensures.lives)
 
 pub returns-in-Poll-clause-err : goal.returns-in-Poll-clause-err
 returns-in-Poll-clause-err c =
-    poll_leaves stands_of c.poll.result c.args.sites.now c.poll.new.sites c.args.lives.now.items c.poll.new.lives.items c.args.begun.now c.poll.ensures.err c.poll.ensures.alike
+    poll_leaves stands_of c.poll_session.result c.args.sites.now c.poll_session.new.sites c.args.lives.now.items c.poll_session.new.lives.items c.args.begun.now c.poll_session.ensures.err c.poll_session.ensures.alike
 
 pub returns-in-Deliver-clause-did : goal.returns-in-Deliver-clause-did
 returns-in-Deliver-clause-did c =

@@ -14,18 +14,18 @@ loop-init c = record {
   polls = none_done (λ k. PollsBefore as_is (given_to c.args.self.now) c.args.session c.args.slot c.args.kind) (seen c.args.self.now.world);
 }
 
-pub poll-requires : goal.poll-requires
-poll-requires c = c.loop.invariant.goes.keeps c.requires
+pub poll_and_start-requires : goal.poll_and_start-requires
+poll_and_start-requires c = c.loop.invariant.goes.keeps c.requires
 
 pub loop-preserved : goal.loop-preserved
 loop-preserved c = record {
-  goes = goes_then c.args.self.now c.loop.self c.poll.new.self c.loop.invariant.goes c.in_ok-poll.ensures.goes;
+  goes = goes_then c.args.self.now c.loop.self c.poll_and_start.new.self c.loop.invariant.goes c.in_ok-poll_and_start.ensures.goes;
   polls = one_more (λ k. PollsBefore as_is (given_to c.args.self.now) c.args.session c.args.slot c.args.kind) c.loop.counter (seen c.args.self.now.world) (seen c.loop.self.world)
-      (seen c.poll.new.self.world) c.loop.invariant.polls
-      (subst (λ given. PollsBefore as_is given c.args.session c.args.slot c.args.kind (seen c.loop.self.world) (seen c.poll.new.self.world)) c.loop.invariant.goes.given
+      (seen c.poll_and_start.new.self.world) c.loop.invariant.polls
+      (subst (λ given. PollsBefore as_is given c.args.session c.args.slot c.args.kind (seen c.loop.self.world) (seen c.poll_and_start.new.self.world)) c.loop.invariant.goes.given
       (record {
         not_yet = λ wants. false≢true (sym c.if-wants.false ∙ c.wants.ensures.1 wants);
-        polls = record { result = c.in_ok-poll.field-0; comes = c.in_ok-poll.ensures.comes };
+        polls = record { result = c.in_ok-poll_and_start.field-0; comes = c.in_ok-poll_and_start.ensures.comes };
       }));
 }
 

@@ -4,7 +4,7 @@ use Rattle.rbd_world.specs.Seen.{seen}
 use Rattle.rbd_schedule.specs.Deeds.{Deeds}
 use Rattle.rbd_schedule.specs.Playing.{RunnerGoesOn, given_to}
 use Rattle.rbd_schedule.specs.Schedule.{PollsWhere, is_held}
-use Rattle.rbd_schedule.proofs.runner.Runner.polls.Given as goal
+use Rattle.rbd_schedule.proofs.runner.Runner.poll_slots.Given as goal
 
 -- the slots so far were polled where they were held at first
 abbrev pub invariant-loop-k : goal.invariant-loop-k

@@ -8,7 +8,7 @@ use Rattle.rbd_world.specs.declared.event.Event.TheVariants as of_event
 use Rattle.rbd_world.proofs.BothSites.{left_sites, nothing_done}
 use Rattle.rbd_world.proofs.OneLife.{does_to_none, does_to_one, leaves_one, leaves_stopped, lent, none_there}
 use Rattle.rbd_world.proofs.Ongoing.{poll_lives_on}
-use Rattle.rbd_world.proofs.poll.poll.Goals as goal
+use Rattle.rbd_world.proofs.poll.poll_session.Goals as goal
 
 -- ---- no such session
 

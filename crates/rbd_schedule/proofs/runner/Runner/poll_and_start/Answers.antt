@@ -7,7 +7,7 @@ use Rattle.rbd_world.specs.Step.{IsWorldStep}
 use Rattle.rbd_schedule.specs.Playing.{given_to}
 use Rattle.rbd_schedule.specs.declared.runner.Runner.{Runner}
 use Rattle.rbd_schedule.proofs.Goes.{comes_then, goes_by_note, goes_then}
-use Rattle.rbd_schedule.proofs.runner.Runner.poll.Goals as goal
+use Rattle.rbd_schedule.proofs.runner.Runner.poll_and_start.Goals as goal
 
 pub start_all-requires : goal.start_all-requires
 start_all-requires c =
