@@ -1,3 +1,3 @@
 pub mod Extent
-pub mod Part
+pub mod OwnStep
 pub mod Request

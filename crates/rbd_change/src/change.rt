@@ -8,7 +8,7 @@ ghost use Rattle.rbd_kinds.specs.Form.{IsHeaderInForm};
 ghost use Rattle.rbd_machine.specs.Plan.{Plan, Note};
 ghost use Rattle.rbd_machine.specs.Steps.{applied, change_plan};
 
-use crate::part::ChangePart;
+use crate::steps::ChangeSteps;
 use rbd_kinds::{Command, HeaderView, ImageId, Name, NoMemory, Sharing, SiteId};
 use rbd_machine::Refuses;
 use std::alloc::Global;
@@ -17,7 +17,7 @@ use std::alloc::Global;
 /// the event that it notes, and the part that it does behind that event.
 pub trait Change: Refuses + Drop {
     /// What is done behind the event.
-    type Part: ChangePart;
+    type Steps: ChangeSteps;
 
     /// The commands that ask for it.
     ghost serves: { Command → Bool };
@@ -46,9 +46,9 @@ pub trait Change: Refuses + Drop {
         site: SiteId,
         image: ImageId,
         header: &HeaderView,
-    ) -> Result<Self::Part, NoMemory>
+    ) -> Result<Self::Steps, NoMemory>
         requires form { IsHeaderInForm header.now }
         requires may { Self.refuses self.now header.now ≡ None }
-        ensures { IfOk result (λ part. Note site image (noted self.now) (Self.Part.rest part (applied site image))
+        ensures { IfOk result (λ part. Note site image (noted self.now) (Self.Steps.rest part (applied site image))
             ≡ does self.now site image header.now) };
 }

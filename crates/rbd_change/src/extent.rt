@@ -8,7 +8,7 @@ ghost use Rattle.rbd_machine.specs.Plan.{Plan, Note};
 ghost use Rattle.rbd_machine.specs.Steps.{applied};
 ghost use Rattle.rbd_change.specs.Extent.{in_turn};
 
-use crate::piece::ChangePiece;
+use crate::at_object::ObjectChange;
 use rbd_kinds::{HeaderView, ImageId, NoMemory, SiteId};
 use rbd_machine::Refuses;
 use std::alloc::Global;
@@ -18,7 +18,7 @@ use std::collections::VecDeque;
 /// looks ([`Refuses`]), the event that it notes, and the pieces that it does behind that event.
 pub trait ExtentChange: Refuses + Drop {
     /// What is done to one object.
-    type Piece: ChangePiece;
+    type AtObject: ObjectChange;
 
     /// Its event.
     ghost noted: { Self → JournalEvent };
@@ -34,10 +34,10 @@ pub trait ExtentChange: Refuses + Drop {
         site: SiteId,
         image: ImageId,
         header: &HeaderView,
-    ) -> Result<VecDeque<Self::Piece>, NoMemory>
+    ) -> Result<VecDeque<Self::AtObject>, NoMemory>
         requires form { IsHeaderInForm header.now }
         requires may { Self.refuses self.now header.now ≡ None }
         ensures { IfOk result (λ made. Note site image (noted self.now)
-            (in_turn Self.Piece.rest Self.Piece.number made.items (applied site image))
+            (in_turn Self.AtObject.rest Self.AtObject.number made.items (applied site image))
             ≡ does self.now site image header.now) };
 }

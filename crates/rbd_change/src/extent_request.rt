@@ -8,9 +8,9 @@ ghost use Rattle.rbd_machine.specs.Steps as steps;
 ghost use Rattle.rbd_machine.specs.Steps.{applied};
 ghost use Rattle.rbd_change.specs.Extent.{in_turn, rest_of_extent, under_lock_in, IsApproaching, IsReady};
 
+use crate::at_object::ObjectChange;
 use crate::extent::ExtentChange;
-use crate::part::ChangePart;
-use crate::piece::ChangePiece;
+use crate::steps::ChangeSteps;
 use rbd_kinds::{Answer, Fed, Flow, ImageId, Name, NoMemory, Op, Reply, Sharing, SiteId, Want};
 use rbd_machine::{Approach, Machine, Progress, Reason};
 use std::alloc::Global;
@@ -58,11 +58,11 @@ enum Stage<P> {
     Applying(ImageId),
 }
 
-impl<C: ExtentChange> ExtentRequest<C, C::Piece> {
+impl<C: ExtentChange> ExtentRequest<C, C::AtObject> {
     /// A change of the image of a name at a site, which goes beside the others that `sharing` names
     /// in the image's line. It takes no memory.
     pub fn new(alloc: Global, home: SiteId, image: Name, sharing: Sharing, change: C) -> Self
-        ensures { rest_of_extent C.refuses C.noted C.does C.Piece.rest C.Piece.number result
+        ensures { rest_of_extent C.refuses C.noted C.does C.AtObject.rest C.AtObject.number result
             ≡ steps.change_plan home image sharing (C.refuses change) (C.does change home) }
     {
         ExtentRequest {
@@ -86,12 +86,12 @@ impl<C: ExtentChange> ExtentRequest<C, C::Piece> {
     /// Takes the memory for its look under the lock: there its pieces are made.
     fn ready_pieces(&mut self, alloc: Global, answer: &Answer) -> Result<(), NoMemory>
         requires at { IsApproaching self.old.stage }
-        requires can { CanBeFed (rest_of_extent C.refuses C.noted C.does C.Piece.rest C.Piece.number self.old)
+        requires can { CanBeFed (rest_of_extent C.refuses C.noted C.does C.AtObject.rest C.AtObject.number self.old)
             (fed_with.Answer answer.now) }
-        ensures rest { rest_of_extent C.refuses C.noted C.does C.Piece.rest C.Piece.number self.new
-            ≡ rest_of_extent C.refuses C.noted C.does C.Piece.rest C.Piece.number self.old }
+        ensures rest { rest_of_extent C.refuses C.noted C.does C.AtObject.rest C.AtObject.number self.new
+            ≡ rest_of_extent C.refuses C.noted C.does C.AtObject.rest C.AtObject.number self.old }
         ensures ready { OnOk result
-            (IsReady C.refuses C.noted C.does C.Piece.rest C.Piece.number C.Piece.is_ready self.new answer.now) }
+            (IsReady C.refuses C.noted C.does C.AtObject.rest C.AtObject.number C.AtObject.is_ready self.new answer.now) }
     {
         let Some(image) = self.under_lock() else {
             return Ok(());
@@ -108,7 +108,7 @@ impl<C: ExtentChange> ExtentRequest<C, C::Piece> {
     }
 
     /// Puts pieces beside the stage. What stood there is let go by a call, and not in place.
-    fn keep(&mut self, pieces: VecDeque<C::Piece>)
+    fn keep(&mut self, pieces: VecDeque<C::AtObject>)
         ensures { self.new
             ≡ record { site = self.old.site; change = self.old.change; stage = self.old.stage; pieces = pieces } }
     {
@@ -116,7 +116,7 @@ impl<C: ExtentChange> ExtentRequest<C, C::Piece> {
     }
 
     /// Goes on to a stage, and lets the old one go.
-    fn go_to(&mut self, stage: Stage<C::Piece>)
+    fn go_to(&mut self, stage: Stage<C::AtObject>)
         ensures { self.new
             ≡ record { site = self.old.site; change = self.old.change; stage = stage; pieces = self.old.pieces } }
     {
@@ -126,13 +126,13 @@ impl<C: ExtentChange> ExtentRequest<C, C::Piece> {
     /// Goes on with its way to its look under the lock, and from there.
     fn approach(&mut self, fed: &Fed) -> Flow
         requires at { IsApproaching self.old.stage }
-        requires can { CanBeFed (rest_of_extent C.refuses C.noted C.does C.Piece.rest C.Piece.number self.old) fed.now }
+        requires can { CanBeFed (rest_of_extent C.refuses C.noted C.does C.AtObject.rest C.AtObject.number self.old) fed.now }
         requires ready { IsReadyFor
-            (IsReady C.refuses C.noted C.does C.Piece.rest C.Piece.number C.Piece.is_ready self.old) fed.now }
+            (IsReady C.refuses C.noted C.does C.AtObject.rest C.AtObject.number C.AtObject.is_ready self.old) fed.now }
         ensures { GoesOn Goto
-            (plan_after (rest_of_extent C.refuses C.noted C.does C.Piece.rest C.Piece.number self.old) fed.now)
+            (plan_after (rest_of_extent C.refuses C.noted C.does C.AtObject.rest C.AtObject.number self.old) fed.now)
             result
-            (without_labels (rest_of_extent C.refuses C.noted C.does C.Piece.rest C.Piece.number self.new)) }
+            (without_labels (rest_of_extent C.refuses C.noted C.does C.AtObject.rest C.AtObject.number self.new)) }
     {
         let Stage::Approaching(way) = &mut self.stage else {
             unreachable!()
@@ -150,9 +150,9 @@ impl<C: ExtentChange> ExtentRequest<C, C::Piece> {
     /// Goes on with the next piece, whose turn comes first, or behind the last.
     fn next_piece(&mut self, image: ImageId) -> Flow
         ensures { GoesOn Goto
-            (in_turn C.Piece.rest C.Piece.number self.old.pieces.items (applied self.old.site image))
+            (in_turn C.AtObject.rest C.AtObject.number self.old.pieces.items (applied self.old.site image))
             result
-            (without_labels (rest_of_extent C.refuses C.noted C.does C.Piece.rest C.Piece.number self.new)) }
+            (without_labels (rest_of_extent C.refuses C.noted C.does C.AtObject.rest C.AtObject.number self.new)) }
     {
         match self.pieces.pop_front() {
             Some(piece) => {
@@ -169,10 +169,10 @@ impl<C: ExtentChange> ExtentRequest<C, C::Piece> {
     }
 }
 
-impl<C: ExtentChange> Machine for ExtentRequest<C, C::Piece> {
-    ghost stands = { λ r. without_labels (rest_of_extent C.refuses C.noted C.does C.Piece.rest C.Piece.number r) };
+impl<C: ExtentChange> Machine for ExtentRequest<C, C::AtObject> {
+    ghost stands = { λ r. without_labels (rest_of_extent C.refuses C.noted C.does C.AtObject.rest C.AtObject.number r) };
 
-    ghost is_ready = { IsReady C.refuses C.noted C.does C.Piece.rest C.Piece.number C.Piece.is_ready };
+    ghost is_ready = { IsReady C.refuses C.noted C.does C.AtObject.rest C.AtObject.number C.AtObject.is_ready };
 
     fn wants(&self) -> Want {
         let site = self.site;

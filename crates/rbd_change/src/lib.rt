@@ -11,8 +11,8 @@
 //!
 //! | machine | its change | what that does behind its event |
 //! |---|---|---|
-//! | [`ChangeRequest`] | a [`Change`] | one [`ChangePart`] |
-//! | [`ExtentRequest`] | an [`ExtentChange`] | a [`ChangePiece`] of each object, which it names |
+//! | [`ChangeRequest`] | a [`Change`] | its [`ChangeSteps`], a part of the request |
+//! | [`ExtentRequest`] | an [`ExtentChange`] | a piece for each object, an [`ObjectChange`], which names it |
 //!
 //! # Rules
 //!
@@ -54,15 +54,15 @@
 //! | `serves`, `plan` | [`Change`] | the commands that ask for it, and the plan of each at a site |
 //! | `noted` | [`Change`], [`ExtentChange`] | its event |
 //! | `does` | [`Change`], [`ExtentChange`] | the plan from its event on, by the header |
-//! | `rest` | [`ChangePart`] | what is left of a part, with what comes next |
-//! | `tells`, `is_ready` | [`ChangePart`] | by which answers it goes on; for which it has memory |
-//! | law `asks` | [`ChangePart`] | it wants an operation, as a step of the request's own |
-//! | law `told` | [`ChangePart`] | each answer that its operation can be given is one of these |
-//! | `number` | [`ChangePiece`] | the number of its object |
+//! | `rest` | [`ChangeSteps`] | what is left of a part, with what comes next |
+//! | `tells`, `is_ready` | [`ChangeSteps`] | by which answers it goes on; for which it has memory |
+//! | law `asks` | [`ChangeSteps`] | it wants an operation, as a step of the request's own |
+//! | law `told` | [`ChangeSteps`] | each answer that its operation can be given is one of these |
+//! | `number` | [`ObjectChange`] | the number of its object |
 //!
 //! | file | what it says |
 //! |---|---|
-//! | `specs/Part.antt` | an operation that is a step of the request's own: the word of law `asks` |
+//! | `specs/OwnStep.antt` | an operation that is a step of the request's own: the word of law `asks` |
 //! | `specs/Request.antt` | what is left of a [`ChangeRequest`]; for which answers it has memory |
 //! | `specs/Extent.antt` | the same of an [`ExtentRequest`]; what is left of pieces (`in_turn`) |
 //!
@@ -83,16 +83,16 @@
 //! more at each step.
 #![tactic(auto)]
 
+mod at_object;
 mod change;
 mod extent;
 mod extent_request;
-mod part;
-mod piece;
 mod request;
+mod steps;
 
+pub use at_object::ObjectChange;
 pub use change::Change;
 pub use extent::ExtentChange;
 pub use extent_request::ExtentRequest;
-pub use part::ChangePart;
-pub use piece::ChangePiece;
 pub use request::ChangeRequest;
+pub use steps::ChangeSteps;

@@ -8,7 +8,7 @@ ghost use Rattle.rbd_machine.specs.Steps.{applied};
 ghost use Rattle.rbd_change.specs.Request.{rest_of_change, rest_of_some, under_lock_in, IsApproaching, IsReady};
 
 use crate::change::Change;
-use crate::part::ChangePart;
+use crate::steps::ChangeSteps;
 use rbd_kinds::{Answer, Command, Fed, Flow, ImageId, NoMemory, Op, Reply, Sharing, SiteId, Want};
 use rbd_machine::{Approach, Machine, Progress, Reason};
 use std::alloc::Global;
@@ -48,11 +48,11 @@ enum Stage<P> {
     Applying(ImageId),
 }
 
-impl<C: Change> ChangeRequest<C, C::Part> {
+impl<C: Change> ChangeRequest<C, C::Steps> {
     /// The request of a command at a session's home site. It takes no memory.
     pub fn new(home: SiteId, command: Command) -> Self
         requires { C.serves command ≡ true }
-        ensures { rest_of_change C.refuses C.noted C.does C.Part.rest result ≡ C.plan home command }
+        ensures { rest_of_change C.refuses C.noted C.does C.Steps.rest result ≡ C.plan home command }
     {
         let (image, change) = C::from_command(command);
         ChangeRequest {
@@ -76,11 +76,11 @@ impl<C: Change> ChangeRequest<C, C::Part> {
     /// Takes the memory for its look under the lock: there its part is made.
     fn ready_part(&mut self, alloc: Global, answer: &Answer) -> Result<(), NoMemory>
         requires at { IsApproaching self.old.stage }
-        requires can { CanBeFed (rest_of_change C.refuses C.noted C.does C.Part.rest self.old)
+        requires can { CanBeFed (rest_of_change C.refuses C.noted C.does C.Steps.rest self.old)
             (fed_with.Answer answer.now) }
-        ensures rest { rest_of_change C.refuses C.noted C.does C.Part.rest self.new
-            ≡ rest_of_change C.refuses C.noted C.does C.Part.rest self.old }
-        ensures ready { OnOk result (IsReady C.refuses C.noted C.does C.Part.rest C.Part.is_ready self.new answer.now) }
+        ensures rest { rest_of_change C.refuses C.noted C.does C.Steps.rest self.new
+            ≡ rest_of_change C.refuses C.noted C.does C.Steps.rest self.old }
+        ensures ready { OnOk result (IsReady C.refuses C.noted C.does C.Steps.rest C.Steps.is_ready self.new answer.now) }
     {
         let Some(image) = self.under_lock() else {
             return Ok(());
@@ -97,7 +97,7 @@ impl<C: Change> ChangeRequest<C, C::Part> {
     }
 
     /// Puts a part beside the stage. What stood there is let go by a call, and not in place.
-    fn keep(&mut self, part: C::Part)
+    fn keep(&mut self, part: C::Steps)
         ensures { self.new
             ≡ record { site = self.old.site; change = self.old.change; stage = self.old.stage; part = Some part } }
     {
@@ -105,7 +105,7 @@ impl<C: Change> ChangeRequest<C, C::Part> {
     }
 
     /// Goes on to a stage, and lets the old one go.
-    fn go_to(&mut self, stage: Stage<C::Part>)
+    fn go_to(&mut self, stage: Stage<C::Steps>)
         ensures { self.new
             ≡ record { site = self.old.site; change = self.old.change; stage = stage; part = self.old.part } }
     {
@@ -115,10 +115,10 @@ impl<C: Change> ChangeRequest<C, C::Part> {
     /// Goes on with its way to its look under the lock, and from there.
     fn approach(&mut self, fed: &Fed) -> Flow
         requires at { IsApproaching self.old.stage }
-        requires can { CanBeFed (rest_of_change C.refuses C.noted C.does C.Part.rest self.old) fed.now }
-        requires ready { IsReadyFor (IsReady C.refuses C.noted C.does C.Part.rest C.Part.is_ready self.old) fed.now }
-        ensures { GoesOn Goto (plan_after (rest_of_change C.refuses C.noted C.does C.Part.rest self.old) fed.now) result
-            (without_labels (rest_of_change C.refuses C.noted C.does C.Part.rest self.new)) }
+        requires can { CanBeFed (rest_of_change C.refuses C.noted C.does C.Steps.rest self.old) fed.now }
+        requires ready { IsReadyFor (IsReady C.refuses C.noted C.does C.Steps.rest C.Steps.is_ready self.old) fed.now }
+        ensures { GoesOn Goto (plan_after (rest_of_change C.refuses C.noted C.does C.Steps.rest self.old) fed.now) result
+            (without_labels (rest_of_change C.refuses C.noted C.does C.Steps.rest self.new)) }
     {
         let Stage::Approaching(way) = &mut self.stage else {
             unreachable!()
@@ -135,8 +135,8 @@ impl<C: Change> ChangeRequest<C, C::Part> {
 
     /// Goes on behind its event, with the part that its look under the lock made.
     fn begin_part(&mut self, image: ImageId) -> Flow
-        ensures { GoesOn Goto (rest_of_some C.Part.rest self.old.part (applied self.old.site image)) result
-            (without_labels (rest_of_change C.refuses C.noted C.does C.Part.rest self.new)) }
+        ensures { GoesOn Goto (rest_of_some C.Steps.rest self.old.part (applied self.old.site image)) result
+            (without_labels (rest_of_change C.refuses C.noted C.does C.Steps.rest self.new)) }
     {
         match self.part.take() {
             Some(part) => self.go_to(Stage::Acting(image, part)),
@@ -146,10 +146,10 @@ impl<C: Change> ChangeRequest<C, C::Part> {
     }
 }
 
-impl<C: Change> Machine for ChangeRequest<C, C::Part> {
-    ghost stands = { λ r. without_labels (rest_of_change C.refuses C.noted C.does C.Part.rest r) };
+impl<C: Change> Machine for ChangeRequest<C, C::Steps> {
+    ghost stands = { λ r. without_labels (rest_of_change C.refuses C.noted C.does C.Steps.rest r) };
 
-    ghost is_ready = { IsReady C.refuses C.noted C.does C.Part.rest C.Part.is_ready };
+    ghost is_ready = { IsReady C.refuses C.noted C.does C.Steps.rest C.Steps.is_ready };
 
     fn wants(&self) -> Want {
         let site = self.site;

@@ -14,7 +14,7 @@ ghost use Rattle.rbd_slots.specs.Session.{free_slot, held_in, op_at, refusal_in,
 
 use crate::actor::{Actor, for_release, for_request, release_kind, release_op, way_kind, way_op};
 use crate::counting::count;
-use crate::going::{go_on, let_go, settle};
+use crate::going::{end_on_way, go_on, let_go};
 use crate::slot_state::{SlotState, Way};
 use crate::slots::{blank_slots, is_any_taken, set_state, state_of};
 use rbd_commands::Quiescing;
@@ -401,7 +401,7 @@ impl<R: Request> Client<R> {
     {
         count(&mut self.locks, Quiescing::Leaves, None, site, op, fed);
         let (way, reply) = go_on(way, fed);
-        settle(&mut self.session, slot, reply.is_some());
+        end_on_way(&mut self.session, slot, reply.is_some());
         let state = state_of(self.slots.as_slice(), slot);
         let state = state.on_way(way, reply.is_some());
         set_state(&mut self.slots, slot, state);

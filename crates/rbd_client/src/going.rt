@@ -37,7 +37,7 @@ pub fn go_on(way: Acquire, fed: &Fed) -> (Way, Option<Reply>)
 }
 
 /// Gives a request up that has ended on its way.
-pub fn settle<R: Request>(session: &mut Session<R>, slot: Slot, has_ended: bool)
+pub fn end_on_way<R: Request>(session: &mut Session<R>, slot: Slot, has_ended: bool)
     requires { IsSoundSession R.stands session.old }
     ensures stays { IsFalse has_ended → session.new ≡ session.old }
     ensures left { IsTrue has_ended → IsGivenUp slot session.old session.new }

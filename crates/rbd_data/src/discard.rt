@@ -6,7 +6,7 @@ ghost use Rattle.rbd_data.specs.ZeroPieceLaws.{piece_asks, piece_tells};
 
 use crate::extent::range_refusal;
 use crate::zero_pieces::zero_pieces;
-use rbd_change::{ChangePart, ChangePiece, ExtentChange, ExtentRequest};
+use rbd_change::{ChangeSteps, ExtentChange, ExtentRequest, ObjectChange};
 use rbd_kinds::{
     Answer, Command, Extent, HeaderView, ImageAt, ImageId, NoMemory, Op, Refusal, Sharing, SiteId,
     Want,
@@ -69,7 +69,7 @@ pub fn discard_request(alloc: Global, home: SiteId, command: Command) -> Discard
 }
 
 impl ExtentChange for DiscardChange {
-    type Piece = DiscardTurn;
+    type AtObject = DiscardTurn;
 
     ghost noted = { event_of };
 
@@ -94,7 +94,7 @@ impl Refuses for DiscardChange {
     }
 }
 
-impl ChangePart for DiscardTurn {
+impl ChangeSteps for DiscardTurn {
     ghost rest = { rest_of_piece };
 
     ghost tells = { TellsPiece };
@@ -122,7 +122,7 @@ impl ChangePart for DiscardTurn {
     ghost told = { piece_tells };
 }
 
-impl ChangePiece for DiscardTurn {
+impl ObjectChange for DiscardTurn {
     ghost number = { turn_object };
 
     fn object(&self) -> u64 {

@@ -7,7 +7,7 @@ ghost use Rattle.rbd_data.specs.Write.{refuses_of, event_of, does, rest_of_piece
 
 use crate::extent::range_refusal;
 use crate::write_pieces::write_pieces;
-use rbd_change::{ChangePart, ChangePiece, ExtentChange, ExtentRequest};
+use rbd_change::{ChangeSteps, ExtentChange, ExtentRequest, ObjectChange};
 use rbd_kinds::{
     Answer, Bytes, Command, Extent, FillLength, HeaderView, ImageAt, ImageId, Name, NoMemory, Op,
     Refusal, Sharing, SiteId, Want,
@@ -103,7 +103,7 @@ impl WriteChange {
 }
 
 impl ExtentChange for WriteChange {
-    type Piece = WriteTurn;
+    type AtObject = WriteTurn;
 
     ghost noted = { event_of };
 
@@ -128,7 +128,7 @@ impl Refuses for WriteChange {
     }
 }
 
-impl ChangePart for WriteTurn {
+impl ChangeSteps for WriteTurn {
     ghost rest = { rest_of_piece };
 
     ghost tells = { TellsPiece };
@@ -156,7 +156,7 @@ impl ChangePart for WriteTurn {
     ghost told = { piece_tells };
 }
 
-impl ChangePiece for WriteTurn {
+impl ObjectChange for WriteTurn {
     ghost number = { turn_object };
 
     fn object(&self) -> u64 {

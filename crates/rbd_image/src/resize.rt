@@ -6,7 +6,7 @@ ghost use Rattle.rbd_image.specs.SizeLaws.{new_size_asks, new_size_tells};
 ghost use Rattle.rbd_image.specs.Resize.{is_resize, resize_plan, refuses_of, event_of, does, rest_of_new_size, TellsNewSize, IsNewSizeReady};
 
 use crate::few::has_few_objects;
-use rbd_change::{Change, ChangePart, ChangeRequest};
+use rbd_change::{Change, ChangeRequest, ChangeSteps};
 use rbd_kinds::{Answer, Command, HeaderView, ImageId, Name, NoMemory, Op, Refusal, SiteId, Want};
 use rbd_machine::{Progress, Refuses, non_primary};
 use rbd_pieces::Size;
@@ -43,7 +43,7 @@ pub struct NewSize {
 }
 
 impl Change for SizeChange {
-    type Part = NewSize;
+    type Steps = NewSize;
 
     ghost serves = { is_resize };
 
@@ -94,7 +94,7 @@ fn too_many(header: &HeaderView, to: u64) -> Option<Refusal>
     }
 }
 
-impl ChangePart for NewSize {
+impl ChangeSteps for NewSize {
     ghost rest = { rest_of_new_size };
 
     ghost tells = { TellsNewSize };

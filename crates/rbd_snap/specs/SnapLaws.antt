@@ -10,7 +10,7 @@ use Rattle.rbd_kinds.specs.declared.operation.Op.TheVariants as op
 use Rattle.rbd_machine.specs.Answers.{CanBeFed, CanGive}
 use Rattle.rbd_machine.specs.Plan.{Plan}
 use Rattle.rbd_machine.specs.Steps.{TellsDone}
-use Rattle.rbd_change.specs.Part.{AsksByItself}
+use Rattle.rbd_change.specs.OwnStep.{AsksByItself}
 use Rattle.rbd_snap.specs.Snap.{TellsGone, TellsSnap}
 use Rattle.rbd_snap.specs.SnapParts.{taking_from, TellsTaking, removing_from, TellsRemoving}
 use Rattle.rbd_snap.specs.Snapping.{rest_of_part, TellsPart}

@@ -12,7 +12,7 @@ ghost use Rattle.rbd_snap.specs.Rolling.{rest_of_rollback};
 ghost use Rattle.rbd_snap.specs.Rollback.{restore_all, roll_back};
 
 use crate::restore::Restore;
-use rbd_change::ChangePart;
+use rbd_change::ChangeSteps;
 use rbd_kinds::{
     Answer, HeaderView, ImageId, NoMemory, Op, ParentLink, SiteId, SnapView, TryClone, Want,
 };
@@ -89,7 +89,7 @@ impl Rollback {
     }
 }
 
-impl ChangePart for Rollback {
+impl ChangeSteps for Rollback {
     ghost rest = { rest_of_rollback };
 
     ghost tells = { rolling.Tells };

@@ -36,7 +36,7 @@ pub struct RollbackChange {
 }
 
 impl Change for RollbackChange {
-    type Part = Rollback;
+    type Steps = Rollback;
 
     ghost serves = { is_rollback };
 

@@ -9,7 +9,7 @@ ghost use Rattle.rbd_snap.specs.SnapLaws.{part_asks, part_tells};
 
 use crate::remove_snap::RemoveSnap;
 use crate::take_snap::TakeSnap;
-use rbd_change::{Change, ChangePart, ChangeRequest};
+use rbd_change::{Change, ChangeRequest, ChangeSteps};
 use rbd_header::is_full;
 use rbd_kinds::{
     Answer, Command, HeaderView, ImageId, Name, NoMemory, Op, Refusal, SiteId, SnapStatus,
@@ -59,7 +59,7 @@ pub enum SnapPart {
 }
 
 impl Change for SnapChange {
-    type Part = SnapPart;
+    type Steps = SnapPart;
 
     ghost serves = { is_snap };
 
@@ -164,7 +164,7 @@ fn protection(status: SnapStatus) -> Option<Refusal>
     }
 }
 
-impl ChangePart for SnapPart {
+impl ChangeSteps for SnapPart {
     ghost rest = { rest_of_part };
 
     ghost tells = { TellsPart };

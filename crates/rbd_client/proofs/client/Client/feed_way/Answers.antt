@@ -23,15 +23,15 @@ invariant_of-self g c =
     ∙ ap (state_on_way (is_some c.go_on-way.result.1) c.go_on-way.result.0) state in
     let both = way_after c.args.way c.args.fed.now c.go_on-way.result.1 c.go_on-way.result.0 (slot_state c.args.slot c.self.inside.slots.items) (slot_state c.args.slot c.set_state.new.slots.items) here c.go_on-way.ensures in
     way_sound g.R.Machine.stands c.args.slot c.args.way c.args.fed.now c.go_on-way.result.1 (before g c)
-    (record { session = c.settle.new.session; locks = c.count.new.locks; slots = c.set_state.new.slots.items; release = c.self.inside.release; heard = c.self.inside.heard.items })
-    c.self.invariant c.settle.ensures.sound (c.count.ensures.sound c.self.invariant.locks) acts both.0
-    (λ none. c.settle.ensures.stays (c.is_some.ensures ∙ none))
-    (λ some runs. (c.settle.ensures.left (c.is_some.ensures ∙ some)).free runs)
-    (record { held = c.settle.ensures.others; states = c.set_state.ensures.others; lines = c.settle.ensures.lines })
+    (record { session = c.end_on_way.new.session; locks = c.count.new.locks; slots = c.set_state.new.slots.items; release = c.self.inside.release; heard = c.self.inside.heard.items })
+    c.self.invariant c.end_on_way.ensures.sound (c.count.ensures.sound c.self.invariant.locks) acts both.0
+    (λ none. c.end_on_way.ensures.stays (c.is_some.ensures ∙ none))
+    (λ some runs. (c.end_on_way.ensures.left (c.is_some.ensures ∙ some)).free runs)
+    (record { held = c.end_on_way.ensures.others; states = c.set_state.ensures.others; lines = c.end_on_way.ensures.lines })
     c.set_state.ensures.length refl
     (subst (λ x. CountsAll (comings_of quiescing.Leaves None x.0 x.1 c.args.fed.now) c.self.inside.locks c.count.new.locks) (sym same) c.count.ensures.counts)
     both.1
-    (λ some r runs. (c.settle.ensures.left (c.is_some.ensures ∙ some)).left r runs)
+    (λ some r runs. (c.end_on_way.ensures.left (c.is_some.ensures ∙ some)).left r runs)
 
 pub returns-clause-sound : goal.returns-clause-sound
 returns-clause-sound g c = invariant_of-self g c

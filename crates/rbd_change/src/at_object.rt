@@ -1,11 +1,11 @@
 //! A piece of a change that goes object by object.
 ghost use Rattle.std.specs.Prelude.{◌≡◌, ℕ};
 
-use crate::part::ChangePart;
+use crate::steps::ChangeSteps;
 
 /// One object's piece of a change. Before its first operation the request waits for its turn at
 /// that object.
-pub trait ChangePiece: ChangePart {
+pub trait ObjectChange: ChangeSteps {
     /// The number of its object.
     ghost number: { Self → ℕ };
 

@@ -5,7 +5,7 @@ ghost use Rattle.rbd_kinds.specs.declared.machine.Fed.TheVariants as fed_with;
 ghost use Rattle.rbd_machine.specs.Answers.{CanBeFed};
 ghost use Rattle.rbd_machine.specs.Plan.{Plan, Wants, Asks};
 ghost use Rattle.rbd_machine.specs.Steps.{ProgressesBy};
-ghost use Rattle.rbd_change.specs.Part.{AsksByItself};
+ghost use Rattle.rbd_change.specs.OwnStep.{AsksByItself};
 
 use rbd_kinds::{Answer, NoMemory, Op, Want};
 use rbd_machine::Progress;
@@ -13,7 +13,7 @@ use std::alloc::Global;
 
 /// What a change does behind its event, one operation after another. Its clauses hold for every
 /// plan that comes next, so whoever holds it goes on with its own.
-pub trait ChangePart: Drop {
+pub trait ChangeSteps: Drop {
     /// What is left of it, with what comes next.
     ghost rest: { Self → (next : Plan) → Plan };
 
