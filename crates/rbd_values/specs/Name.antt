@@ -3,8 +3,7 @@ use Rattle.std.specs.List.{list_all}
 
 -- `A` to `Z`, `a` to `z`, `0` to `9`, `.`, `_` and `-`
 abbrev pub name_byte : ℕ → Bool
-name_byte b = (nat_le 65 b && nat_le b 90) || (nat_le 97 b && nat_le b 122) || (nat_le 48 b && nat_le b 57) ||
-    (b == 46) || (b == 95) || (b == 45)
+name_byte b = (nat_le 65 b && nat_le b 90) || (nat_le 97 b && nat_le b 122) || (nat_le 48 b && nat_le b 57) || (b == 46) || (b == 95) || (b == 45)
 
 -- 1 to 64 of these, whatever the first
 pub record IsName (text : List ℕ) : Type 0 where
