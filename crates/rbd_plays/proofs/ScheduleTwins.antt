@@ -17,7 +17,7 @@ use Rattle.rbd_schedule.specs.declared.given.Given.{Given}
 use Rattle.rbd_schedule.specs.Deeds.{Deeds}
 use Rattle.rbd_schedule.specs.Given.{commands_of, given_in, is_lost_by}
 use Rattle.rbd_schedule.specs.Notices.{is_notice_due, runs}
-use Rattle.rbd_schedule.specs.Schedule.{Calm, Comes, DeliversWhere, Happens, Pace, Plays, PlaysLine, PlaysScript, Polls, PollsAll, PollsBefore, PollsIn, PollsUntil, PollsWhere, Round, RoundsOn, Settles, Starts, StartsAll, Submits, Turn, TurnOf, TurnWhere, WantsKind, closing_rounds, goes_on, is_held, most_idle, most_polls}
+use Rattle.rbd_schedule.specs.Schedule.{Calm, Comes, DeliversWhere, Happens, Pace, Plays, PlaysLine, PlaysScript, Polls, PollsAll, PollsBefore, PollsIn, PollsUntil, PollsWhere, Round, RoundsOn, Settles, Starts, StartsAll, Submits, SessionTurn, TurnOf, TurnWhere, WantsKind, closing_rounds, goes_on, is_held, most_idle, most_polls}
 use Rattle.rbd_schedule.specs.Slots.{AreClientsCounted}
 use Rattle.rbd_schedule.specs.Starts.{IsIdle, IsQuiet}
 use Rattle.rbd_plays.proofs.ScheduleLooks.{LooksAlike}
@@ -139,7 +139,7 @@ module _ {R : Type 0} (stands : R → Standing) (Twins : (v w : WorldView R) →
     -- ---- rounds
 
     module _ (lost : (number : ℕ) → Bool) where
-      turned_alike : (session : ℕ) (p q p' q' : Pace R) → TwinPaces p q → Turn stands given lost session p p' → Turn stands given lost session q q' → TwinPaces p' q'
+      turned_alike : (session : ℕ) (p q p' q' : Pace R) → TwinPaces p q → SessionTurn stands given lost session p p' → SessionTurn stands given lost session q q' → TwinPaces p' q'
       turned_alike session p q p' q' twins one other =
           all_polled_alike session (record { world = one.told; went_on = p.went_on }) (record { world = other.told; went_on = q.went_on }) p' q' (record { world = told; went_on = twins.went_on }) one.polls other.polls
         where

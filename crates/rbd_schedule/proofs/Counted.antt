@@ -15,7 +15,7 @@ use Rattle.rbd_schedule.specs.Deeds.{Deeds}
 use Rattle.rbd_schedule.specs.Given.{commands_of, given_in, is_lost_by}
 use Rattle.rbd_schedule.specs.Notices.{is_notice_due, runs}
 use Rattle.rbd_schedule.specs.Playing.{IsPlay}
-use Rattle.rbd_schedule.specs.Schedule.{Calm, DeliversWhere, Pace, PollsIn, PollsWhere, RoundsOn, Submits, Turn, TurnOf, TurnWhere, closing_rounds, is_held, most_idle}
+use Rattle.rbd_schedule.specs.Schedule.{Calm, DeliversWhere, Pace, PollsIn, PollsWhere, RoundsOn, Submits, SessionTurn, TurnOf, TurnWhere, closing_rounds, is_held, most_idle}
 use Rattle.rbd_schedule.specs.Slots.{AreClientsCounted}
 use Rattle.rbd_schedule.proofs.Ended.{NoneRuns, skip_turns}
 use Rattle.rbd_schedule.proofs.Kept.{kept_by_deeds, kept_by_starts, kept_where, kept_where_due, kept_where_runs}
@@ -44,7 +44,7 @@ module _ {R : Type 0} (stands : R → Standing) (given : (session : ℕ) → Lis
       (one_event n (event.Poll session slot) polls.result old.world polls.comes.between polls.comes.step made)
 
   -- so does the turn of a session that runs
-  turn_makes : (n session : ℕ) (old new : Pace R) → Turn stands given lost session old new → HasMade n old.world → HasMade (suc n) new.world
+  turn_makes : (n session : ℕ) (old new : Pace R) → SessionTurn stands given lost session old new → HasMade n old.world → HasMade (suc n) new.world
   turn_makes n session old new turn made =
       let told = kept_by_deeds (HasMade n) (λ k. DeliversWhere stands given (is_notice_due lost session (k + 1) old.world) (k + 1))
       (λ k. kept_where_due stands (HasMade n) (λ e. Unit {0}) (λ s i. tt) (λ i. tt) (keeps n) given (starts_keep n) (is_notice_due lost session (k + 1) old.world) (k + 1))

@@ -15,7 +15,7 @@ use Rattle.rbd_schedule.specs.Deeds.{Deeds}
 use Rattle.rbd_schedule.specs.Given.{commands_of, given_in, is_lost_by}
 use Rattle.rbd_schedule.specs.Notices.{is_notice_due, runs}
 use Rattle.rbd_schedule.specs.Playing.{IsNoStart}
-use Rattle.rbd_schedule.specs.Schedule.{Calm, Comes, DeliversWhere, Happens, Pace, Plays, PlaysLine, PlaysScript, Polls, PollsAll, PollsBefore, PollsIn, PollsWhere, Round, RoundsOn, Settles, Starts, StartsAll, Submits, Turn, TurnOf, TurnWhere, closing_rounds, is_held}
+use Rattle.rbd_schedule.specs.Schedule.{Calm, Comes, DeliversWhere, Happens, Pace, Plays, PlaysLine, PlaysScript, Polls, PollsAll, PollsBefore, PollsIn, PollsWhere, Round, RoundsOn, Settles, Starts, StartsAll, Submits, SessionTurn, TurnOf, TurnWhere, closing_rounds, is_held}
 use Rattle.rbd_schedule.specs.Slots.{AreClientsCounted}
 
 -- what each of the deeds keeps, all keep
@@ -69,7 +69,7 @@ module _ {R : Type 0} (stands : R → Standing) (P : WorldView R → Type 0) (Ma
         (kept_in_round session 0 old polls.point polls.slot_0 is)
 
     module _ (lost : (number : ℕ) → Bool) where
-      kept_by_turn : (session : ℕ) (old new : Pace R) → Turn stands given lost session old new → P old.world → P new.world
+      kept_by_turn : (session : ℕ) (old new : Pace R) → SessionTurn stands given lost session old new → P old.world → P new.world
       kept_by_turn session old new turn is =
           kept_by_polls session (record { world = turn.told; went_on = old.went_on }) new turn.polls
           (kept_by_deeds P (λ k. DeliversWhere stands given (is_notice_due lost session (k + 1) old.world) (k + 1)) (λ k. kept_where_due (is_notice_due lost session (k + 1) old.world) (k + 1))

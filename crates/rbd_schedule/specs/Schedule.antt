@@ -158,7 +158,7 @@ module _ {R : Type 0} (stands : R → Standing) (given : (session : ℕ) → Lis
   module _ (lost : (number : ℕ) → Bool) where
     -- The turn of a session that runs: each notice that is due to it when its turn begins is
     -- delivered, in ascending order, and then its slots are polled. Notices are numbered from 1.
-    pub record Turn (session : ℕ) (old new : Pace R) : Type 0 where
+    pub record SessionTurn (session : ℕ) (old new : Pace R) : Type 0 where
       pub told : WorldView R
       pub notices : Deeds (λ k. DeliversWhere (is_notice_due lost session (k + 1) old.world) (k + 1))
           (length old.world.sites.mail) old.world told
@@ -166,7 +166,7 @@ module _ {R : Type 0} (stands : R → Standing) (given : (session : ℕ) → Lis
 
     -- the turn of a session that runs; a stopped session has none
     abbrev pub TurnWhere : (runs : Bool) → (session : ℕ) → (old new : Pace R) → Type 0
-    TurnWhere true session old new = Turn session old new
+    TurnWhere true session old new = SessionTurn session old new
     TurnWhere false session old new = new ≡ old
 
     abbrev pub TurnOf : (session : ℕ) → (old new : Pace R) → Type 0

@@ -9,7 +9,7 @@ ghost use Rattle.std.specs.Prelude.{◌≡◌, ℕ, ◌+◌, ◌<◌, ◌≤◌,
 ghost use Rattle.rbd_client.specs.Seen.{as_is};
 ghost use Rattle.rbd_world.specs.Seen.{seen};
 ghost use Rattle.rbd_schedule.specs.Playing.{RunnerGoesOn, KeepsUp, given_to, lost_in};
-ghost use Rattle.rbd_schedule.specs.Schedule.{PollsAll, Round, Settles, Turn, TurnOf, goes_on as goes_on_by, is_held};
+ghost use Rattle.rbd_schedule.specs.Schedule.{PollsAll, Round, Settles, SessionTurn, TurnOf, goes_on as goes_on_by, is_held};
 
 use crate::runner::Runner;
 use rbd_kinds::{NoMemory, SessionNo, Slot};
@@ -76,7 +76,7 @@ impl Runner {
     /// held at this point.
     fn turn(&mut self, alloc: Global, session: SessionNo, went_on: bool) -> Result<bool, NoMemory>
         requires { KeepsUp self.old }
-        ensures turn { IfOk result (λ went_on'. Turn as_is (given_to self.old) (lost_in self.old) session
+        ensures turn { IfOk result (λ went_on'. SessionTurn as_is (given_to self.old) (lost_in self.old) session
             (record { world = seen self.old.world; went_on = went_on })
             (record { world = seen self.new.world; went_on = went_on' })) }
         ensures goes { OnOk result (RunnerGoesOn self.old self.new) }
