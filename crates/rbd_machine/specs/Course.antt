@@ -13,6 +13,7 @@ use Rattle.rbd_kinds.specs.declared.operation.Op.{Op}
 use Rattle.rbd_kinds.specs.declared.operation.Op.TheVariants as op
 use Rattle.rbd_kinds.specs.Extents.{fits}
 use Rattle.rbd_kinds.specs.Sharing.{is_alone}
+use Rattle.rbd_kinds.specs.declared.sharing.Sharing.{Sharing}
 use Rattle.rbd_layout.specs.Pieces.{pieces_of}
 use Rattle.rbd_layout.specs.declared.types.Piece.{Piece}
 use Rattle.rbd_machine.specs.Knowledge.{is_at}
@@ -82,17 +83,45 @@ abbrev pub due_of : Option PlaceInLine → (objects : List ℕ) → List ℕ
 due_of None objects = []
 due_of (Some p) objects = if p.alone then [] else objects
 
+-- ---- the moves of a request
+
+-- What a request does in its line, to whatever keeps its place there: its own course, or the lines
+-- that it shares with others.
+pub record Moves (S : Type 0) : Type 0 where
+  pub place : S → Option PlaceInLine
+  -- it joins the line of an image, behind all others
+  pub join : SiteId → (image : ℕ) → Sharing → S → S
+  -- it waits for its look under the lock
+  pub hold : S → S
+  -- its look under the lock was told this header
+  pub look : Option Extent → HeaderView → S → S
+  -- it gets its tickets, at the end of its note
+  pub note : S → S
+  -- the piece of its turn has ended, where it had one; its next turn is at this object, if any
+  pub turn : Option ℕ → S → S
+  -- it leaves its line
+  pub leave : S → S
+
+-- once it has what it waited for: a piece ends where it next awaits a turn, or that its event counts
+-- as applied
+abbrev pub moved_by_wait : {S : Type 0} → Moves S → S → Wait → S
+moved_by_wait m s (wait.Join site image sharing) = m.join site image sharing s
+moved_by_wait m s (wait.Hold site image) = m.hold s
+moved_by_wait m s (wait.Turn object) = m.turn (Some object) s
+moved_by_wait m s (wait.Applied site image) = m.turn None s
+moved_by_wait m s (wait.Leave site image) = m.leave s
+
+-- after an operation and its answer, where it changes an extent or none
+abbrev pub moved_by_answer : {S : Type 0} → Moves S → Option Extent → S → SiteId → Op → Answer → S
+moved_by_answer m e s site (op.Header image header.Get) (answer.Header h) =
+    if looks_under_lock_at site image (m.place s) then m.look e h s else s
+moved_by_answer m e s site o a = s
+
+-- ---- what becomes of a course
+
 abbrev pub course_past_look : Option Extent → HeaderView → Course → Course
 course_past_look e h c =
     record { place = past c.place; turn = c.turn; due = due_of c.place (objects_asked h e); objects = c.objects }
-
--- the course after an operation and its answer, of a request that changes an extent or none
-abbrev pub answered : Option Extent → Course → SiteId → Op → Answer → Course
-answered e c site (op.Header image header.Get) (answer.Header h) =
-    if looks_under_lock_at site image c.place then course_past_look e h c else c
-answered e c site o a = c
-
--- ---- what it waits for
 
 abbrev pub held_stage : Stage → Stage
 held_stage stage.Past = stage.Past
@@ -109,16 +138,29 @@ abbrev pub objects_behind : (turn : Option ℕ) → List ℕ → List ℕ
 objects_behind (Some o) (first ∷ objects) = objects
 objects_behind turn objects = objects
 
--- The course once the request has what it waited for. A piece ends where the request next awaits a
--- turn, or that its event counts as applied.
-abbrev pub waited : Course → Wait → Course
-waited c (wait.Join site image sharing) =
-    record c { place = Some (record { site = site; image = image; alone = is_alone sharing; stage = stage.Joined }) }
-waited c (wait.Hold site image) = record c { place = held c.place }
-waited c (wait.Turn object) = record c { turn = Some object; objects = objects_behind c.turn c.objects }
-waited c (wait.Applied site image) = record c { turn = None; objects = objects_behind c.turn c.objects }
-waited c (wait.Leave site image) = beginning
+-- where it has just joined a line
+abbrev pub newcomer : SiteId → (image : ℕ) → Sharing → PlaceInLine
+newcomer site image sharing = record { site = site; image = image; alone = is_alone sharing; stage = stage.Joined }
 
 -- at the end of its note the request gets its tickets
 abbrev pub noted : Course → Course
 noted c = record { place = c.place; turn = c.turn; due = []; objects = c.objects ++ c.due }
+
+abbrev pub on_course : Moves Course
+on_course = record {
+  place = λ (c : Course). c.place;
+  join = λ site image sharing (c : Course). record c { place = Some (newcomer site image sharing) };
+  hold = λ (c : Course). record c { place = held c.place };
+  look = course_past_look;
+  note = noted;
+  turn = λ turn (c : Course). record c { turn = turn; objects = objects_behind c.turn c.objects };
+  leave = λ (c : Course). beginning;
+}
+
+-- the course once the request has what it waited for
+abbrev pub waited : Course → Wait → Course
+waited c w = moved_by_wait on_course c w
+
+-- the course after an operation and its answer, of a request that changes an extent or none
+abbrev pub answered : Option Extent → Course → SiteId → Op → Answer → Course
+answered e c site o a = moved_by_answer on_course e c site o a

@@ -2,15 +2,12 @@
 -- on its way.
 use Rattle.std.specs.Prelude.{ℕ, if◌then◌else◌, List, [], ◌∷◌, ◌++◌, Option, Some, None}
 use Rattle.rbd_kinds.specs.Sharing.{is_alone}
-use Rattle.rbd_machine.specs.Course.{Course, PlaceInLine, objects_asked, due_of, looks_under_lock_at}
+use Rattle.rbd_machine.specs.Course.{Course, Moves, PlaceInLine, due_of, moved_by_answer, moved_by_wait, objects_asked}
 use Rattle.rbd_kinds.specs.declared.answer.Answer.{Answer}
-use Rattle.rbd_kinds.specs.declared.answer.Answer.TheVariants as answer
 use Rattle.rbd_kinds.specs.declared.header.HeaderView.{HeaderView}
-use Rattle.rbd_kinds.specs.declared.header_op.HeaderOp.TheVariants as header
 use Rattle.rbd_kinds.specs.declared.id.SiteId.{SiteId}
 use Rattle.rbd_kinds.specs.declared.layout.Extent.{Extent}
 use Rattle.rbd_kinds.specs.declared.operation.Op.{Op}
-use Rattle.rbd_kinds.specs.declared.operation.Op.TheVariants as op
 use Rattle.rbd_kinds.specs.declared.machine.Want.{Want}
 use Rattle.rbd_kinds.specs.declared.machine.Want.TheVariants as want
 use Rattle.rbd_queue.specs.Line.{Member, member_of, objects_in, changed_member, without, new_member, held, passed, next_piece}
@@ -75,22 +72,6 @@ done_with (Some object) m = next_piece m
 
 -- ---- its way
 
-abbrev pub waited_by : (slot : ℕ) → Track → Wait → Track
-waited_by slot t (wait.Join site image sharing) =
-    record t {
-      place = Some (place_of_image site image);
-      lines = line_changed_at (Some (place_of_image site image))
-          (λ members. members ++ new_member slot sharing ∷ []) t.lines;
-    }
-waited_by slot t (wait.Hold site image) =
-    record t { lines = line_changed_at t.place (changed_member slot held) t.lines }
-waited_by slot t (wait.Turn object) =
-    record t { turn = Some object; lines = line_changed_at t.place (changed_member slot (done_with t.turn)) t.lines }
-waited_by slot t (wait.Applied site image) =
-    record t { turn = None; lines = line_changed_at t.place (changed_member slot (done_with t.turn)) t.lines }
-waited_by slot t (wait.Leave site image) =
-    record { place = None; turn = None; due = []; lines = line_changed_at t.place (without slot) t.lines }
-
 -- at the end of its note it gets its tickets
 abbrev pub track_noted : (slot : ℕ) → Track → Track
 track_noted slot t = record t {
@@ -106,11 +87,35 @@ track_looked slot e h t = record t {
   lines = line_changed_at t.place (changed_member slot passed) t.lines;
 }
 
+-- a request that has ended is in no line
+abbrev pub ended_by : (slot : ℕ) → Track → Track
+ended_by slot t = record { place = None; turn = None; due = []; lines = line_changed_at t.place (without slot) t.lines }
+
+abbrev pub on_track : (slot : ℕ) → Moves Track
+on_track slot = record {
+  place = λ (t : Track). (course_of slot t).place;
+  join = λ site image sharing (t : Track). record t {
+    place = Some (place_of_image site image);
+    lines = line_changed_at (Some (place_of_image site image))
+        (λ members. members ++ new_member slot sharing ∷ []) t.lines;
+  };
+  hold = λ (t : Track). record t { lines = line_changed_at t.place (changed_member slot held) t.lines };
+  look = track_looked slot;
+  note = track_noted slot;
+  turn = λ turn (t : Track). record t {
+    turn = turn;
+    lines = line_changed_at t.place (changed_member slot (done_with t.turn)) t.lines;
+  };
+  leave = ended_by slot;
+}
+
+-- the track once the request has what it waited for
+abbrev pub waited_by : (slot : ℕ) → Track → Wait → Track
+waited_by slot t w = moved_by_wait (on_track slot) t w
+
 -- the track after an operation and its answer
 abbrev pub answered_by : (slot : ℕ) → Option Extent → Track → SiteId → Op → Answer → Track
-answered_by slot e t site (op.Header image header.Get) (answer.Header h) =
-    if looks_under_lock_at site image (course_of slot t).place then track_looked slot e h t else t
-answered_by slot e t site o a = t
+answered_by slot e t site o a = moved_by_answer (on_track slot) e t site o a
 
 -- the track once the request has what it wanted beside an operation
 abbrev pub passed_by : (slot : ℕ) → Track → Want → Track
@@ -127,7 +132,3 @@ abbrev pub run : (slot : ℕ) → Plan → Track → Track
 run slot (Await w next) t = run slot next (waited_by slot t w)
 run slot (Note site image event next) t = run slot next (track_noted slot t)
 run slot plan t = t
-
--- a request that has ended is in no line
-abbrev pub ended_by : (slot : ℕ) → Track → Track
-ended_by slot t = record { place = None; turn = None; due = []; lines = line_changed_at t.place (without slot) t.lines }
