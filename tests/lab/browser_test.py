@@ -14,7 +14,7 @@ sys.dont_write_bytecode = True
 sys.path.insert(0, str(Path(__file__).resolve().parent))
 import chromium
 from test_drawing import EXAMPLES, drawing, example
-from lab_drawing import fold, page, reading
+from lab_parts.drawing import fold, page, reading
 
 # A row by its operation or its words, and what is shown behind it: a key, and its text.
 CLICKS = {

@@ -7,7 +7,7 @@ Each row and example that is played to its end is: its whole trace has to be wha
 to, and what was worked out has to be what the replies say: the bytes of each `read`, the names of
 `ls`, the size, snapshots and owner of `info`, the snapshots of `snap ls`, the objects of `du`. Who
 is answered `fenced` has to be in the blocklist, and nobody else. The traces of tests/lab/traces have
-to be what the program prints. They are played on FILE, or on the program of scripts/unproved. The
+to be what the program prints. They are played on FILE, or on the program that is built without proof. The
 last line is 'N passed, M failed': scripts, and what doesn't agree.
 """
 import argparse
@@ -18,7 +18,7 @@ from pathlib import Path
 sys.dont_write_bytecode = True
 sys.path.insert(0, str(Path(__file__).resolve().parent))
 from test_drawing import TOP, example
-from lab_drawing import fold, reading
+from lab_parts.drawing import fold, reading
 from test_lab import module_of
 
 class Compared:
@@ -94,7 +94,7 @@ def program_asked(given):
     """Returns the program to play on."""
     if given:
         return given
-    ran = subprocess.run([TOP / "scripts/unproved"], stdout=subprocess.PIPE, text=True)
+    ran = subprocess.run([TOP / "scripts/program", "unproved"], stdout=subprocess.PIPE, text=True)
     return ran.stdout.rstrip("\n") or sys.exit("fold_test: there is no program")
 
 

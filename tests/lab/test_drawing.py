@@ -7,6 +7,7 @@ traces. The traces that the tests begin with are in examples/, and else in trace
 more, where they are as the program printed them (tests/lab/fold_test.py plays them again).
 """
 import random
+import re
 import shutil
 import subprocess
 import sys
@@ -14,15 +15,14 @@ import tempfile
 import unittest
 import xml.etree.ElementTree as xml
 from functools import cache
-from importlib.machinery import SourceFileLoader
-from importlib.util import module_from_spec, spec_from_loader
 from pathlib import Path
 
 sys.dont_write_bytecode = True
 TOP = Path(__file__).resolve().parent.parent.parent
-sys.path.insert(0, str(TOP / "scripts"))
-import lab_marks
-from lab_drawing import fold, locks, marks, page, picture, reading, records
+sys.path[:0] = [str(TOP / "scripts"), str(TOP / "tests")]
+import striping
+from lab_parts import marks as lab_marks
+from lab_parts.drawing import fold, history, locks, marks, page, picture, reading, records
 
 TRACES = Path(__file__).parent / "traces"
 EXAMPLES = sorted(it.stem for it in (TOP / "examples").glob("*.script"))
@@ -284,6 +284,12 @@ LOCKS = {
     16: ["disk: c2.0 has the lock; watched by c1.0 and c2.0"],
     fold.END: ["c2.0 hears notice 2"],
 }
+# What `show --trace` prints of line 14 of examples/handover.script.
+TRACED = """\
+14  @poll c1 0 2
+    -- h 22 look house:c1.0 a17    o a17 c1.0 lock-drop rbd_header.1 done
+    -- h 23 look house:c1.0 a18    o a18 c1.0 notify rbd_header.1 done
+"""
 
 
 @cache
@@ -429,9 +435,6 @@ class Records(unittest.TestCase):
         self.assertEqual((it.view(2), it.view(3)), (None, ((0, b"\1"),)))
 
     def test_pieces_are_those_of_the_formulas(self):
-        loader = SourceFileLoader("striping", str(TOP / "scripts/striping"))
-        striping = module_from_spec(spec_from_loader("striping", loader))
-        loader.exec_module(striping)
         given = random.Random(50)
         for _ in range(200):
             layout = (512 << given.randrange(4), 512, given.randrange(1, 5))
@@ -494,6 +497,19 @@ class Drawing(unittest.TestCase):
     def test_names_may_not_end_the_script_of_a_page(self):
         self.assertNotIn("</", drawing("first", page.Page).data())
 
+    def test_the_trace_by_lines_has_each_of_its_lines_once(self):
+        for name in [*EXAMPLES, *OTHERS]:
+            trace = example(name)[1].decode()
+            facts = history.facts(trace.encode(), steps_of(name))
+            # (the rounds at the end, which are line 0, come last)
+            texts = [it for line in sorted(facts, key=lambda it: it or float("inf")) for it in facts[line]]
+            found = [it for text in texts for it in re.split(r" +(?=o )", text)]
+            for first in "ho":
+                wanted = [it for it in trace.splitlines() if it.startswith(f"{first} ")]
+                got = [it for it in found if it.startswith(f"{first} ")]
+                # (a site's log is behind that of another one)
+                self.assertEqual(sorted(got, key=lambda it: it[2] if first == "o" else ""), wanted, name)
+
     def test_locks(self):
         facts = locks.facts(reading.script_of(example("handover")[0]), steps_of("handover"))
         self.assertEqual({line: texts for line, texts in facts.items() if texts}, LOCKS)
@@ -506,9 +522,8 @@ class Wrapper(unittest.TestCase):
         self.room = Path(tempfile.mkdtemp())
         self.addCleanup(shutil.rmtree, self.room)
         (self.room / "scripts").mkdir()
-        for name in ("lab", "lab_main.py", "lab_hints.py", "lab_marks.py"):
-            shutil.copy(TOP / "scripts" / name, self.room / "scripts" / name)
-        shutil.copytree(TOP / "scripts/lab_drawing", self.room / "scripts/lab_drawing")
+        shutil.copy(TOP / "scripts/lab", self.room / "scripts/lab")
+        shutil.copytree(TOP / "scripts/lab_parts", self.room / "scripts/lab_parts")
         self.script, trace = example("handover")
         (self.room / "trace").write_bytes(trace)
         (self.room / "script").write_bytes(self.script)
@@ -516,7 +531,7 @@ class Wrapper(unittest.TestCase):
 
     def program(self, text):
         """Has this program of `sh` stand for the proved one."""
-        for path, said in (("program", text), ("scripts/proved", f"echo {self.room}/program")):
+        for path, said in (("program", text), ("scripts/program", f"echo {self.room}/program")):
             (self.room / path).write_text(f"#!/bin/sh\n{said}\n")
             (self.room / path).chmod(0o755)
 
@@ -564,6 +579,15 @@ class Wrapper(unittest.TestCase):
         self.assertIn("13  @deliver 1\n    -- c1.0 hears notice 1\n", said)
         self.assertIn("18  c1 read disk 0 2\n    => ok 1122\n", said)
         self.assertTrue(said.endswith("    (the rounds at the end)\n    -- c2.0 hears notice 2\n"))
+
+    def test_show_with_the_trace(self):
+        for words in ("--trace script", "script --trace", "--trace --locks script"):
+            ran = self.lab("show", *words.split())
+            self.assertEqual(ran.returncode, 0)
+            said = ran.stdout.decode()
+            self.assertIn(" 9  c2 write disk 1 22\n    => ok\n    -- h 15 start 9 c2.0\n", said)
+            self.assertIn(TRACED, said)
+            self.assertEqual("    -- c1.0 hears notice 1\n" in said, "--locks" in words)
 
 
 if __name__ == "__main__":

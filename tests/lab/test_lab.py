@@ -22,12 +22,11 @@ sys.dont_write_bytecode = True
 TOP = Path(__file__).resolve().parent.parent.parent
 SCRIPTS = TOP / "scripts"
 sys.path.insert(0, str(SCRIPTS))
-import lab_hints
-import lab_marks
-import lab_progress
-import lab_replies
+from lab_parts import hints as lab_hints
+from lab_parts import marks as lab_marks
+from lab_parts import progress as lab_progress
+from lab_parts import replies as lab_replies
 
-FILES = ("lab", *(it.name for it in SCRIPTS.glob("lab_*.py")))
 # What a script's last line is, the word that is marked in it, and words of the hint.
 HINTS = """\
 c1 create d 8K | 8K | bytes: 8192
@@ -317,8 +316,8 @@ class Wrapper(unittest.TestCase):
         self.room = Path(tempfile.mkdtemp())
         self.addCleanup(shutil.rmtree, self.room)
         (self.room / "scripts").mkdir()
-        for name in FILES:
-            shutil.copy(SCRIPTS / name, self.room / "scripts" / name)
+        shutil.copy(SCRIPTS / "lab", self.room / "scripts/lab")
+        shutil.copytree(SCRIPTS / "lab_parts", self.room / "scripts/lab_parts")
 
     def tool(self, path, text):
         (self.room / path).write_text(f"#!/bin/sh\n{text}\n")
@@ -327,8 +326,9 @@ class Wrapper(unittest.TestCase):
     def program(self, text, proved=True):
         self.tool("program", text)
         told = f"echo {self.room}/program"
-        self.tool("scripts/proved", told if proved else "echo 'proved: it changed' >&2; exit 1")
-        self.tool("scripts/unproved", told)
+        if not proved:
+            told = f"[ $1 = unproved ] && exec echo {self.room}/program; echo 'program: it changed' >&2; exit 1"
+        self.tool("scripts/program", told)
 
     def lab(self, *words, script=b""):
         how = {"input": script, "capture_output": True, "timeout": 60}
@@ -474,6 +474,25 @@ class Wrapper(unittest.TestCase):
         ran = self.lab("show", str(self.room / "script"))
         wanted = "1  client c1 a|2  c2 read|   => ok 00 01   (reply 2)|3  c1 ls|   => ok   (reply 1)|"
         self.assertEqual(ran.stdout.decode().replace("\n", "|"), wanted)
+
+    def test_show_numbers_no_command_without_a_reply(self):
+        script = b"client c1 a\nc1 ls\nc1 info d\nc1 ls\n"
+        rows = {
+            "3 c1 ok\n4 c1 ok\n2 c1 lost\n": (b"lost", b"ok", b"ok"),
+            "4 c1 ok\n2 c1 ok\n3 c1 unfinished\n": (b"ok   (reply 2)", b"unfinished", b"ok   (reply 1)"),
+            "4 c1 ok\n3 c1 unfinished waiting c2.0\n2 c1 unsent\n": (b"unsent", b"unfinished waiting c2.0", b"ok"),
+        }
+        for output, wanted in rows.items():
+            self.program(f"printf '{output}'")
+            found = re.findall(rb"^ +=> (.*)$", self.lab("show", script=script).stdout, re.M)
+            self.assertEqual(tuple(found), wanted, output)
+
+    def test_show_asked_wrongly(self):
+        self.program("exit 0")
+        for words in ("--trace --trace", "--all", "a b", "--locks a --trace b"):
+            ran = self.lab("show", *words.split())
+            self.assertEqual((ran.returncode, ran.stdout), (1, b""), words)
+            self.assertIn(b"usage: scripts/lab show [--trace] [--locks] [FILE]", ran.stderr)
 
     def test_show_of_standard_input(self):
         self.program("printf '2 c1 ok\\n'")

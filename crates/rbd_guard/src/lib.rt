@@ -38,7 +38,7 @@
 //! a ticket's number is, in hash tables (whose seed is fixed). The rest is a few places by index.
 //! So they cost the same on average however many tickets are in. `leave_all` costs as much as its
 //! tickets do one by one. Only `reserve` and `enter` take memory, and `enter` none where room is
-//! reserved. Growing moves what is in. `scripts/guard-cost` measures each call.
+//! reserved. Growing moves what is in. `bench/guard` measures each call.
 //!
 //! # How it works
 //!

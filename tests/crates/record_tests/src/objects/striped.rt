@@ -1,4 +1,4 @@
-//! Where bytes and extents of five layouts lie, as `scripts/striping` works it out from the
+//! Where bytes and extents of five layouts lie, as `tests/striping.py` works it out from the
 //! formulas of striping: places as `.._PLACES`, the parts of extents as `.._EXTENTS`.
 
 /// Objects of 8,192 bytes with units of 4,096, three in a stripe: byte, object, offset there.
