@@ -44,6 +44,9 @@ build ran: the proved one (scripts/proved), or else one that was built without p
 under the words that are meant, and what may help there and with replies; on a terminal, of a run
 that takes long, how long it is.
 
+Not built yet: the program's word `threads`, which its usage line names; and in a script clones
+(clone, flatten, children, snap protect, snap unprotect), journals (create .. journal) and mirror.
+
 Exit status: that of the program, of several scripts that of the first one that isn't 0
   0   the script was played            4   the output couldn't be written
   1   the words aren't understood      5   there was no memory
