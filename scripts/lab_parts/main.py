@@ -45,6 +45,9 @@ takes a minute or two, once). It shows the lines of a script that don't fit, wit
 words that are meant, and what may help there and with replies; on a terminal, of a run that takes
 long, how long it is.
 
+Not built yet: the program's word `threads`, which its usage line names; and in a script clones
+(clone, flatten, children, snap protect, snap unprotect), journals (create .. journal) and mirror.
+
 Exit status: that of the program, of several scripts that of the first one that isn't 0
   0   the script was played            4   the output couldn't be written
   1   the words aren't understood      5   there was no memory

@@ -5,6 +5,7 @@ from .hints import guess
 
 WORDS = ("run", "gen", "show", "draw", "help", "version", "--help", "--version")
 TO_COME = ("threads",)
+GEN_OPTIONS = ("--seed", "--clients", "--commands")
 
 
 def meant(words, options):
@@ -13,6 +14,9 @@ def meant(words, options):
     if first in TO_COME:
         yield f"`{first}` isn't built yet"
     elif first == "gen":
+        for word in (it.partition("=")[0] for it in others if it.startswith("--")):
+            if word not in GEN_OPTIONS:
+                yield f"`{word}` is no option of `gen`; {guess(word, GEN_OPTIONS) or 'scripts/lab --help has all'}"
         yield "`gen` wants `--seed` below 2^32, `--clients` from 1 to 16 and `--commands` to 10,000, each once"
     elif first == "run":
         for word in dict.fromkeys(it for it in others if it.startswith("-") and it != "-"):

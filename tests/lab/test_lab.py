@@ -404,6 +404,8 @@ class Wrapper(unittest.TestCase):
         rows += ((["run", "--strcit", "x"], b"did you mean `--strict`?"),)
         rows += (([str(self.room / "script")], b"did you mean `scripts/lab run "), ([], b"lab: scripts/lab --help"))
         rows += ((["--strict", "run"], b"`--strict` stands behind `run`"), (["run", "--trace", "--trace"], b"twice"))
+        rows += ((["gen", "--sed=1", "--clients", "1", "--commands", "1"], b"`--sed` is no option of `gen`; did you mean `--seed`?"),)
+        rows += ((["gen", "--turns", "1"], b"`--turns` is no option of `gen`; scripts/lab --help has all"),)
         for words, said in rows:
             ran = self.lab(*words)
             self.assertEqual((ran.stdout, ran.returncode), (b"usage\n", 1), words)
@@ -557,6 +559,9 @@ du, quiesce, resume, close or snap ..
             ran = self.lab(*words.split())
             self.assertEqual((ran.returncode, ran.stderr), (0, b""), words)
             self.assertIn(b"rbd_lab", ran.stdout)
+
+    def test_help_says_what_is_not_built(self):
+        self.assertIn(b"Not built yet: the program's word `threads`", self.lab("--help").stdout)
 
     def test_version_needs_no_git(self):
         tools = self.room / "tools"
