@@ -7,7 +7,7 @@
 //! ```text
 //! Command::Info { image }.try_clone()?          the same command once more
 //! Payload::new(Bytes::new(alloc))               None: a write has 1 to 65,536 bytes
-//! Refusal::BadRange.to_string()                 error 22 BadRange
+//! format!(in alloc; "{}", Refusal::BadRange)?   error 22 BadRange
 //! ```
 //!
 //! A copy of a command may be refused memory; it copies no payload that is shared.

@@ -3,8 +3,8 @@
 //!
 //! ```text
 //! let mut object = Object::new(alloc);                 // the head is absent, and its number `seq` is 0
-//! object.write(&context(0, []), 0, b"old")?;
-//! object.write(&context(1, [1]), 0, b"new")?;          // snapshot 1 was taken between
+//! object.write(&none, 0, b"old")?;                     // its context lists no snapshot
+//! object.write(&one, 0, b"new")?;                      // snapshot 1 was taken between
 //! object.read(None, 0, &mut buffer)                    // new
 //! object.read(Some(SnapId(1)), 0, &mut buffer)         // old
 //! object.trim(&[]);                                    // snapshot 1 was removed: it shows nothing

@@ -1,7 +1,7 @@
 //! Parts of an object, and what a read, a write and a zero are, byte by byte.
 //!
 //! ```text
-//! let parts = [Part { offset: 4, len: 2, .. }, Part { offset: 0, len: 1, .. }];
+//! let parts = [Part { offset: 4, at: 0, len: 2 }, Part { offset: 0, at: 2, len: 1 }];
 //! gather(alloc, b"abcdef", &parts)?            efa
 //! scatter(&mut bytes, &parts, b"xyz")          of `abcdef`: zbcdxy
 //! copy_window(b"abc", 2, &mut buffer)          `c`, and zeros

@@ -10,10 +10,12 @@
 //! | `effects` | what an operation does to the flat site |
 //! | `script` | the reader of scripts |
 //! | `text` | replies and traces |
+//! | `examples` | the examples of front pages |
 //!
 //! Expected values were worked out by hand, or by a program of another kind.
 
 mod effects;
+mod examples;
 mod kinds;
 mod objects;
 mod records;

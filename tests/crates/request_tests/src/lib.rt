@@ -9,12 +9,14 @@
 //! | `locks` | what takes, gives up and counts locks |
 //! | `sessions` | slots, and who of a session's requests waits for whom |
 //! | `clients` | when a lock is taken and let go, and who waits meanwhile |
+//! | `examples` | the examples of front pages |
 //!
 //! They are tables, of texts that `fixtures` reads. What a row wants was worked out by hand, from
 //! the rules in words or from a diagram.
 
 mod changes;
 mod clients;
+mod examples;
 mod fixtures;
 mod locks;
 mod requests;

@@ -38,11 +38,13 @@
 //! | `telling`, `quiescing` | what clients tell each other, and what holds changes back |
 //! | `nothing`, `slots` | events of which nothing comes |
 //! | `clients` | what a world tells of a client |
+//! | `examples` | the examples of front pages |
 
 mod asked;
 mod begins;
 mod clients;
 mod drive;
+mod examples;
 mod expiring;
 mod fencing;
 mod fills;

@@ -1,5 +1,5 @@
-//! Tables of requests: `COMMAND|FIRST LOOK|OWN LOOK|WANTS|REPLY`. Where the look under the lock is
-//! empty it is as the first.
+//! Tables of requests: `COMMAND|FIRST LOOK|LOOK UNDER THE LOCK|WANTS|REPLY`. Where the look under
+//! the lock is empty it is as the first.
 
 /// The way of a change that goes beside others to its look under the lock.
 pub const BESIDE: &str = "dir-find disk, join discard, header-get, hold, header-get, ";
@@ -147,7 +147,7 @@ rename disk one|||dir-rename disk one|done
 rename disk one|none dir-rename||dir-rename disk one|NoImage
 rename disk one|exists||dir-rename disk one|ImageExists";
 
-/// All that is wanted before a request is refused: at the first look, and at its own.
+/// All that is wanted before a request is refused: at the first look, and under the lock.
 pub const REFUSALS: &str = "\
 discard 0 1|none dir-find||dir-find disk|NoImage
 discard 0 1|gone||dir-find disk, join discard, header-get|NoImage

@@ -1,7 +1,7 @@
 //! `quiesce`, and `resume`, which ends it: what they wait for, and what the site is asked, one
 //! after another, was written down by hand from the diagrams.
 //!
-//! A secondary is quiesced at the look behind the lock, and a resume waits for nothing. An image
+//! A secondary is quiesced at the look under the lock, and a resume waits for nothing. An image
 //! that is gone, and the fence, end both at each operation.
 use super::asked::table_holds;
 
