@@ -12,6 +12,7 @@ pub mod Turns
 pub mod Approach
 pub mod Knowledge
 pub mod Permits
+pub mod AtLeast
 pub mod Lawful
 pub mod About
 pub mod Refused
