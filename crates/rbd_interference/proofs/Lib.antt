@@ -20,6 +20,8 @@ pub mod Objects
 pub mod ObjectsKept
 pub mod ObjectsLearned
 pub mod Effects
+pub mod Ancestors
+pub mod AncestorsKept
 pub mod Told
 pub mod Turns
 pub mod PaysSteps

@@ -10,6 +10,7 @@ pub mod Passes
 pub mod Standalone
 pub mod Turns
 pub mod Approach
+pub mod Ancestors
 pub mod Knowledge
 pub mod Permits
 pub mod AtLeast
