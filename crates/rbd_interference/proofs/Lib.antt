@@ -21,6 +21,7 @@ pub mod ObjectsKept
 pub mod ObjectsLearned
 pub mod Effects
 pub mod Ancestors
+pub mod Ranked
 pub mod AncestorsKept
 pub mod Told
 pub mod Turns

@@ -6,6 +6,7 @@ use Rattle.rbd_kinds.specs.Form.{IsOverlapWithin}
 use Rattle.rbd_kinds.specs.Striping.{offset_of}
 use Rattle.rbd_layout.specs.Pieces.{IsIn}
 use Rattle.rbd_kinds.specs.declared.header.HeaderView.{HeaderView}
+use Rattle.rbd_kinds.specs.declared.header.ParentLink.{ParentLink}
 use Rattle.rbd_kinds.specs.declared.id.Instance.{Instance}
 use Rattle.rbd_kinds.specs.declared.id.SiteId.{SiteId}
 use Rattle.rbd_object.specs.Mapped.{Mapped, mapped_blank}
@@ -169,6 +170,15 @@ pub record HasMaps (h : HeaderView) (maps : Maps) (objects : ℕ → Mapped) : T
 pub record AreMapped (r : Records) : Type 0 where
   pub images : (image : ℕ) (h : HeaderView) → r.headers image ≡ Some h → HasMaps h (r.maps image) (object_at r image)
   pub fresh : (image : ℕ) → r.directory.drawn < image → HasNoStates (r.maps image None)
+
+-- The image that a view has as its parent is less deep. So reads that go from parent to parent end.
+abbrev pub IsLower : Records → (depth : ℕ) → Option ParentLink → Type 0
+IsLower r depth None = Unit {0}
+IsLower r depth (Some link) = (parent : HeaderView) → r.headers link.image ≡ Some parent → parent.depth < depth
+
+abbrev pub AreRanked : Records → Type 0
+AreRanked r = (image : ℕ) (h : HeaderView) → r.headers image ≡ Some h
+    → EachView h (λ v shape. IsLower r h.depth shape.parent)
 
 -- the flat site after an effect, or after none
 abbrev pub changed_by : Flat → Option Effect → Flat

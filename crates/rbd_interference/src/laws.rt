@@ -34,7 +34,7 @@ ghost use Rattle.rbd_interference.specs.Ancestors.{AreSeenTrue, AreToldTrue, Dre
 ghost use Rattle.rbd_interference.specs.Beside.{AreBeside, AreUnfenced, LeavesObject, MayAct};
 ghost use Rattle.rbd_interference.specs.Locks.{HasLockWhileFree, KnowsByLock, gives_up};
 ghost use Rattle.rbd_stands.specs.Owned.{HasLock};
-ghost use Rattle.rbd_interference.specs.Truth.{AreMapped, IsTrueAt, AreStandalone, changed_by, known_header};
+ghost use Rattle.rbd_interference.specs.Truth.{AreMapped, AreRanked, IsTrueAt, AreStandalone, changed_by, known_header};
 ghost use Rattle.rbd_interference.specs.Turns.{KnowsInTurn, KnowsOf};
 
 /// Who knows nothing knows nothing false.
@@ -270,6 +270,16 @@ pub fn images_keep_their_maps()
         → AreMapped (after r you op) }
     ensures trim { (r : Records) (image number : ℕ) → AreMapped r → AreMapped (trimmed image number r) }
     ensures expiry { (r : Records) (image : ℕ) (i : Instance) → AreMapped r → AreMapped (expired image i r) }
+{}
+
+/// A parent is less deep than its child, and goes on to be, whatever is done that is permitted. So
+/// reads that go from parent to parent end.
+pub fn parents_stay_lower()
+    ensures first { AreRanked no_records }
+    ensures operation { (site : Site) (r : Records) (f : Flat) (k : Knowledge) (you : Instance) (op : Op)
+        → StandsFor [] r f → AreRanked r → Permits k site op → AreRanked (after r you op) }
+    ensures trim { (r : Records) (image number : ℕ) → AreRanked r → AreRanked (trimmed image number r) }
+    ensures expiry { (r : Records) (image : ℕ) (i : Instance) → AreRanked r → AreRanked (expired image i r) }
 {}
 
 /// What is permitted gives no image a parent or a journal, so no header that is told has one.
