@@ -4,7 +4,7 @@ use Rattle.rbd_kinds.specs.declared.answer.Answer.{Answer}
 use Rattle.rbd_kinds.specs.declared.machine.Fed.TheVariants as fed
 use Rattle.rbd_machine.specs.Answers.{CanBeFed}
 use Rattle.rbd_machine.specs.Plan.{Plan}
-use Rattle.rbd_change.specs.Part.{AsksByItself}
+use Rattle.rbd_change.specs.OwnStep.{AsksByItself}
 use Rattle.rbd_pieces.specs.Write.{rest_from}
 use Rattle.rbd_pieces.specs.declared.write_piece.Stage.{Stage}
 use Rattle.rbd_pieces.specs.declared.write_piece.Stage.TheVariants as stage
