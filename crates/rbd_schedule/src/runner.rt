@@ -305,6 +305,17 @@ impl Runner {
         if !self.is_due {
             return Ok(());
         }
+        self.start_due(alloc)
+    }
+
+    // Not inline: behind most events none may start, and then its frame would be made for nothing.
+    /// The same where one may.
+    #[inline(never)]
+    fn start_due(&mut self, alloc: Global) -> Result<(), NoMemory>
+        requires { KeepsUp self.old }
+        ensures starts { OnOk result (StartsAll as_is (given_to self.old) (seen self.old.world) (seen self.new.world)) }
+        ensures goes { OnOk result (RunnerGoesOn self.old self.new) }
+    {
         for session in 0..self.queues.len() {
             self.start_each(alloc, SessionNo(session as u8))?;
         }
