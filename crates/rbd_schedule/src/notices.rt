@@ -42,7 +42,7 @@ impl Runner {
         let all = self.world.notices();
         let mut told = 0;
         while let Some(number) = self.next_due(session, told, all) {
-            self.deliver(alloc, number)?;
+            self.deliver_and_start(alloc, number)?;
             told = number;
         }
         Ok(())

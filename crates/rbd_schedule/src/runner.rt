@@ -180,7 +180,7 @@ impl Runner {
     }
 
     /// A notice is delivered, and then all that may start does.
-    pub fn deliver(&mut self, alloc: Global, number: u64) -> Result<(), NoMemory>
+    pub fn deliver_and_start(&mut self, alloc: Global, number: u64) -> Result<(), NoMemory>
         requires { KeepsUp self.old }
         ensures happens { OnOk result (Happens as_is (given_to self.old) (of_event.Deliver number)
             (seen self.old.world) (seen self.new.world)) }

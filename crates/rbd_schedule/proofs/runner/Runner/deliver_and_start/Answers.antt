@@ -8,7 +8,7 @@ use Rattle.rbd_world.specs.Step.{IsWorldStep}
 use Rattle.rbd_schedule.specs.Playing.{RunnerGoesOn, given_to}
 use Rattle.rbd_schedule.specs.declared.runner.Runner.{Runner}
 use Rattle.rbd_schedule.proofs.Goes.{comes_then, goes_by_note, goes_then}
-use Rattle.rbd_schedule.proofs.runner.Runner.deliver.Goals as goal
+use Rattle.rbd_schedule.proofs.runner.Runner.deliver_and_start.Goals as goal
 
 noted : (c : goal.After-start_all-arg-1) → RunnerGoesOn c.args.self.now c.note.new.self
 noted c =
