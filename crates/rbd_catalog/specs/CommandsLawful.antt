@@ -1,11 +1,11 @@
 -- The requests of commands do only what they may by what they know: lemmas that the laws of an
 -- `impl` cite. They define nothing.
-use Rattle.std.proofs.Common.{refl}
 use Rattle.rbd_commands.specs.declared.command.Command.{Command}
 use Rattle.rbd_machine.specs.Knowledge.{nothing_known}
 use Rattle.rbd_machine.specs.Lawful.{IsLawful, IsLawfulRequest}
 use Rattle.rbd_machine.specs.Plan.{Plan, Standing, without_labels}
 use Rattle.rbd_machine.specs.declared.seat.Seat.{Seat}
+use Rattle.rbd_machine.proofs.AtLeast.{jump_lawful}
 use Rattle.rbd_data.proofs.Lawful.{nothing_at, lawful_write_plan, lawful_read}
 use Rattle.rbd_data.specs.Write.{write_plan}
 use Rattle.rbd_image.proofs.Lawful.{lawful_create, lawful_listing}
@@ -22,7 +22,7 @@ use Rattle.rbd_catalog.specs.EachRequest.{HoldsOfEach, of_command}
 use Rattle.rbd_catalog.specs.Plans.{IsPlanFor}
 
 at_plan : (plan : Plan) → IsLawful nothing_at nothing_known plan → IsLawfulRequest (without_labels plan)
-at_plan plan lawful = record { known_at = nothing_at; plan = lawful; labels = λ label. refl }
+at_plan plan lawful = record { known_at = nothing_at; plan = lawful; labels = jump_lawful nothing_at }
 
 each_is_lawful : (seat : Seat) → HoldsOfEach seat (λ c s. IsLawfulRequest s)
 each_is_lawful seat = record {

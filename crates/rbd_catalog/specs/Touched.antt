@@ -15,7 +15,8 @@ use Rattle.rbd_kinds.specs.Header.{snap_named}
 use Rattle.rbd_layout.specs.Pieces.{pieces_of}
 use Rattle.rbd_machine.specs.Answers.{CanGive}
 use Rattle.rbd_machine.specs.Path.{Answered}
-use Rattle.rbd_machine.specs.Plan.{Plan, Ask, Await, Note, Return, Goto}
+use Rattle.rbd_machine.specs.Label.{Label}
+use Rattle.rbd_machine.specs.Plan.{Plan, Ask, Await, Note, Return, Goto, IsAsking, IsClosed, Standing}
 use Rattle.rbd_machine.specs.Steps.{change_plan}
 use Rattle.rbd_machine.specs.Turns.{AreTurns}
 use Rattle.rbd_machine.specs.Course.{objects_within}
@@ -64,13 +65,18 @@ most_told many (step ∷ steps) = max (by_header many step.answer) (most_told ma
 -- ---- turns
 
 -- A change of an extent goes beside other requests: behind its look under the lock it has its turn
--- at each object that the extent has by that look, one after another, and at no others.
-pub record TakesTurns (e : Extent) (plan : Plan) : Type 0 where
+-- at each object that the extent has by that look, one after another, and at no others. Where it
+-- begins a part again it has those turns that are left there.
+pub record TakesTurns (e : Extent) (s : Standing) : Type 0 where
   pub site : SiteId
   pub name : List ℕ
   pub refuses : HeaderView → Option Refusal
   pub act : ℕ → HeaderView → Plan
   pub sharing : Sharing
   pub shared : is_alone sharing ≡ false
-  pub is : plan ≡ change_plan site name sharing refuses act
-  pub turns : (image : ℕ) (h : HeaderView) → refuses h ≡ None → AreTurns (act image h) (objects_within h e)
+  pub is : s.plan ≡ change_plan site name sharing refuses act
+  pub left : Label → List ℕ
+  pub turns : (image : ℕ) (h : HeaderView) → refuses h ≡ None → AreTurns left (act image h) (objects_within h e)
+  pub closed : IsClosed s.labels s.plan
+  pub labels : (label : Label) → IsAsking (s.labels label)
+      → AreTurns left (s.labels label) (left label) × IsClosed s.labels (s.labels label)

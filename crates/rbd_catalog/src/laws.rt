@@ -60,7 +60,7 @@ pub fn commands_are_orderly()
 /// tells, each once, before it is done.
 pub fn turns_are_those_of_the_extent()
     ensures { (seat : Seat) (command : Command) (s : Standing) (e : Extent) → IsPlanFor seat command s
-        → extent_beside (profile command) ≡ Some e → TakesTurns e s.plan }
+        → extent_beside (profile command) ≡ Some e → TakesTurns e s }
 {}
 
 /// The number of operations of a request is bounded by the number of objects that its extent

@@ -1,5 +1,7 @@
-//! Two machines for the requests that change an image and note an event: one for a change that is
-//! alone on its image, and one for a change that goes object by object beside others.
+//! Two machines for the requests that change an image: one for a change that does all in one part,
+//! mostly alone on its image, and one for a change that goes object by object beside others. Each
+//! notes an event, but a change in one part may have none (Ceph: the journal has none for a
+//! snapshot's protection).
 //!
 //! ```text
 //! pub type ResizeRequest = ChangeRequest<SizeChange, NewSize>;     // in `rbd_image`
@@ -17,10 +19,10 @@
 //! # Rules
 //!
 //! ```text
-//!                  a change that is alone              a change beside others
+//!                  a change in one part                a change object by object
 //! Approaching      to its look under the lock; `refusal` says why it is refused, at both looks
 //!    │             `part`: made by that look's header  `pieces`: made by that look's header
-//! Noting           its event
+//! Noting           its event, where it has one         its event
 //!    │
 //! Acting           the part: `wants`, `next`,          of each piece its turn at its `object`, and
 //!    │             `ready` and `feed`                  then the piece, as a part
@@ -30,12 +32,15 @@
 //! Done
 //! ```
 //!
-//! - A [`ChangeRequest`] is alone in the image's line, from its look-up to its end. So what its
-//!   look under the lock shows can't change, but by its part.
+//! - A [`ChangeRequest`] goes beside those others that its change names (`sharing`). Where it is
+//!   alone in the image's line, from its look-up to its end, what its look under the lock shows
+//!   can't change, but by its part.
+//! - A change in one part without an event (`has_event`) goes from its look under the lock to its
+//!   part, and ends with that.
 //! - An [`ExtentRequest`] goes beside others there. It does its pieces in the order in which they
 //!   were made, each at its turn at the piece's object.
-//! - Nothing is changed before the event is noted. The event counts as applied once the part, or
-//!   each piece, is done.
+//! - Where there is an event, nothing is changed before it is noted. It counts as applied once the
+//!   part, or each piece, is done.
 //! - A refusal of the part or of a piece ends the request: the event stays in the journal, and
 //!   doesn't count as applied.
 //!
@@ -52,7 +57,8 @@
 //! |---|---|---|
 //! | `refuses` | `Refuses` of `rbd_machine` | why it is refused, by a header |
 //! | `serves`, `plan` | [`Change`] | the commands that ask for it, and the plan of each at a site |
-//! | `noted` | [`Change`], [`ExtentChange`] | its event |
+//! | `shares` | [`Change`] | beside which others it goes |
+//! | `noted` | [`Change`], [`ExtentChange`] | its event; of a [`Change`], where it has one |
 //! | `does` | [`Change`], [`ExtentChange`] | the plan from its event on, by the header |
 //! | `rest` | [`ChangeSteps`] | what is left of a part, with what comes next |
 //! | `tells`, `is_ready` | [`ChangeSteps`] | by which answers it goes on; for which it has memory |
@@ -62,6 +68,7 @@
 //!
 //! | file | what it says |
 //! |---|---|
+//! | `specs/Event.antt` | the note and the end of a change, with an event or none (`noting`, `ending`) |
 //! | `specs/OwnStep.antt` | an operation that is a step of the request's own: the word of law `asks` |
 //! | `specs/Request.antt` | what is left of a [`ChangeRequest`]; for which answers it has memory |
 //! | `specs/Extent.antt` | the same of an [`ExtentRequest`]; what is left of pieces (`in_turn`) |

@@ -1,29 +1,29 @@
-//! A request that changes an image alone, and notes an event.
+//! A request that changes an image in one part, behind its event.
 ghost use Rattle.std.specs.Prelude.{◌≡◌, true, Some, OnOk};
 ghost use Rattle.rbd_kinds.specs.declared.machine.Fed.TheVariants as fed_with;
 ghost use Rattle.rbd_machine.specs.Answers.{CanBeFed};
 ghost use Rattle.rbd_machine.specs.Plan.{GoesOn, Goto, plan_after, without_labels};
 ghost use Rattle.rbd_machine.specs.Ready.{IsReadyFor};
-ghost use Rattle.rbd_machine.specs.Steps.{applied};
+ghost use Rattle.rbd_change.specs.Event.{ending, noting};
 ghost use Rattle.rbd_change.specs.Request.{rest_of_change, rest_of_some, under_lock_in, IsApproaching, IsReady};
 
 use crate::change::Change;
 use crate::steps::ChangeSteps;
-use rbd_kinds::{Answer, Command, Fed, Flow, ImageId, NoMemory, Op, Reply, Sharing, SiteId, Want};
+use rbd_kinds::{Answer, Command, Fed, Flow, ImageId, NoMemory, Op, Reply, SiteId, Want};
 use rbd_machine::{Approach, Machine, Progress, Reason};
 use std::alloc::Global;
 use std::mem::replace;
 
-/// A request that changes an image alone, and notes an event.
+/// A request that changes an image in one part, behind its event where it has one.
 ///
 /// ```text
-/// Approaching   to its look under the lock, alone in the image's line   (see `Approach`)
+/// Approaching   to its look under the lock, alone or beside others   (see `Approach`)
 ///    │             refused: by what the change refuses
-/// Noting        its event, in the image's journal
+/// Noting        its event, in the image's journal                    (where it has one)
 ///    │
 /// Acting        its part, one operation after another
 ///    │
-/// Applying      the event counts as applied
+/// Applying      the event counts as applied                          (where it has one)
 ///    │
 ///    ▼
 /// Done
@@ -44,7 +44,8 @@ pub struct ChangeRequest<C, P> {
 enum Stage<P> {
     Approaching(Approach),
     Noting(ImageId),
-    Acting(ImageId, P),
+    /// And whether its event was noted.
+    Acting(ImageId, P, bool),
     Applying(ImageId),
 }
 
@@ -55,10 +56,11 @@ impl<C: Change> ChangeRequest<C, C::Steps> {
         ensures { rest_of_change C.refuses C.noted C.does C.Steps.rest result ≡ C.plan home command }
     {
         let (image, change) = C::from_command(command);
+        let sharing = change.sharing();
         ChangeRequest {
             site: home,
             change,
-            stage: Stage::Approaching(Approach::new(home, image, Sharing::Alone)),
+            stage: Stage::Approaching(Approach::new(home, image, sharing)),
             part: None,
         }
     }
@@ -126,22 +128,47 @@ impl<C: Change> ChangeRequest<C, C::Steps> {
         match way.feed(&self.change, fed) {
             Progress::More => Flow::More,
             Progress::Refused(refusal) => Flow::Done(Reply::Refused(refusal)),
-            Progress::Ended(image) => {
-                self.go_to(Stage::Noting(image));
-                Flow::More
-            }
+            Progress::Ended(image) => self.begin(image),
         }
     }
 
-    /// Goes on behind its event, with the part that its look under the lock made.
-    fn begin_part(&mut self, image: ImageId) -> Flow
-        ensures { GoesOn Goto (rest_of_some C.Steps.rest self.old.part (applied self.old.site image)) result
+    /// Goes on behind its look under the lock: with its event, or with its part where it has none.
+    #[tactic(auto, using(crate::proofs::Noted::goes_to_note, crate::proofs::Noted::goes_without_note))]
+    fn begin(&mut self, image: ImageId) -> Flow
+        ensures { GoesOn Goto
+            (noting self.old.site image (C.noted self.old.change) (rest_of_some C.Steps.rest self.old.part)) result
+            (without_labels (rest_of_change C.refuses C.noted C.does C.Steps.rest self.new)) }
+    {
+        if self.change.has_event() {
+            self.go_to(Stage::Noting(image));
+            return Flow::More;
+        }
+        self.begin_part(image, false)
+    }
+
+    /// Goes on with the part that its look under the lock made.
+    fn begin_part(&mut self, image: ImageId, noted: bool) -> Flow
+        ensures { GoesOn Goto (rest_of_some C.Steps.rest self.old.part (ending self.old.site image noted)) result
             (without_labels (rest_of_change C.refuses C.noted C.does C.Steps.rest self.new)) }
     {
         match self.part.take() {
-            Some(part) => self.go_to(Stage::Acting(image, part)),
-            None => self.go_to(Stage::Applying(image)),
+            Some(part) => {
+                self.go_to(Stage::Acting(image, part, noted));
+                Flow::More
+            }
+            None => self.end(image, noted),
         }
+    }
+
+    /// Ends behind its part: its event counts as applied, where one was noted.
+    fn end(&mut self, image: ImageId, noted: bool) -> Flow
+        ensures { GoesOn Goto (ending self.old.site image noted) result
+            (without_labels (rest_of_change C.refuses C.noted C.does C.Steps.rest self.new)) }
+    {
+        if !noted {
+            return Flow::Done(Reply::Done);
+        }
+        self.go_to(Stage::Applying(image));
         Flow::More
     }
 }
@@ -159,7 +186,7 @@ impl<C: Change> Machine for ChangeRequest<C, C::Steps> {
                 site,
                 image: *image,
             },
-            Stage::Acting(_, part) => part.wants(),
+            Stage::Acting(_, part, _) => part.wants(),
             Stage::Applying(image) => Want::Applied {
                 site,
                 image: *image,
@@ -171,7 +198,7 @@ impl<C: Change> Machine for ChangeRequest<C, C::Steps> {
         match &self.stage {
             Stage::Approaching(way) => way.next(),
             Stage::Noting(_) => unreachable!(),
-            Stage::Acting(_, part) => part.next(alloc),
+            Stage::Acting(_, part, _) => part.next(alloc),
             Stage::Applying(_) => unreachable!(),
         }
     }
@@ -186,7 +213,7 @@ impl<C: Change> Machine for ChangeRequest<C, C::Steps> {
         };
         match &mut self.stage {
             Stage::Approaching(_) => self.ready_part(alloc, answer),
-            Stage::Acting(_, part) => part.ready(alloc, answer),
+            Stage::Acting(_, part, _) => part.ready(alloc, answer),
             _ => Ok(()),
         }
     }
@@ -196,18 +223,17 @@ impl<C: Change> Machine for ChangeRequest<C, C::Steps> {
             Stage::Approaching(_) => self.approach(fed),
             Stage::Noting(image) => {
                 let image = *image;
-                self.begin_part(image)
+                self.begin_part(image, true)
             }
-            Stage::Acting(image, part) => {
+            Stage::Acting(image, part, noted) => {
                 let Fed::Answer(answer) = fed else {
                     unreachable!()
                 };
                 match part.feed(answer) {
                     Progress::More => Flow::More,
                     Progress::Ended(()) => {
-                        let image = *image;
-                        self.go_to(Stage::Applying(image));
-                        Flow::More
+                        let (image, noted) = (*image, *noted);
+                        self.end(image, noted)
                     }
                     Progress::Refused(refusal) => Flow::Done(Reply::Refused(refusal)),
                 }

@@ -32,7 +32,7 @@ closed_pieces [] site image h at bytes = tt
 closed_pieces (p ∷ pieces) site image h at bytes =
     closed_write Goto site image h p (bytes_for p.parts at bytes) (write_pieces site image h at bytes pieces (applied site image)) (closed_pieces pieces site image h at bytes)
 
-closed_write_request : (site : SiteId) (name : List ℕ) (at : ℕ) (bytes : List ℕ) → IsClosed Goto (write site name at bytes)
+pub closed_write_request : (site : SiteId) (name : List ℕ) (at : ℕ) (bytes : List ℕ) → IsClosed Goto (write site name at bytes)
 closed_write_request site name at bytes =
     closed_change Goto site name sharing.Shared (write_refuses (extent_at at bytes)) (put_plan site at bytes) (λ image h. closed_pieces (pieces_of h.layout (extent_at at bytes)) site image h at bytes)
 

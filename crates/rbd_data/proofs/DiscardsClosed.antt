@@ -19,7 +19,7 @@ closed_pieces : (pieces : List Piece) (site : SiteId) (image : ℕ) (h : HeaderV
 closed_pieces [] site image h = tt
 closed_pieces (p ∷ pieces) site image h = closed_zero Goto site image h p (zero_in_turns site image h pieces (applied site image)) (closed_pieces pieces site image h)
 
-closed_discard : (site : SiteId) (name : List ℕ) (e : Extent) → IsClosed Goto (discard site name e)
+pub closed_discard : (site : SiteId) (name : List ℕ) (e : Extent) → IsClosed Goto (discard site name e)
 closed_discard site name e = closed_change Goto site name sharing.Discard (write_refuses e) (zero site e) (λ image h. closed_pieces (pieces_of h.layout e) site image h)
 
 pub closed_discard_plan : (site : SiteId) (c : Command) → IsClosed Goto (discard_plan site c)

@@ -15,6 +15,7 @@ use Rattle.rbd_machine.specs.Lawful.{IsLawful, IsLawfulRequest}
 use Rattle.rbd_machine.specs.Plan.{without_labels}
 use Rattle.rbd_machine.specs.Steps.{applied, non_primary}
 use Rattle.rbd_machine.specs.Wait as wait
+use Rattle.rbd_machine.proofs.AtLeast.{jump_lawful}
 use Rattle.rbd_machine.proofs.Lawful.{lawful_change, or_else_none, own_is_found, under_lock_known}
 use Rattle.rbd_meaning.specs.Range.{out_of_range}
 use Rattle.rbd_meaning.specs.Writes.{write_refuses}
@@ -49,4 +50,4 @@ module _ (known_at : Label → Knowledge) where
   lawful_plan site _ = tt
 
 pub lawful_request : (site : SiteId) (c : Command) → IsLawfulRequest (without_labels (discard_plan site c))
-lawful_request site c = record { known_at = λ label. nothing_known; plan = lawful_plan (λ label. nothing_known) site c; labels = λ label. refl }
+lawful_request site c = record { known_at = λ label. nothing_known; plan = lawful_plan (λ label. nothing_known) site c; labels = jump_lawful (λ label. nothing_known) }

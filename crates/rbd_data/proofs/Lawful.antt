@@ -31,6 +31,7 @@ use Rattle.rbd_machine.specs.Objects.{data_write, map_exists}
 use Rattle.rbd_machine.specs.Plan.{Return, Goto, Standing}
 use Rattle.rbd_machine.specs.Steps.{applied, non_primary}
 use Rattle.rbd_machine.specs.Wait as wait
+use Rattle.rbd_machine.proofs.AtLeast.{jump_lawful}
 use Rattle.rbd_machine.proofs.Lawful.{under_lock_known, own_is_found, or_else_none, lawful_not_there, lawful_on_id, lawful_on_header, lawful_unless, lawful_change}
 use Rattle.rbd_meaning.specs.Range.{extent_at, out_of_range}
 use Rattle.rbd_meaning.specs.Writes.{write_refuses}
@@ -94,8 +95,8 @@ lawful_closing site image seen read (answer.Header h) = go (eqb h.generation see
   where
     go : (b : Bool) → IsLawful nothing_at nothing_known (cond b (Return (reply.Bytes (shown_bytes seen read))) (Goto label.Begin))
     go true = tt
-    go false = refl
-lawful_closing site image seen read answer.Absent = refl
+    go false = jump_lawful nothing_at label.Begin tt
+lawful_closing site image seen read answer.Absent = jump_lawful nothing_at label.Begin tt
 lawful_closing site image seen read a = lawful_not_there nothing_at (learned nothing_known site (op.Header image header.Get) a) a
 
 lawful_viewing : (site : SiteId) (image : ℕ) (h : HeaderView) (e : Extent) (view : Option View) → IsLawful nothing_at nothing_known (viewing site image h e view)
@@ -120,6 +121,6 @@ lawful_read site (command.Read image snap at len) standing is =
     subst IsLawfulRequest (sym is) (record {
       known_at = nothing_at;
       plan = lawful_pass site image snap (record { at = at; len = len });
-      labels = λ label. lawful_pass site image snap (record { at = at; len = len });
+      labels = λ label fit. lawful_pass site image snap (record { at = at; len = len });
     })
 lawful_read site _ standing is = absurd is

@@ -11,6 +11,7 @@ ghost use Rattle.rbd_kinds.specs.declared.reply.Reply.TheVariants.{Done};
 ghost use Rattle.rbd_layout.specs.Pieces.{pieces_of};
 ghost use Rattle.rbd_machine.specs.Lawful.{IsLawfulRequest};
 ghost use Rattle.rbd_machine.specs.Path.{Answered, IsBounded, IsWalk};
+ghost use Rattle.rbd_machine.specs.Label.{Label};
 ghost use Rattle.rbd_machine.specs.Plan.{Goto, Return, IsClosed, without_labels};
 ghost use Rattle.rbd_machine.specs.Refused.{AreGiven};
 ghost use Rattle.rbd_machine.specs.Turns.{AreTurns};
@@ -32,8 +33,8 @@ pub fn discards_are_bounded()
 /// number, and at no other object. Its pieces are those of its extent, by the layout that its look
 /// under the lock told.
 pub fn turns_are_those_of_the_pieces()
-    ensures { (site : SiteId) (e : Extent) (image : ℕ) (h : HeaderView)
-        → AreTurns (zero site e image h) (objects_of (pieces_of h.layout e)) }
+    ensures { (left : Label → List ℕ) (site : SiteId) (e : Extent) (image : ℕ) (h : HeaderView)
+        → AreTurns left (zero site e image h) (objects_of (pieces_of h.layout e)) }
 {}
 
 /// A discard begins no part again.

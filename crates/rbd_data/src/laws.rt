@@ -14,6 +14,7 @@ ghost use Rattle.rbd_kinds.specs.declared.reply.Reply.TheVariants.{Bytes, Done};
 ghost use Rattle.rbd_machine.specs.Path.{Answered, IsBounded, IsWalk};
 ghost use Rattle.rbd_machine.specs.Passes.{jumps};
 ghost use Rattle.rbd_machine.specs.Lawful.{IsLawfulRequest};
+ghost use Rattle.rbd_machine.specs.Label.{Label};
 ghost use Rattle.rbd_machine.specs.Plan.{Plan, Goto, Return, Standing, IsClosed, without_labels};
 ghost use Rattle.rbd_machine.specs.Refused.{AreGiven};
 ghost use Rattle.rbd_machine.specs.Turns.{AreTurns};
@@ -51,8 +52,8 @@ pub fn reads_are_bounded()
 /// number, and at no other object. Its pieces are those of its extent, by the layout that its look
 /// under the lock told.
 pub fn turns_are_those_of_the_pieces()
-    ensures turns { (site : SiteId) (at : ℕ) (bytes : List ℕ) (image : ℕ) (h : HeaderView)
-        → AreTurns (put_plan site at bytes image h) (objects_of (pieces_of h.layout (extent_at at bytes))) }
+    ensures turns { (left : Label → List ℕ) (site : SiteId) (at : ℕ) (bytes : List ℕ) (image : ℕ) (h : HeaderView)
+        → AreTurns left (put_plan site at bytes image h) (objects_of (pieces_of h.layout (extent_at at bytes))) }
     ensures ascending { (l : Layout) (e : Extent) → IsLayout l → AllPairs (λ p q. p.object < q.object) (pieces_of l e) }
 {}
 

@@ -1,3 +1,4 @@
 pub mod Header
+pub mod Later
 pub mod Texts
 pub mod Told

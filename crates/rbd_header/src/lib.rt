@@ -16,6 +16,9 @@
 //! Contracts see a [`Header`] as the [`HeaderView`](rbd_kinds::HeaderView) that it tells, and each
 //! call's contract is one equation: the view after it is this function of the view before.
 //!
+//! What an image's header may be after one that it was is said by `specs/Later.antt`: [`laws`] says
+//! that each change keeps to it. So who saw a header knows what stays of it.
+//!
 //! Costs: a look-up of a snapshot, by id or by name, and a change of one read the list of
 //! snapshots, which are 256 at most; all other calls are a few words. [`Header::view`] copies the
 //! list. After [`Header::share`], which copies it once, views share that copy until the list
@@ -33,6 +36,7 @@ mod context;
 mod fault;
 mod fresh;
 mod header;
+pub mod laws;
 mod lookup;
 mod snaps;
 mod view;

@@ -25,6 +25,7 @@ use Rattle.rbd_machine.specs.Label.{Label}
 use Rattle.rbd_machine.specs.Lawful.{CanTell, IsLawful, IsLawfulRequest}
 use Rattle.rbd_machine.specs.Plan.{Plan, Return, without_labels}
 use Rattle.rbd_machine.specs.Steps.{on_bits}
+use Rattle.rbd_machine.proofs.AtLeast.{jump_lawful}
 use Rattle.rbd_machine.proofs.Lawful.{lawful_not_there, lawful_on_id, lawful_on_header, lawful_on_done, told_first}
 use Rattle.rbd_meaning.specs.Count.{object_count}
 use Rattle.rbd_meaning.specs.Listings.{shown_snaps, used_among}
@@ -157,7 +158,7 @@ module _ (at : Label → Knowledge) where
   lawful_listing site _ = tt
 
 pub lawful_create : (site : SiteId) (c : Command) (plan : Plan) → IsCreatePlan site c plan → IsLawfulRequest (without_labels plan)
-lawful_create site (command.Create name size shape) plan is = record { known_at = λ label. nothing_known; plan = go (limits_or_not (layout_of shape) size); labels = λ label. refl }
+lawful_create site (command.Create name size shape) plan is = record { known_at = λ label. nothing_known; plan = go (limits_or_not (layout_of shape) size); labels = jump_lawful (λ label. nothing_known) }
   where
     go : KeepsLimits (layout_of shape) size ⊎ (KeepsLimits (layout_of shape) size → ⊥) → IsLawful (λ label. nothing_known) nothing_known plan
     go (inl keeps) = lawful_within (λ label. nothing_known) site name size shape plan is keeps

@@ -1,5 +1,5 @@
 -- The plans do what they may.
-use Rattle.std.proofs.Common.{◌≡◌, ℕ, true, None, refl}
+use Rattle.std.proofs.Common.{◌≡◌, ℕ, true, None}
 use Rattle.rbd_commands.specs.declared.command.Command.{Command}
 use Rattle.rbd_commands.specs.declared.command.Command.TheVariants as command
 use Rattle.rbd_kinds.specs.declared.sharing.Sharing.TheVariants as sharing
@@ -11,6 +11,7 @@ use Rattle.rbd_machine.specs.Label.{Label}
 use Rattle.rbd_machine.specs.Lawful.{IsLawful, IsLawfulRequest}
 use Rattle.rbd_machine.specs.Plan.{without_labels}
 use Rattle.rbd_machine.specs.Steps.{applied}
+use Rattle.rbd_machine.proofs.AtLeast.{jump_lawful}
 use Rattle.rbd_machine.proofs.Lawful.{lawful_change, own_is_found, under_lock_known}
 use Rattle.rbd_meaning.specs.Resizes.{resize_refuses}
 use Rattle.rbd_pieces.proofs.Resized.{lawful_resize}
@@ -29,4 +30,4 @@ module _ (at : Label → Knowledge) (site : SiteId) where
   lawful_resize_plan _ = tt
 
 pub lawful_resize_request : (site : SiteId) (c : Command) → IsLawfulRequest (without_labels (resize_plan site c))
-lawful_resize_request site c = record { known_at = λ label. nothing_known; plan = lawful_resize_plan (λ label. nothing_known) site c; labels = λ label. refl }
+lawful_resize_request site c = record { known_at = λ label. nothing_known; plan = lawful_resize_plan (λ label. nothing_known) site c; labels = jump_lawful (λ label. nothing_known) }

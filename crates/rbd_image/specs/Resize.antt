@@ -1,9 +1,10 @@
 -- `resize`: the size of the head is set.
-use Rattle.std.specs.Prelude.{ℕ, List, Bool, true, false, Option}
+use Rattle.std.specs.Prelude.{ℕ, List, Bool, true, false, Option, Some}
 use Rattle.rbd_commands.specs.declared.command.Command.{Command}
 use Rattle.rbd_commands.specs.declared.command.Command.TheVariants as command
 use Rattle.rbd_commands.specs.declared.refusal.Refusal.{Refusal}
 use Rattle.rbd_commands.specs.declared.refusal.Refusal.TheVariants as refusal
+use Rattle.rbd_kinds.specs.declared.sharing.Sharing.{Sharing}
 use Rattle.rbd_kinds.specs.declared.sharing.Sharing.TheVariants as sharing
 use Rattle.rbd_kinds.specs.declared.answer.Answer.{Answer}
 use Rattle.rbd_kinds.specs.declared.header.HeaderView.{HeaderView}
@@ -38,13 +39,16 @@ abbrev pub resize_plan : SiteId → Command → Plan
 resize_plan site (command.Resize image size) = size_change site image size
 resize_plan site _ = refused refusal.NoImage
 
--- ---- its change: what it refuses, its event, and what it does then
+-- ---- its change: what it refuses, beside whom it goes, its event, and what it does then
 
 abbrev pub refuses_of : SizeChange → HeaderView → Option Refusal
 refuses_of change = resize_refuses change.to
 
-abbrev pub event_of : SizeChange → JournalEvent
-event_of change = event.Resize change.to
+abbrev pub shares_of : SizeChange → Sharing
+shares_of change = sharing.Alone
+
+abbrev pub event_of : SizeChange → Option JournalEvent
+event_of change = Some (event.Resize change.to)
 
 abbrev pub does : SizeChange → SiteId → (image : ℕ) → HeaderView → Plan
 does change site = set_size site change.to

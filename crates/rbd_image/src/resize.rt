@@ -3,11 +3,13 @@ ghost use Rattle.std.specs.Prelude.{◌≡◌, Some, None, if◌then◌else◌};
 ghost use Rattle.rbd_commands.specs.declared.refusal.Refusal.TheVariants.{BadShape};
 ghost use Rattle.rbd_meaning.specs.Resizes.{has_few_objects as are_few};
 ghost use Rattle.rbd_image.specs.SizeLaws.{new_size_asks, new_size_tells};
-ghost use Rattle.rbd_image.specs.Resize.{is_resize, resize_plan, refuses_of, event_of, does, rest_of_new_size, TellsNewSize, IsNewSizeReady};
+ghost use Rattle.rbd_image.specs.Resize.{is_resize, resize_plan, refuses_of, shares_of, event_of, does, rest_of_new_size, TellsNewSize, IsNewSizeReady};
 
 use crate::few::has_few_objects;
 use rbd_change::{Change, ChangeRequest, ChangeSteps};
-use rbd_kinds::{Answer, Command, HeaderView, ImageId, Name, NoMemory, Op, Refusal, SiteId, Want};
+use rbd_kinds::{
+    Answer, Command, HeaderView, ImageId, Name, NoMemory, Op, Refusal, Sharing, SiteId, Want,
+};
 use rbd_machine::{Progress, Refuses, non_primary};
 use rbd_pieces::Size;
 use std::alloc::Global;
@@ -49,6 +51,8 @@ impl Change for SizeChange {
 
     ghost plan = { resize_plan };
 
+    ghost shares = { shares_of };
+
     ghost noted = { event_of };
 
     ghost does = { does };
@@ -58,6 +62,14 @@ impl Change for SizeChange {
             Command::Resize { image, size } => (image.into_name(), SizeChange { to: size.get() }),
             _ => unreachable!(),
         }
+    }
+
+    fn sharing(&self) -> Sharing {
+        Sharing::Alone
+    }
+
+    fn has_event(&self) -> bool {
+        true
     }
 
     fn part(

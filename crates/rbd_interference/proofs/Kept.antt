@@ -280,7 +280,7 @@ module _ (site : SiteId) (j : Knowledge) (image : ℕ) (undrawn : is_drawn j.dra
   makes_none you (header.Create view) permits = absurd (true≢false (sym permits.drawn ∙ undrawn))
   makes_none you _ permits = refl
 
-  still_none : (r : Records) (you : Instance) (o : Op) → Permits j site o → r.headers image ≡ None → (after_served r you o).headers image ≡ None
+  pub still_none : (r : Records) (you : Instance) (o : Op) → Permits j site o → r.headers image ≡ None → (after_served r you o).headers image ≡ None
   still_none r you (op.Directory o) permits none = none
   still_none r you (op.BlockAdd i) permits none = none
   still_none r you (op.Data other number o) permits none = none

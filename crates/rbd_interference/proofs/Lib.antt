@@ -20,6 +20,9 @@ pub mod Objects
 pub mod ObjectsKept
 pub mod ObjectsLearned
 pub mod Effects
+pub mod Ancestors
+pub mod Ranked
+pub mod AncestorsKept
 pub mod Told
 pub mod Turns
 pub mod PaysSteps

@@ -7,6 +7,7 @@ use Rattle.std.proofs.lemmas.Option.{none-some, same_Some}
 use Rattle.rbd_kinds.specs.declared.data_op.DataOp.{DataOp}
 use Rattle.rbd_kinds.specs.declared.data_op.DataOp.TheVariants as object
 use Rattle.rbd_kinds.specs.declared.header.HeaderView.{HeaderView}
+use Rattle.rbd_kinds.specs.declared.header.ParentLink.{ParentLink}
 use Rattle.rbd_kinds.specs.declared.header.SnapContext.{SnapContext}
 use Rattle.rbd_kinds.specs.declared.header.SnapView.{SnapView}
 use Rattle.rbd_kinds.specs.declared.header_op.HeaderOp.{HeaderOp}
@@ -17,9 +18,11 @@ use Rattle.rbd_kinds.specs.declared.map_op.MapOp.{MapOp}
 use Rattle.rbd_kinds.specs.declared.map_op.MapOp.TheVariants as states
 use Rattle.rbd_kinds.specs.declared.operation.Op.{Op}
 use Rattle.rbd_kinds.specs.declared.operation.Op.TheVariants as op
+use Rattle.rbd_kinds.specs.Form.{IsOverlapWithin}
 use Rattle.rbd_kinds.specs.Header.{snap_named}
 use Rattle.rbd_kinds.specs.Striping.{object_of}
-use Rattle.rbd_header.specs.Header.{context_of, is_full, snap_in, with_size, with_snap, without_snap}
+use Rattle.rbd_header.specs.Header.{context_of, cut, is_full, snap_in, with_size, with_snap, without_snap}
+use Rattle.rbd_header.proofs.Changed.{cut_within}
 use Rattle.rbd_machine.specs.Knowledge.{Knowledge, maps_of, objects_known_of}
 use Rattle.rbd_machine.specs.Permits.{HasRoomFor, HasState, IsLeftOver, Permits, PermitsOnHeader, PermitsOnMap, PermitsOnObject, OwnsAlone, OwnsBy, MayMake, MayPut, MaySet, MaySize, MayTakeSnap}
 use Rattle.rbd_map.specs.States.{states_of}
@@ -35,7 +38,7 @@ use Rattle.rbd_stands.specs.Condition.{IsContextOf}
 use Rattle.rbd_stands.specs.Covering.{IsCovered, IsRaised, KeepsCover, KeepsDataCover, KeepsHeaderCover, KeepsMapCover, Maps, MapsCover, exists_at}
 use Rattle.rbd_stands.specs.Shown.{links_of, snapshots_of}
 use Rattle.rbd_stands.specs.Site.{StandsFor}
-use Rattle.rbd_stands.specs.View.{EachView, Shape, shape_of, shape_of_snap}
+use Rattle.rbd_stands.specs.View.{EachView, shape_of_snap}
 use Rattle.rbd_stands.proofs.Contexts.{reversed_context}
 use Rattle.rbd_stands.proofs.EditSteps.{drawn_served}
 use Rattle.rbd_stands.proofs.Lookups.{a_value}
@@ -70,10 +73,11 @@ set_len (Some states) object state = length-set states object state
 
 -- ---- the maps of one image
 
--- a map is there at each view, and that of the head has all objects
+-- a map is there at each view, with all objects of its size
 record HasViews (h : HeaderView) (maps : Maps) : Type 0 where
   pub there : EachView h (λ v shape. IsSome (maps v))
-  pub room : HasRoomFor h.layout h.size (map_len (maps None))
+  pub room : EachView h (λ v shape. HasRoomFor h.layout shape.size (map_len (maps v)))
+  pub within : EachView h (λ v shape. IsOverlapWithin shape.size h.parent)
 
 either_views : (maps : Maps) (b : Bool) (one other : HeaderView) → HasViews one maps → HasViews other maps → HasViews (cond b one other) maps
 either_views maps true one other p q = p
@@ -81,7 +85,11 @@ either_views maps false one other p q = q
 
 -- whoever owns it
 owner_views : (maps : Maps) (h : HeaderView) (owner : Option Instance) → HasViews h maps → HasViews (record h { owner = owner }) maps
-owner_views maps h owner all = record { there = record { head = all.there.head; snap = all.there.snap }; room = all.room }
+owner_views maps h owner all = record {
+  there = record { head = all.there.head; snap = all.there.snap };
+  room = record { head = all.room.head; snap = all.room.snap };
+  within = record { head = all.within.head; snap = all.within.snap };
+}
 
 told_views : (maps : Maps) (f g : HeaderView) → Some f ≡ Some g → HasViews f maps → HasViews g maps
 told_views maps f g same all = subst (λ h. HasViews h maps) (same_Some f g same) all
@@ -89,30 +97,31 @@ told_views maps f g same all = subst (λ h. HasViews h maps) (same_Some f g same
 views_again : (maps now : Maps) (h : HeaderView) → ((v : Option ℕ) → now v ≡ maps v) → HasViews h maps → HasViews h now
 views_again maps now h same all = record {
   there = record { head = ap is_some (same None) ∙ all.there.head; snap = λ t s at. ap is_some (same (Some t)) ∙ all.there.snap t s at };
-  room = subst (λ map. HasRoomFor h.layout h.size (map_len map)) (sym (same None)) all.room;
+  room = record {
+    head = subst (λ map. HasRoomFor h.layout h.size (map_len map)) (sym (same None)) all.room.head;
+    snap = λ t s at. subst (λ map. HasRoomFor h.layout s.size (map_len map)) (sym (same (Some t))) (all.room.snap t s at);
+  };
+  within = all.within;
 }
 
--- a snapshot's map is put
-views_put : (maps : Maps) (h : HeaderView) (snap : ℕ) (put : List ℕ) → HasViews h maps → HasViews h (with_view maps (Some snap) (Some put))
-views_put maps h snap put all = record { there = record { head = all.there.head; snap = λ t s at. by (eqb t snap) t (all.there.snap t s at) }; room = all.room }
+-- the map of a snapshot that isn't listed is put, or removed
+views_apart : (maps : Maps) (h : HeaderView) (snap : ℕ) (map : Option (List ℕ)) → snap_in h.snaps snap ≡ None → HasViews h maps → HasViews h (with_view maps (Some snap) map)
+views_apart maps h snap map unlisted all = record {
+  there = record { head = all.there.head; snap = λ t s at. by (λ m. IsSome m) t s at (eqb t snap) refl (all.there.snap t s at) };
+  room = record { head = all.room.head; snap = λ t s at. by (λ m. HasRoomFor h.layout s.size (map_len m)) t s at (eqb t snap) refl (all.room.snap t s at) };
+  within = all.within;
+}
   where
-    by : (b : Bool) (t : ℕ) → IsSome (maps (Some t)) → IsSome (cond b (Some put) (maps (Some t)))
-    by true t was = refl
-    by false t was = was
-
--- the map of one that isn't listed is removed
-views_left : (maps : Maps) (h : HeaderView) (snap : ℕ) → snap_in h.snaps snap ≡ None → HasViews h maps → HasViews h (with_view maps (Some snap) None)
-views_left maps h snap unlisted all = record { there = record { head = all.there.head; snap = λ t s at. by t s at (eqb t snap) refl (all.there.snap t s at) }; room = all.room }
-  where
-    by : (t : ℕ) (s : SnapView) → snap_in h.snaps t ≡ Some s → (b : Bool) → eqb t snap ≡ b → IsSome (maps (Some t)) → IsSome (cond b None (maps (Some t)))
-    by t s at true same was = absurd (none-some s (sym unlisted ∙ ap (snap_in h.snaps) (sym (eqb-true t snap same)) ∙ at))
-    by t s at false other was = was
+    by : (P : Option (List ℕ) → Type 0) (t : ℕ) (s : SnapView) → snap_in h.snaps t ≡ Some s → (b : Bool) → eqb t snap ≡ b → P (maps (Some t)) → P (cond b map (maps (Some t)))
+    by P t s at true same was = absurd (none-some s (sym unlisted ∙ ap (snap_in h.snaps) (sym (eqb-true t snap same)) ∙ at))
+    by P t s at false other was = was
 
 -- the head's map becomes longer
 views_lengthened : (maps : Maps) (h : HeaderView) (count : ℕ) → HasViews h maps → HasViews h (maps_behind maps (states.Resize count))
 views_lengthened maps h count all = record {
   there = record { head = refl; snap = all.there.snap };
-  room = λ x inside. let below = all.room x inside in let more = longer (maps None) in omega (arith, below, more);
+  room = record { head = λ x inside. let below = all.room.head x inside in let more = longer (maps None) in omega (arith, below, more); snap = all.room.snap };
+  within = all.within;
 }
   where
     longer : (map : Option (List ℕ)) → map_len map ≤ length (lengthened count (unwrap_or map []))
@@ -122,8 +131,23 @@ views_lengthened maps h count all = record {
 views_set : (maps : Maps) (h : HeaderView) (object state : ℕ) → HasViews h maps → HasViews h (maps_behind maps (states.Set None object state))
 views_set maps h object state all = record {
   there = record { head = set_some (maps None) object state all.there.head; snap = all.there.snap };
-  room = subst (HasRoomFor h.layout h.size) (sym (set_len (maps None) object state)) all.room;
+  room = record { head = subst (HasRoomFor h.layout h.size) (sym (set_len (maps None) object state)) all.room.head; snap = all.room.snap };
+  within = all.within;
 }
+
+-- a snapshot's map that was put has as much room as the head's
+room_put : (maps : Maps) (h : HeaderView) → IsPutAs (maps (Some (h.snap_seq + 1))) (maps None) → HasRoomFor h.layout h.size (map_len (maps None))
+    → HasRoomFor h.layout h.size (map_len (maps (Some (h.snap_seq + 1))))
+room_put maps h put room x inside =
+    let below = room x inside in
+    let long = put.long in
+    let len : map_len (maps (Some (h.snap_seq + 1))) ≡ length put.there = ap map_len put.is in
+    omega (arith, below, long, len)
+
+-- an overlap that is cut ends where it ended, or before
+cut_stays : (to size : ℕ) (parent : Option ParentLink) → IsOverlapWithin size parent → IsOverlapWithin size (cut to parent)
+cut_stays to size None within = tt
+cut_stays to size (Some link) within = let ends : link.overlap ≤ size = within in omega (arith, ends)
 
 -- ---- what is permitted
 
@@ -132,7 +156,7 @@ module _ (site : SiteId) (r : Records) (f : Flat) (k : Knowledge) (you : Instanc
   covers image h is = (mapped.images image h is).covered
 
   views : (image : ℕ) (h : HeaderView) → r.headers image ≡ Some h → HasViews h (r.maps image)
-  views image h is = let all = mapped.images image h is in record { there = all.there; room = all.room }
+  views image h is = let all = mapped.images image h is in record { there = all.there; room = all.room; within = all.within }
 
   module _ (free : IsFalse (is_fenced r you)) (image : ℕ) where
     -- ---- and covers the objects
@@ -185,14 +209,13 @@ module _ (site : SiteId) (r : Records) (f : Flat) (k : Knowledge) (you : Instanc
     object_covers number _ permits h is = elim permits [ ]
 
     -- a snapshot that comes next isn't listed yet
-    put_unlisted : (snap : ℕ) (bits : List ℕ) → OwnsAlone k site image (MayPut (maps_of k.maps site image) snap bits) → (h : HeaderView) → r.headers image ≡ Some h → (shape : Shape)
-        → shape_of h (Some snap) ≡ Some shape → ⊥
-    put_unlisted snap bits owns h is shape at =
+    put_unlisted : (snap : ℕ) (bits : List ℕ) → OwnsAlone k site image (MayPut (maps_of k.maps site image) snap bits) → (h : HeaderView) → r.headers image ≡ Some h → (s : SnapView)
+        → snap_in h.snaps snap ≡ Some s → ⊥
+    put_unlisted snap bits owns h is s at =
         let there = owned_there site r you k image _ t free owns in
         let same : h ≡ there.view = same_Some h there.view (sym is ∙ there.is) in
         let seq : h.snap_seq ≡ owns.header.snap_seq = ap (λ (v : HeaderView). v.snap_seq) (same ∙ there.same) in
-        let found = a_value shape_of_snap (snap_in h.snaps snap) shape at in
-        let numbered = ((here (snapshots_of f) (links_of f image) (r.headers image) (object_at r image) (image_at f image) h is (stands.images image)).stands.numbered.snap snap found.0 found.1).1 in
+        let numbered = ((here (snapshots_of f) (links_of f image) (r.headers image) (object_at r image) (image_at f image) h is (stands.images image)).stands.numbered.snap snap s at).1 in
         let next = owns.meets.1.next in
         omega (arith, numbered, next, seq)
 
@@ -205,7 +228,7 @@ module _ (site : SiteId) (r : Records) (f : Flat) (k : Knowledge) (you : Instanc
     map_covers o permits None is = tt
     map_covers (states.Resize count) permits (Some h) is = λ none. absurd (true≢false (sym (views image h is).there.head ∙ ap is_some none))
     map_covers (states.Get view) permits (Some h) is = tt
-    map_covers (states.Put (Some snap) bits) permits (Some h) is = λ shape at. absurd (put_unlisted snap bits permits h is shape at)
+    map_covers (states.Put (Some snap) bits) permits (Some h) is = λ shape at. let found = a_value shape_of_snap (snap_in h.snaps snap) shape at in absurd (put_unlisted snap bits permits h is found.0 found.1)
     map_covers (states.Set None object state) permits (Some h) is = lowered object state permits
     map_covers (states.Remove None) permits (Some h) is = tt
     map_covers (states.Remove (Some snap)) permits (Some h) is = tt
@@ -219,13 +242,21 @@ module _ (site : SiteId) (r : Records) (f : Flat) (k : Knowledge) (you : Instanc
         let has : HasAtLeast count (r.maps image None) = subst (λ c. IsCountTrue c (r.maps image None)) may.mapped.known (t.counted image (inl may.drawn)) in
         record {
           there = record { head = ap is_some has.is; snap = λ n s at. absurd (none-some s (ap (λ snaps. snap_in snaps n) (sym may.new.snaps) ∙ at)) };
-          room = λ x inside. let below = may.mapped.room x inside in let long = has.long in let len : map_len (r.maps image None) ≡ length has.there = ap map_len has.is in omega (arith, below, long, len);
+          room = record {
+            head = λ x inside. let below = may.mapped.room x inside in let long = has.long in let len : map_len (r.maps image None) ≡ length has.there = ap map_len has.is in omega (arith, below, long, len);
+            snap = λ n s at. absurd (none-some s (ap (λ snaps. snap_in snaps n) (sym may.new.snaps) ∙ at));
+          };
+          within = record { head = may.new.form.overlap; snap = λ n s at. absurd (none-some s (ap (λ snaps. snap_in snaps n) (sym may.new.snaps) ∙ at)) };
         }
 
     -- The head's map has the objects of a greater size before the size is set.
     sized_views : (to : ℕ) → OwnsAlone k site image (MaySize (maps_of k.maps site image) (objects_known_of k.objects site image) to) → (h : HeaderView) → r.headers image ≡ Some h
         → HasViews (with_size to h) (r.maps image)
-    sized_views to owns h is = record { there = record { head = all.there.head; snap = all.there.snap }; room = λ x inside. by x inside (cases_lt x h.size) }
+    sized_views to owns h is = record {
+      there = record { head = all.there.head; snap = all.there.snap };
+      room = record { head = λ x inside. by x inside (cases_lt x h.size); snap = all.room.snap };
+      within = record { head = cut_within to h.parent; snap = λ t s at. cut_stays to s.size h.parent (all.within.snap t s at) };
+    }
       where
         all : HasViews h (r.maps image)
         all = views image h is
@@ -247,7 +278,7 @@ module _ (site : SiteId) (r : Records) (f : Flat) (k : Knowledge) (you : Instanc
             omega (arith, below, long, len)
 
         by : (x : ℕ) → x < to → (x < h.size) ⊎ (h.size ≤ x) → object_of h.layout x < map_len (r.maps image None)
-        by x inside (inl within) = all.room x within
+        by x inside (inl within) = all.room.head x within
         by x inside (inr past) =
             let size : h.size ≡ owns.header.size = ap (λ (v : HeaderView). v.size) same in
             subst (λ (v : HeaderView). object_of v.layout x < map_len (r.maps image None)) (sym same) (grown x inside (omega (arith, inside, past, size)))
@@ -264,12 +295,20 @@ module _ (site : SiteId) (r : Records) (f : Flat) (k : Knowledge) (you : Instanc
         told_views (r.maps image) (cond (is_some (snap_named h.snaps name)) h (cond (is_full h) h (with_snap name h))) g at
         (either_views (r.maps image) (is_some (snap_named h.snaps name)) h (cond (is_full h) h (with_snap name h)) all
         (either_views (r.maps image) (is_full h) h (with_snap name h) all
-        (record { there = each_added name h (λ p. p) (λ t s at p. p) (λ p. ap is_some (put_next name permits h is).is) all.there; room = all.room })))
+        (record {
+          there = each_added name h (λ p. p) (λ t s at p. p) (λ p. ap is_some (put_next name permits h is).is) all.there;
+          room = each_added name h (λ p. p) (λ t s at p. p) (room_put (r.maps image) h (put_next name permits h is)) all.room;
+          within = each_added name h (λ p. p) (λ t s at p. p) (λ p. p) all.within;
+        })))
     header_views (header.SnapRemove snap) permits (Some h) is g at =
         let all = views image h is in
         told_views (r.maps image) (cond (is_some (snap_in h.snaps snap)) (without_snap snap h) h) g at
         (either_views (r.maps image) (is_some (snap_in h.snaps snap)) (without_snap snap h) h
-        (record { there = each_removed snap h (λ p. p) (λ t s at other p. p) all.there; room = all.room }) all)
+        (record {
+          there = each_removed snap h (λ p. p) (λ t s at other p. p) all.there;
+          room = each_removed snap h (λ p. p) (λ t s at other p. p) all.room;
+          within = each_removed snap h (λ p. p) (λ t s at other p. p) all.within;
+        }) all)
     header_views header.LockTake permits (Some h) is g at =
         told_views (r.maps image) (record h { owner = cond (is_some h.owner) h.owner (Some you) }) g at (owner_views (r.maps image) h (cond (is_some h.owner) h.owner (Some you)) (views image h is))
     header_views header.LockDrop permits (Some h) is g at =
@@ -291,12 +330,17 @@ module _ (site : SiteId) (r : Records) (f : Flat) (k : Knowledge) (you : Instanc
     left_views snap (inr owns) h is =
         let there = owned_there site r you k image _ t free owns in
         let same : h ≡ there.view = same_Some h there.view (sym is ∙ there.is) in
-        views_left (r.maps image) h snap (ap (λ (v : HeaderView). snap_in v.snaps snap) (same ∙ there.same) ∙ owns.meets.1) (views image h is)
+        views_apart (r.maps image) h snap None (ap (λ (v : HeaderView). snap_in v.snaps snap) (same ∙ there.same) ∙ owns.meets.1) (views image h is)
 
     map_views : (o : MapOp) → PermitsOnMap k site image o → (h : HeaderView) → r.headers image ≡ Some h → HasViews h (maps_behind (r.maps image) o)
     map_views (states.Resize count) permits h is = views_lengthened (r.maps image) h count (views image h is)
     map_views (states.Get view) permits h is = views_again (r.maps image) (maps_behind (r.maps image) (states.Get view)) h (same_again (r.maps image) view) (views image h is)
-    map_views (states.Put (Some snap) bits) permits h is = views_put (r.maps image) h snap (states_of bits (4 * length bits)) (views image h is)
+    map_views (states.Put (Some snap) bits) permits h is =
+        views_apart (r.maps image) h snap (Some (states_of bits (4 * length bits))) (unlisted (snap_in h.snaps snap) (put_unlisted snap bits permits h is)) (views image h is)
+      where
+        unlisted : (found : Option SnapView) → ((s : SnapView) → found ≡ Some s → ⊥) → found ≡ None
+        unlisted None never = refl
+        unlisted (Some s) never = absurd (never s refl)
     map_views (states.Set None object state) permits h is = views_set (r.maps image) h object state (views image h is)
     map_views (states.Remove None) permits h is = absurd (never_left permits.0 h is)
     map_views (states.Remove (Some snap)) permits h is = left_views snap permits h is
@@ -350,6 +394,7 @@ module _ (site : SiteId) (r : Records) (f : Flat) (k : Knowledge) (you : Instanc
           covered = cover_after [] r f you o stands covers (may_do site r you k most form mapped t o permits) (keeps_cover o permits) image h is;
           there = all.there;
           room = all.room;
+          within = all.within;
         };
     fresh = λ image past. stays_fresh o permits image past;
   }
@@ -369,12 +414,12 @@ pub mapped_trimmed : (r : Records) (image number : ℕ) → AreMapped r → AreM
 mapped_trimmed r image number mapped = record {
   images = λ i h is.
       let all = mapped.images i h is in
-      record { covered = cover_trimmed r image number (λ n g at. (mapped.images n g at).covered) i h is; there = all.there; room = all.room };
+      record { covered = cover_trimmed r image number (λ n g at. (mapped.images n g at).covered) i h is; there = all.there; room = all.room; within = all.within };
   fresh = mapped.fresh;
 }
 
 pub mapped_expired : (r : Records) (image : ℕ) (i : Instance) → AreMapped r → AreMapped (expired image i r)
 mapped_expired r image i mapped = record {
-  images = λ n h is. let all = mapped.images n h is in record { covered = all.covered; there = all.there; room = all.room };
+  images = λ n h is. let all = mapped.images n h is in record { covered = all.covered; there = all.there; room = all.room; within = all.within };
   fresh = mapped.fresh;
 }

@@ -136,6 +136,7 @@ module _ (site : SiteId) (r : Records) (me : Instance) (k : Knowledge) (most : �
         there = states_of bits (4 * length bits);
         is = ap (λ b. cond b (Some (states_of bits (4 * length bits))) (r.maps image (Some snap))) (eq-eqb snap snap refl);
         same = λ n. are.same n ∙ sym (ap (λ map. map_state_in map n) are.is);
+        long = let long = are.long in let len : map_len (r.maps image None) ≡ length are.there = ap map_len are.is in omega (arith, long, len);
       }
 
   -- ---- a state is set
@@ -148,7 +149,7 @@ module _ (site : SiteId) (r : Records) (me : Instance) (k : Knowledge) (most : �
   within_map object state owns map is =
       let there = owned_there site r me k image _ t free owns in
       let (x, inside, at) = owns.meets.within in
-      let room : HasRoomFor there.view.layout there.view.size (map_len (r.maps image None)) = (mapped.images image there.view there.is).room in
+      let room : HasRoomFor there.view.layout there.view.size (map_len (r.maps image None)) = (mapped.images image there.view there.is).room.head in
       let room_of_own : HasRoomFor owns.header.layout owns.header.size (map_len (r.maps image None)) = subst (λ (h : HeaderView). HasRoomFor h.layout h.size (map_len (r.maps image None))) there.same room in
       subst (λ m. object < map_len m) is (subst (λ n. n < map_len (r.maps image None)) at (room_of_own x inside))
 

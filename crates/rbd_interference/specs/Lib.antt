@@ -1,3 +1,4 @@
+pub mod Ancestors
 pub mod Truth
 pub mod Locks
 pub mod Turns

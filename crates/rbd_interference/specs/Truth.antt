@@ -2,9 +2,11 @@
 use Rattle.std.specs.Prelude.{◌≡◌, ◌≢◌, ◌⊎◌, ℕ, ◌<◌, ◌≤◌, ◌^◌, Bool, true, false, List, [], All, Any, length, slice_index, unwrap_or, Option, Some, None, IsFalse, IsSome}
 use Rattle.rbd_kinds.specs.declared.layout.Layout.{Layout}
 use Rattle.rbd_kinds.specs.declared.layout.Part.{Part}
+use Rattle.rbd_kinds.specs.Form.{IsOverlapWithin}
 use Rattle.rbd_kinds.specs.Striping.{offset_of}
 use Rattle.rbd_layout.specs.Pieces.{IsIn}
 use Rattle.rbd_kinds.specs.declared.header.HeaderView.{HeaderView}
+use Rattle.rbd_kinds.specs.declared.header.ParentLink.{ParentLink}
 use Rattle.rbd_kinds.specs.declared.id.Instance.{Instance}
 use Rattle.rbd_kinds.specs.declared.id.SiteId.{SiteId}
 use Rattle.rbd_object.specs.Mapped.{Mapped, mapped_blank}
@@ -52,6 +54,11 @@ abbrev pub map_state_in : (map : Option (List ℕ)) → (object : ℕ) → ℕ
 map_state_in None object = 0
 map_state_in (Some states) object = slice_index states object
 
+-- the objects of a map, none where there is no map
+abbrev pub map_len : (map : Option (List ℕ)) → ℕ
+map_len None = 0
+map_len (Some states) = length states
+
 -- the state of each object is 0
 abbrev pub HasNoStates : (map : Option (List ℕ)) → Type 0
 HasNoStates map = (object : ℕ) → map_state_in map object ≡ 0
@@ -64,11 +71,12 @@ pub record AreStatesOf (states : List ℕ) (map : Option (List ℕ)) : Type 0 wh
   pub long : length there ≤ length states
   pub few : length states ≤ 2 ^ 20
 
--- a snapshot's map is there, with the states of the head
+-- a snapshot's map is there, with the states of the head, and as many at least
 pub record IsPutAs (put head : Option (List ℕ)) : Type 0 where
   pub there : List ℕ
   pub is : put ≡ Some there
   pub same : (object : ℕ) → slice_index there object ≡ map_state_in head object
+  pub long : map_len head ≤ length there
 
 -- a map is there, of so many objects at least
 pub record HasAtLeast (count : ℕ) (map : Option (List ℕ)) : Type 0 where
@@ -149,22 +157,28 @@ pub record IsTrueAt (site : SiteId) (r : Records) (me : Instance) (k : Knowledge
 abbrev pub AreStandalone : Records → Type 0
 AreStandalone r = (image : ℕ) (h : HeaderView) → r.headers image ≡ Some h → IsStandalone h
 
--- the objects of a map, none where there is no map
-abbrev pub map_len : (map : Option (List ℕ)) → ℕ
-map_len None = 0
-map_len (Some states) = length states
-
--- An image has a map at each of its views, that of the head has all of its objects, and state 0
--- means that an object is absent there.
+-- An image has a map at each of its views, with all objects of the view's size, and state 0 means
+-- that an object is absent there. The head's overlap ends within each view: so an object inside it
+-- is one of each map.
 pub record HasMaps (h : HeaderView) (maps : Maps) (objects : ℕ → Mapped) : Type 0 where
   pub covered : AreCovered h maps objects
   pub there : EachView h (λ v shape. IsSome (maps v))
-  pub room : HasRoomFor h.layout h.size (map_len (maps None))
+  pub room : EachView h (λ v shape. HasRoomFor h.layout shape.size (map_len (maps v)))
+  pub within : EachView h (λ v shape. IsOverlapWithin shape.size h.parent)
 
 -- Each image has its maps. What is kept of an id that the directory hasn't drawn has no state.
 pub record AreMapped (r : Records) : Type 0 where
   pub images : (image : ℕ) (h : HeaderView) → r.headers image ≡ Some h → HasMaps h (r.maps image) (object_at r image)
   pub fresh : (image : ℕ) → r.directory.drawn < image → HasNoStates (r.maps image None)
+
+-- The image that a view has as its parent is less deep. So reads that go from parent to parent end.
+abbrev pub IsLower : Records → (depth : ℕ) → Option ParentLink → Type 0
+IsLower r depth None = Unit {0}
+IsLower r depth (Some link) = (parent : HeaderView) → r.headers link.image ≡ Some parent → parent.depth < depth
+
+abbrev pub AreRanked : Records → Type 0
+AreRanked r = (image : ℕ) (h : HeaderView) → r.headers image ≡ Some h
+    → EachView h (λ v shape. IsLower r h.depth shape.parent)
 
 -- the flat site after an effect, or after none
 abbrev pub changed_by : Flat → Option Effect → Flat

@@ -1,14 +1,20 @@
 //! What requests may rely on, whatever the others do: each law is the contract of a function that
 //! does nothing. A law speaks of any records of a site, and of what is known there.
-ghost use Rattle.std.specs.Prelude.{◌≡◌, ◌≢◌, ℕ, [], IsFalse, None, true, false};
+ghost use Rattle.std.specs.Prelude.{◌≡◌, ◌≢◌, ℕ, List, [], ◌∷◌, slice_index, IsFalse, Some, None, true, false};
 ghost use Rattle.rbd_kinds.specs.declared.answer.Answer.{Answer};
 ghost use Rattle.rbd_kinds.specs.declared.answer.Answer.TheVariants as answered;
+ghost use Rattle.rbd_kinds.specs.declared.data_op.DataOp.TheVariants as data_op;
+ghost use Rattle.rbd_kinds.specs.declared.header.HeaderView.{HeaderView};
 ghost use Rattle.rbd_kinds.specs.declared.id.Instance.{Instance};
 ghost use Rattle.rbd_kinds.specs.declared.id.SiteId.{SiteId as Site};
 ghost use Rattle.rbd_kinds.specs.declared.header_op.HeaderOp.TheVariants as header;
+ghost use Rattle.rbd_kinds.specs.declared.layout.Part.{Part};
 ghost use Rattle.rbd_kinds.specs.declared.operation.Op.{Op};
 ghost use Rattle.rbd_kinds.specs.declared.operation.Op.TheVariants as on;
-ghost use Rattle.rbd_flat.specs.Flat.{Flat};
+ghost use Rattle.rbd_kinds.specs.Striping.{object_of, offset_of};
+ghost use Rattle.rbd_flat.specs.Flat.{Flat, FlatSnap};
+ghost use Rattle.rbd_flat.specs.Laws.{snap_at};
+ghost use Rattle.rbd_machine.specs.Ancestors.{HeaderSeen, KnowsByte, KnowsInherited, ObjectTold, seen_by, told_by};
 ghost use Rattle.rbd_machine.specs.Knowledge.{Knowledge, nothing_known, is_drawn, is_gone, learned, known_after_wait, same_site};
 ghost use Rattle.rbd_machine.specs.Permits.{Permits};
 ghost use Rattle.rbd_machine.specs.Refused.{IsGiven};
@@ -20,12 +26,15 @@ ghost use Rattle.rbd_site.specs.Log.{expired, trimmed};
 ghost use Rattle.rbd_site.specs.Records.{Records, no_records};
 ghost use Rattle.rbd_site.specs.Step.{MayDo, is_fenced, answer_to, after};
 ghost use Rattle.rbd_site.specs.declared.done.DoneOp.TheVariants as done;
+ghost use Rattle.rbd_stands.specs.Condition.{IsGathered};
 ghost use Rattle.rbd_stands.specs.Effect.{effect_of};
+ghost use Rattle.rbd_stands.specs.Shown.{snapshots_of};
 ghost use Rattle.rbd_stands.specs.Site.{StandsFor};
+ghost use Rattle.rbd_interference.specs.Ancestors.{AreSeenTrue, AreToldTrue, DrewNoneOf};
 ghost use Rattle.rbd_interference.specs.Beside.{AreBeside, AreUnfenced, LeavesObject, MayAct};
 ghost use Rattle.rbd_interference.specs.Locks.{HasLockWhileFree, KnowsByLock, gives_up};
 ghost use Rattle.rbd_stands.specs.Owned.{HasLock};
-ghost use Rattle.rbd_interference.specs.Truth.{AreMapped, IsTrueAt, AreStandalone, changed_by, known_header};
+ghost use Rattle.rbd_interference.specs.Truth.{AreMapped, AreRanked, IsTrueAt, AreStandalone, changed_by, known_header};
 ghost use Rattle.rbd_interference.specs.Turns.{KnowsInTurn, KnowsOf};
 
 /// Who knows nothing knows nothing false.
@@ -81,6 +90,74 @@ pub fn sites_are_known_apart()
     ensures beside { (site other : Site) (r : Records) (me you : Instance) (k j : Knowledge) (op : Op) (answer : Answer)
         → IsFalse (same_site site other) → AreBeside other r me you k j
         → AreBeside other r me you (learned k site op answer) j }
+{}
+
+/// What a request was told of other images, whose lock it doesn't have, stays true whatever anybody
+/// does that is permitted to him: a header that it was told stays an earlier one, and what it read
+/// of a snapshot is so as long as the snapshot is listed. Nobody makes such an image anew: nobody
+/// drew its id. Trims and ends of watches leave it true too.
+pub fn what_was_told_stays_true()
+    ensures headers { (site : Site) (r : Records) (j : Knowledge) (you : Instance) (op : Op) (seen : List HeaderSeen)
+        → Permits j site op → DrewNoneOf site seen j → AreSeenTrue site r seen
+        → AreSeenTrue site (after r you op) seen }
+    ensures reads { (site : Site) (r : Records) (f : Flat) (j : Knowledge) (you : Instance) (op : Op) (most : ℕ)
+        (seen : List HeaderSeen) (told : List ObjectTold)
+        → StandsFor [] r f → AreInForm r most → AreStandalone r → AreMapped r → IsTrueAt site r you j
+        → Permits j site op → DrewNoneOf site seen j → AreToldTrue site r f seen told
+        → AreToldTrue site (after r you op) (changed_by f (effect_of r (done.Op op) (answer_to r you op)))
+        seen told }
+    ensures trim_headers { (site : Site) (r : Records) (seen : List HeaderSeen) (image number : ℕ)
+        → AreSeenTrue site r seen → AreSeenTrue site (trimmed image number r) seen }
+    ensures trim_reads { (site : Site) (r : Records) (f : Flat) (seen : List HeaderSeen) (told : List ObjectTold)
+        (image number : ℕ)
+        → AreToldTrue site r f seen told → AreToldTrue site (trimmed image number r) f seen told }
+    ensures expiry_headers { (site : Site) (r : Records) (seen : List HeaderSeen) (image : ℕ) (i : Instance)
+        → AreSeenTrue site r seen → AreSeenTrue site (expired image i r) seen }
+    ensures expiry_reads { (site : Site) (r : Records) (f : Flat) (seen : List HeaderSeen) (told : List ObjectTold)
+        (image : ℕ) (i : Instance)
+        → AreToldTrue site r f seen told → AreToldTrue site (expired image i r) f seen told }
+{}
+
+/// A header that is told is true, and so is what is read of a snapshot once it has its date: a
+/// header was told that could list it. More headers leave what was read true.
+pub fn what_is_told_is_true()
+    ensures header { (site : Site) (r : Records) (f : Flat) (me : Instance) (image : ℕ) (h : HeaderView)
+        (seen : List HeaderSeen) → StandsFor [] r f
+        → answer_to r me (on.Header image header.Get) ≡ answered.Header h → AreSeenTrue site r seen
+        → AreSeenTrue site r (seen_by seen site (on.Header image header.Get) (answered.Header h)) }
+    ensures bytes { (site : Site) (r : Records) (f : Flat) (me : Instance) (image snap number : ℕ) (parts : List Part)
+        (bytes : List ℕ) (seen : List HeaderSeen) (told : List ObjectTold)
+        → StandsFor [] r f
+        → answer_to r me (on.Data image number (data_op.Read (Some snap) parts)) ≡ answered.Bytes bytes
+        → AreSeenTrue site r seen → AreToldTrue site r f seen told
+        → AreToldTrue site r f seen
+        (told_by seen told site (on.Data image number (data_op.Read (Some snap) parts)) (answered.Bytes bytes)) }
+    ensures absence { (site : Site) (r : Records) (f : Flat) (me : Instance) (image snap number : ℕ) (parts : List Part)
+        (seen : List HeaderSeen) (told : List ObjectTold)
+        → StandsFor [] r f → answer_to r me (on.Data image number (data_op.Read (Some snap) parts)) ≡ answered.Absent
+        → AreSeenTrue site r seen → AreToldTrue site r f seen told
+        → AreToldTrue site r f seen
+        (told_by seen told site (on.Data image number (data_op.Read (Some snap) parts)) answered.Absent) }
+    ensures more { (site : Site) (r : Records) (f : Flat) (e : HeaderSeen) (seen : List HeaderSeen)
+        (told : List ObjectTold)
+        → AreToldTrue site r f seen told → AreToldTrue site r f (e ∷ seen) told }
+{}
+
+/// A byte that is known of a snapshot, by what was read of it and of those below it at several
+/// moments, is the flat snapshot's where that is there now. So who knows each byte that an object
+/// inherits has gathered what a copy-up has to put there.
+pub fn known_bytes_are_those_of_snapshots()
+    ensures snapshot { (site : Site) (r : Records) (f : Flat) (seen : List HeaderSeen) (told : List ObjectTold)
+        (image snap x byte : ℕ) (s : FlatSnap)
+        → StandsFor [] r f → AreSeenTrue site r seen → AreToldTrue site r f seen told
+        → KnowsByte told seen site image snap x byte
+        → snap_at f image snap ≡ Some s → slice_index s.bytes x ≡ byte }
+    ensures gathered { (site : Site) (r : Records) (f : Flat) (seen : List HeaderSeen) (told : List ObjectTold)
+        (image number : ℕ) (h : HeaderView) (bytes : List ℕ)
+        → StandsFor [] r f → AreSeenTrue site r seen → AreToldTrue site r f seen told → r.headers image ≡ Some h
+        → ((x : ℕ) → object_of h.layout x ≡ number
+        → KnowsInherited told seen site h.parent x (slice_index bytes (offset_of h.layout x)))
+        → IsGathered (snapshots_of f) h number bytes }
 {}
 
 /// Two requests that are beside each other stay so: whatever one of them learns by an operation
@@ -193,6 +270,16 @@ pub fn images_keep_their_maps()
         → AreMapped (after r you op) }
     ensures trim { (r : Records) (image number : ℕ) → AreMapped r → AreMapped (trimmed image number r) }
     ensures expiry { (r : Records) (image : ℕ) (i : Instance) → AreMapped r → AreMapped (expired image i r) }
+{}
+
+/// A parent is less deep than its child, and goes on to be, whatever is done that is permitted. So
+/// reads that go from parent to parent end.
+pub fn parents_stay_lower()
+    ensures first { AreRanked no_records }
+    ensures operation { (site : Site) (r : Records) (f : Flat) (k : Knowledge) (you : Instance) (op : Op)
+        → StandsFor [] r f → AreRanked r → Permits k site op → AreRanked (after r you op) }
+    ensures trim { (r : Records) (image number : ℕ) → AreRanked r → AreRanked (trimmed image number r) }
+    ensures expiry { (r : Records) (image : ℕ) (i : Instance) → AreRanked r → AreRanked (expired image i r) }
 {}
 
 /// What is permitted gives no image a parent or a journal, so no header that is told has one.

@@ -62,6 +62,9 @@
 //!   and may do it beside the first, and under the store's trims and ends of watches.
 //! - What an answer and a wait teach is true, and says nothing of the other site. A fenced instance
 //!   learns nothing, and changes nothing.
+//! - What was told of other images stays true: a header stays an earlier one, and what was read of
+//!   a snapshot is so as long as the snapshot is listed. So a byte that follows from several such
+//!   reads, through one layer after another (Ceph: RBD layering), is the flat snapshot's.
 //! - What is permitted by true knowledge meets the site's condition, and gets an answer that the
 //!   owner of what it changes can be given. Where the records stand for a flat site, it has the
 //!   effect there that `effect_of` tells, and no other.
@@ -80,6 +83,7 @@
 //! | file | what it says |
 //! |---|---|
 //! | `specs/Truth.antt` | when knowledge is true at a site (`IsTrueAt`); which maps images have |
+//! | `specs/Ancestors.antt` | when it is true what was told of images that a request doesn't own |
 //! | `specs/Locks.antt` | what an instance may count on of a lock that is its own |
 //! | `specs/Turns.antt` | what is known of single objects, in a turn |
 //! | `specs/Beside.antt` | which two requests are beside each other, and what one may do then |

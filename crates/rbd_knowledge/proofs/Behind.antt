@@ -68,7 +68,7 @@ module _ {R : Type 0} (stands : R → Standing) where
       lawful =
           subst (λ (s : Standing). IsLawful knows.known_at learns s.plan) (sym goes.request)
           (behind_lawful (stands r.request).labels knows.known_at knows.labels k (stands r.request).plan f can alone knows.lawful);
-      labels = λ label. subst (λ (s : Standing). IsLawful knows.known_at (knows.known_at label) (s.labels label)) (sym goes.request) (knows.labels label);
+      labels = λ label fit. subst (λ (s : Standing). IsLawful knows.known_at (knows.known_at label) (s.labels label)) (sym goes.request) (knows.labels label fit);
       tied =
           subst (λ t. IsTied learns (course_of slot t)) (sym goes.track)
           (behind_tied slot r.extent (stands r.request).labels (stands r.request).plan f (track_of r lines) k asks can fair on knows.tied);
@@ -173,7 +173,7 @@ module _ {R : Type 0} (stands : R → Standing) where
   same_stand_knows slot r q old new k same lines knows = record {
     known_at = knows.known_at;
     lawful = subst (λ (s : Standing). IsLawful knows.known_at k s.plan) (sym same.same) knows.lawful;
-    labels = λ label. subst (λ (s : Standing). IsLawful knows.known_at (knows.known_at label) (s.labels label)) (sym same.same) (knows.labels label);
+    labels = λ label fit. subst (λ (s : Standing). IsLawful knows.known_at (knows.known_at label) (s.labels label)) (sym same.same) (knows.labels label fit);
     tied = subst (λ t. IsTied k (course_of slot t)) (sym same_track) knows.tied;
     in_turn = knows.in_turn;
     has_turn = subst (HasItsTurns slot k) (sym lines) knows.has_turn;

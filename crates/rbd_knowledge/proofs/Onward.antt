@@ -12,13 +12,14 @@ use Rattle.rbd_kinds.specs.declared.machine.Fed.TheVariants as fed
 use Rattle.rbd_queue.specs.Line.{may_pass, member_of}
 use Rattle.rbd_machine.specs.Answers.{CanBeFed}
 use Rattle.rbd_machine.specs.Knowledge.{Knowledge, is_at, learned, known_after_wait}
-use Rattle.rbd_machine.specs.Label.{Label}
+use Rattle.rbd_machine.specs.Label.{Label, IsFit}
 use Rattle.rbd_machine.specs.Lawful.{IsLawful}
 use Rattle.rbd_machine.specs.Path.{at_operation}
 use Rattle.rbd_machine.specs.Plan.{Plan, Ask, Await, Note, Return, Goto, Standing, IsAsking, plan_after, past_label}
 use Rattle.rbd_machine.specs.Standalone.{IsFedStandalone}
 use Rattle.rbd_machine.specs.Wait.{Wait}
 use Rattle.rbd_machine.specs.Wait as wait
+use Rattle.rbd_machine.proofs.AtLeast.{lawful_by_more}
 use Rattle.rbd_machine.proofs.Lawful.{told_alone}
 use Rattle.rbd_slots.specs.Advance.{fed_by}
 use Rattle.rbd_slots.specs.OnTrack.{IsOnTrack, IsSomewhere, IsNowhereElse, AreFair}
@@ -38,13 +39,13 @@ use Rattle.rbd_knowledge.proofs.Turning.{answered_keeps_turns, turn_of_goes}
 
 -- ---- what it may do
 
-module _ (labels : Label → Plan) (at : Label → Knowledge) (lawful_there : (label : Label) → IsLawful at (at label) (labels label)) where
+module _ (labels : Label → Plan) (at : Label → Knowledge) (lawful_there : (label : Label) → IsFit label → IsLawful at (at label) (labels label)) where
   pub way_lawful : (plan : Plan) (k : Knowledge) → IsLawful at k plan → IsLawful at (known_at_operation k plan) (at_operation labels plan)
   way_lawful (Ask site why op next) k lawful = lawful
   way_lawful (Await w next) k lawful = way_lawful next (known_after_wait k w) lawful
   way_lawful (Note site image event next) k lawful = way_lawful next k lawful
   way_lawful (Return reply) k lawful = lawful
-  way_lawful (Goto label) k same = subst (λ known. IsLawful at known (labels label)) (sym same) (lawful_there label)
+  way_lawful (Goto label) k knows = lawful_by_more at (labels label) k (at label) knows.1 (lawful_there label knows.0)
 
   pub behind_lawful : (k : Knowledge) (plan : Plan) (f : Fed) → CanBeFed plan f → IsFedStandalone f → IsLawful at k plan → IsLawful at (known_behind k plan f) (at_operation labels (plan_after plan f))
   behind_lawful k (Ask site why op next) (fed.Answer a) can alone lawful = way_lawful (next a) (learned k site op a) (lawful.1 a (told_alone can alone))

@@ -5,7 +5,7 @@ use Rattle.rbd_kinds.specs.declared.machine.Fed.{Fed}
 use Rattle.rbd_kinds.specs.declared.reply.Reply.{Reply}
 use Rattle.rbd_queue.specs.Line.{has_turn}
 use Rattle.rbd_machine.specs.Knowledge.{Knowledge, nothing_known, known_after_wait}
-use Rattle.rbd_machine.specs.Label.{Label}
+use Rattle.rbd_machine.specs.Label.{Label, IsFit}
 use Rattle.rbd_machine.specs.Lawful.{IsLawful, known_after}
 use Rattle.rbd_machine.specs.Plan.{Plan, Await, Note, Standing, plan_after}
 use Rattle.rbd_interference.specs.Truth.{is_alone_on, known_header}
@@ -56,7 +56,7 @@ module _ {R : Type 0} (stands : R → Standing) where
   pub record KnowsBy (slot : ℕ) (r : Running R) (lines : LinesView) (k : Knowledge) : Type 0 where
     pub known_at : Label → Knowledge
     pub lawful : IsLawful known_at k (stands r.request).plan
-    pub labels : (label : Label) → IsLawful known_at (known_at label) ((stands r.request).labels label)
+    pub labels : (label : Label) → IsFit label → IsLawful known_at (known_at label) ((stands r.request).labels label)
     pub tied : IsTied k (course_of slot (track_of r lines))
     pub in_turn : KnowsInTurn k
     pub has_turn : HasItsTurns slot k (lines_of lines)

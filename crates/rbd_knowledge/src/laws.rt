@@ -10,7 +10,7 @@ ghost use Rattle.rbd_kinds.specs.declared.operation.Op.{Op};
 ghost use Rattle.rbd_kinds.specs.declared.reply.Reply.{Reply};
 ghost use Rattle.rbd_machine.specs.Answers.{CanBeFed};
 ghost use Rattle.rbd_machine.specs.Knowledge.{Knowledge, nothing_known, is_drawn, is_gone};
-ghost use Rattle.rbd_machine.specs.Label.{Label};
+ghost use Rattle.rbd_machine.specs.Label.{Label, IsFit};
 ghost use Rattle.rbd_machine.specs.Lawful.{IsLawful};
 ghost use Rattle.rbd_machine.specs.Path.{at_operation};
 ghost use Rattle.rbd_machine.specs.Plan.{Plan, Ask, Standing, plan_after};
@@ -77,7 +77,7 @@ pub fn who_may_go_on_may_act<R: Request>()
 /// much beside what another knows, as it was before the waits.
 pub fn waits_change_little()
     ensures lawful { (labels : Label → Plan) (known_at : Label → Knowledge)
-        → ((label : Label) → IsLawful known_at (known_at label) (labels label))
+        → ((label : Label) → IsFit label → IsLawful known_at (known_at label) (labels label))
         → (k : Knowledge) (plan : Plan) → IsLawful known_at k plan
         → IsLawful known_at (known_at_operation k plan) (at_operation labels plan) }
     ensures truth { (site : Site) (r : Records) (me : Instance) (k : Knowledge) (plan : Plan) → IsTrueAt site r me k

@@ -1,10 +1,11 @@
 -- The way to a lock and a release do only what they may.
-use Rattle.std.proofs.Common.{◌≡◌, ℕ, Bool, true, false, cond, ◌∙◌}
+use Rattle.std.proofs.Common.{ℕ, Bool, true, false, cond, sym, subst}
 use Rattle.rbd_kinds.specs.declared.answer.Answer.{Answer}
 use Rattle.rbd_kinds.specs.declared.answer.Answer.TheVariants as answer
 use Rattle.rbd_kinds.specs.declared.id.Instance.{Instance}
 use Rattle.rbd_kinds.specs.declared.id.SiteId.{SiteId}
-use Rattle.rbd_machine.specs.Knowledge.{Knowledge, learned, with_fence}
+use Rattle.rbd_machine.specs.AtLeast.{KnowsAtLeast}
+use Rattle.rbd_machine.specs.Knowledge.{Knowledge, learned, with_fence, without_fence}
 use Rattle.rbd_machine.specs.Label.{Label}
 use Rattle.rbd_machine.specs.Label as label
 use Rattle.rbd_machine.specs.Lawful.{CanTell, IsLawful}
@@ -16,21 +17,24 @@ use Rattle.rbd_lock.specs.Acquire.{acquire, again, asking, breaking, fencing, lo
 use Rattle.rbd_lock.specs.Release.{release, on_dropped}
 use Rattle.rbd_lock.specs.Steps.{block_add, lock_break, lock_take, watchers_get, is_instance_among}
 
-module _ (at : Label → Knowledge) (site : SiteId) (image : ℕ) (k : Knowledge) (at_lock : k ≡ at label.Lock) where
+module _ (at : Label → Knowledge) (site : SiteId) (image : ℕ) (k : Knowledge) (at_lock : KnowsAtLeast k (at label.Lock)) where
   -- The fence is forgotten with the break that it was for, so that at the lock the same is known.
   lawful_breaking : (owner : Instance) → IsLawful at (with_fence site owner k) (breaking site image owner)
   lawful_breaking owner = (fence_is_known k site owner, on)
     where
+      once_more : IsLawful at (without_fence site owner (with_fence site owner k)) again
+      once_more = (tt, subst (λ known. KnowsAtLeast known (at label.Lock)) (sym (fence_is_forgotten k site owner)) at_lock)
+
       on : (a : Answer) → CanTell (lock_break image owner) a → IsLawful at (learned (with_fence site owner k) site (lock_break image owner) a) (on_broken a)
-      on answer.Done can = fence_is_forgotten k site owner ∙ at_lock
-      on answer.Changed can = fence_is_forgotten k site owner ∙ at_lock
+      on answer.Done can = once_more
+      on answer.Changed can = once_more
       on a can = lawful_not_there at (with_fence site owner k) a
 
   lawful_fencing : (owner : Instance) → IsLawful at k (fencing site image owner)
   lawful_fencing owner = (tt, λ a can. lawful_on_done at (learned k site (block_add owner)) (breaking site image owner) (lawful_breaking owner) a)
 
   lawful_asking : IsLawful at k (asking site image)
-  lawful_asking = (tt, λ a can. lawful_on_done at (λ answered. k) again at_lock a)
+  lawful_asking = (tt, λ a can. lawful_on_done at (λ answered. k) again (tt, at_lock) a)
 
   lawful_by_look : (owner : Instance) (b : Bool) → IsLawful at k (cond b (asking site image) (fencing site image owner))
   lawful_by_look owner true = lawful_asking

@@ -11,6 +11,7 @@ ghost use Rattle.rbd_kinds.specs.declared.id.SiteId.{SiteId};
 ghost use Rattle.rbd_kinds.specs.declared.machine.Fed.{Fed};
 ghost use Rattle.rbd_kinds.specs.declared.reply.Reply.{Reply};
 ghost use Rattle.rbd_kinds.specs.declared.reply.Reply.TheVariants.{Done};
+ghost use Rattle.rbd_machine.specs.AtLeast.{KnowsAtLeast};
 ghost use Rattle.rbd_machine.specs.Knowledge.{Knowledge, learned};
 ghost use Rattle.rbd_machine.specs.Label.{Label, Lock};
 ghost use Rattle.rbd_machine.specs.Lawful.{IsLawful, IsLawfulRequest};
@@ -120,12 +121,12 @@ pub fn ways_are_told_apart()
 {}
 
 /// The way to a lock does only what it may, whatever was known before it, where what comes next
-/// does so by what is known once the lock is taken. At the label `Lock` the same is known in each
+/// does so by what is known once the lock is taken. At the label `Lock` no less is known in each
 /// round, since a fence is forgotten with the break that it was for.
 pub fn ways_are_lawful()
     ensures way { (known_at : Label → Knowledge) (k : Knowledge) (site : SiteId) (image : ℕ)
         (watched : Bool) (next : Plan)
-        → k ≡ known_at Lock → IsLawful known_at (learned k site (lock_take image) DoneSo) next
+        → KnowsAtLeast k (known_at Lock) → IsLawful known_at (learned k site (lock_take image) DoneSo) next
         → IsLawful known_at k (acquire site image watched next) }
     ensures alone { (site : SiteId) (image : ℕ) (watched : Bool)
         → IsLawfulRequest (record {

@@ -20,13 +20,14 @@ use Rattle.rbd_kinds.specs.Form.{IsHeaderInForm}
 use Rattle.rbd_kinds.proofs.Images.{at_itself}
 use Rattle.rbd_machine.specs.Answers.{CanGive, CanBeFed}
 use Rattle.rbd_machine.specs.Knowledge.{Knowledge, Own, nothing_known, is_at, is_gone, own_of, header_told, first_told, owns_without, looked_under_lock, learned, known_after_wait, maps_told, unmapped, ImageMaps, MapsKnown, maps_of}
-use Rattle.rbd_machine.specs.Label.{Label}
+use Rattle.rbd_machine.specs.Label.{Label, IsFit}
 use Rattle.rbd_machine.specs.Lawful.{CanTell, IsLawful, known_after}
 use Rattle.rbd_machine.specs.Permits.{IsLeftOver, OwnsBy}
 use Rattle.rbd_machine.specs.Plan.{Plan, Ask, Await, Note, Return, Goto, past_label, plan_after}
 use Rattle.rbd_machine.specs.Standalone.{IsFedStandalone, IsStandalone, TellsStandalone}
 use Rattle.rbd_machine.specs.Steps.{or_else, unless, not_there, on_id, on_header, on_done, change_plan, looked, holding, owned, joining}
 use Rattle.rbd_machine.specs.Wait as wait
+use Rattle.rbd_machine.proofs.AtLeast.{lawful_by_more}
 
 -- ---- places
 
@@ -147,13 +148,13 @@ one_header k s image alone h condition is owns = ap (λ o. header_of o h) (sym o
 pub told_alone : {o : Op} {a : Answer} → CanGive o a → TellsStandalone a → CanTell o a
 told_alone can alone = record { word = can.word; form = can.form; standalone = alone }
 
-module _ (labels : Label → Plan) (at : Label → Knowledge) (lawful_there : (label : Label) → IsLawful at (at label) (labels label)) where
-  lawful_settled : (k : Knowledge) (plan : Plan) → IsLawful at k plan → IsLawful at k (past_label labels plan)
+module _ (labels : Label → Plan) (at : Label → Knowledge) (lawful_there : (label : Label) → IsFit label → IsLawful at (at label) (labels label)) where
+  pub lawful_settled : (k : Knowledge) (plan : Plan) → IsLawful at k plan → IsLawful at k (past_label labels plan)
   lawful_settled k (Ask site why op next) lawful = lawful
   lawful_settled k (Await wait next) lawful = lawful
   lawful_settled k (Note site image event next) lawful = lawful
   lawful_settled k (Return reply) lawful = lawful
-  lawful_settled k (Goto label) same = subst (λ known. IsLawful at known (labels label)) (sym same) (lawful_there label)
+  lawful_settled k (Goto label) knows = lawful_by_more at (labels label) k (at label) knows.1 (lawful_there label knows.0)
 
   pub stays_lawful : (k : Knowledge) (plan : Plan) (f : Fed) → CanBeFed plan f → IsFedStandalone f → IsLawful at k plan → IsLawful at (known_after k plan f) (past_label labels (plan_after plan f))
   stays_lawful k (Ask site why op next) (fed.Answer a) can alone lawful = lawful_settled (learned k site op a) (next a) (lawful.1 a (told_alone can alone))

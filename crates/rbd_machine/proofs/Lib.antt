@@ -5,6 +5,7 @@ pub mod Walks
 pub mod Tells
 pub mod Passed
 pub mod Closed
+pub mod AtLeast
 pub mod Lawful
 pub mod Fences
 pub mod About

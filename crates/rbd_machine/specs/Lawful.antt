@@ -6,8 +6,9 @@ use Rattle.rbd_kinds.specs.declared.machine.Fed.TheVariants as fed
 use Rattle.rbd_kinds.specs.AnswerForm.{IsInForm}
 use Rattle.rbd_kinds.specs.declared.operation.Op.{Op}
 use Rattle.rbd_machine.specs.Answers.{gives}
+use Rattle.rbd_machine.specs.AtLeast.{KnowsAtLeast}
 use Rattle.rbd_machine.specs.Knowledge.{Knowledge, nothing_known, learned, known_after_wait}
-use Rattle.rbd_machine.specs.Label.{Label}
+use Rattle.rbd_machine.specs.Label.{Label, IsFit}
 use Rattle.rbd_machine.specs.Permits.{Permits}
 use Rattle.rbd_machine.specs.Plan.{Plan, Ask, Await, Note, Return, Goto, Standing}
 use Rattle.rbd_machine.specs.Standalone.{TellsStandalone}
@@ -19,21 +20,22 @@ pub record CanTell (o : Op) (a : Answer) : Type 0 where
   pub standalone : TellsStandalone a
 
 -- Each operation is permitted by what is known where it is asked for, whatever the operations
--- before it were answered of what they can tell. A request goes to a label only with what is known
--- at that label.
+-- before it were answered of what they can tell. A request goes to a label only where at least so
+-- much is known as at that label.
 abbrev pub IsLawful : (at : Label → Knowledge) → Knowledge → Plan → Type 0
 IsLawful at k (Ask site why op next) =
     Permits k site op × ((answer : Answer) → CanTell op answer → IsLawful at (learned k site op answer) (next answer))
 IsLawful at k (Await wait next) = IsLawful at (known_after_wait k wait) next
 IsLawful at k (Note site image event next) = IsLawful at k next
 IsLawful at k (Return reply) = Unit {0}
-IsLawful at k (Goto label) = k ≡ at label
+IsLawful at k (Goto label) = IsFit label × KnowsAtLeast k (at label)
 
--- A request begins with nothing known, and is lawful from there and from each of its labels.
+-- A request begins with nothing known, and is lawful from there and from each of its labels that is
+-- fit.
 pub record IsLawfulRequest (standing : Standing) : Type 0 where
   pub known_at : Label → Knowledge
   pub plan : IsLawful known_at nothing_known standing.plan
-  pub labels : (label : Label) → IsLawful known_at (known_at label) (standing.labels label)
+  pub labels : (label : Label) → IsFit label → IsLawful known_at (known_at label) (standing.labels label)
 
 -- what is known after what it was fed
 abbrev pub known_after : Knowledge → Plan → Fed → Knowledge

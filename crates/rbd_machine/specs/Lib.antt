@@ -10,8 +10,10 @@ pub mod Passes
 pub mod Standalone
 pub mod Turns
 pub mod Approach
+pub mod Ancestors
 pub mod Knowledge
 pub mod Permits
+pub mod AtLeast
 pub mod Lawful
 pub mod About
 pub mod Refused

@@ -11,7 +11,7 @@ ghost use Rattle.rbd_kinds.specs.declared.map_op.MapOp.TheVariants.{Remove as Re
 ghost use Rattle.rbd_kinds.specs.declared.operation.Op.{Op};
 ghost use Rattle.rbd_kinds.specs.declared.operation.Op.TheVariants.{BlockAdd, Data, Directory, Header, Map};
 ghost use Rattle.rbd_header.specs.Header.{context_of, snap_in};
-ghost use Rattle.rbd_machine.specs.Knowledge.{Knowledge, is_absent, is_fenced_by, is_gone, is_raised, learned, maps_of, objects_known_of, only_there, own_of, same_site};
+ghost use Rattle.rbd_machine.specs.Knowledge.{Knowledge, is_absent, is_fenced_by, is_gone, is_raised, learned, maps_of, objects_known_of, only_there, own_of, same_site, known_after_wait};
 ghost use Rattle.rbd_machine.specs.Permits.{Permits};
 ghost use Rattle.rbd_kinds.specs.declared.header.HeaderView.{HeaderView};
 ghost use Rattle.rbd_kinds.specs.declared.id.Instance.{Instance};
@@ -21,7 +21,8 @@ ghost use Rattle.rbd_commands.specs.declared.refusal.Refusal.{Refusal};
 ghost use Rattle.rbd_kinds.specs.declared.machine.Fed.{Fed};
 ghost use Rattle.rbd_kinds.specs.declared.machine.Want.TheVariants.{Note, Op as WantsOp};
 ghost use Rattle.rbd_kinds.specs.declared.operation_kind.OpKind.{OpKind};
-ghost use Rattle.rbd_machine.specs.Label.{Label};
+ghost use Rattle.rbd_machine.specs.AtLeast.{KnowsAtLeast};
+ghost use Rattle.rbd_machine.specs.Label.{Label, IsFit};
 ghost use Rattle.rbd_kinds.specs.declared.answer.Answer.{Answer};
 ghost use Rattle.rbd_kinds.specs.declared.answer.Answer.TheVariants.{Changed, Done};
 ghost use Rattle.rbd_machine.specs.Answers.{CanBeFed};
@@ -32,6 +33,7 @@ ghost use Rattle.rbd_machine.specs.Path.{Answered, IsPath, IsPass, IsWalk, IsBou
 ghost use Rattle.rbd_machine.specs.Passes.{EndsInPass, jumps};
 ghost use Rattle.rbd_machine.specs.Standalone.{IsFedStandalone};
 ghost use Rattle.rbd_machine.specs.Steps.{change_plan};
+ghost use Rattle.rbd_machine.specs.Wait.{Wait};
 
 /// A request that wants an operation has one to ask for, and where one wants an event noted, its
 /// plan says which.
@@ -192,6 +194,19 @@ pub fn fences_serve_once()
         → learned (learned k site (BlockAdd i) Done) site (Header image (LockBreak i)) Changed ≡ k }
 {}
 
+/// Who knows at least as much may do as much, and goes on to know as much, whatever both are
+/// answered. So a plan that is lawful by what is known at a label is so by more.
+pub fn who_knows_more_may_do_more()
+    ensures permits { (more less : Knowledge) (site : SiteId) (op : Op)
+        → KnowsAtLeast more less → Permits less site op → Permits more site op }
+    ensures learned { (more less : Knowledge) (site : SiteId) (op : Op) (answer : Answer)
+        → KnowsAtLeast more less → KnowsAtLeast (learned more site op answer) (learned less site op answer) }
+    ensures waited { (more less : Knowledge) (wait : Wait)
+        → KnowsAtLeast more less → KnowsAtLeast (known_after_wait more wait) (known_after_wait less wait) }
+    ensures lawful { (at : Label → Knowledge) (plan : Plan) (more less : Knowledge)
+        → KnowsAtLeast more less → IsLawful at less plan → IsLawful at more plan }
+{}
+
 /// A lawful request asks only for what it may by what it knows. It stays lawful by what it knows
 /// then, whatever it is fed, as long as no header that it is told has a parent or a journal.
 pub fn lawful_requests_stay_lawful()
@@ -199,7 +214,7 @@ pub fn lawful_requests_stay_lawful()
         (next : Answer → Plan)
         → IsLawful at k (Ask site why op next) → Permits k site op }
     ensures stays { (labels : Label → Plan) (at : Label → Knowledge)
-        → ((label : Label) → IsLawful at (at label) (labels label))
+        → ((label : Label) → IsFit label → IsLawful at (at label) (labels label))
         → (k : Knowledge) (plan : Plan) (f : Fed)
         → CanBeFed plan f → IsFedStandalone f → IsLawful at k plan
         → IsLawful at (known_after k plan f) (past_label labels (plan_after plan f)) }

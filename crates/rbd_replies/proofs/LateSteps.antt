@@ -16,7 +16,7 @@ use Rattle.rbd_kinds.specs.declared.operation.Op.TheVariants as op
 use Rattle.rbd_kinds.specs.declared.reply.Reply.{Reply}
 use Rattle.rbd_machine.proofs.Lawful.{stays_lawful}
 use Rattle.rbd_machine.specs.Knowledge.{Knowledge, is_gone, learned, nothing_known, known_after_wait}
-use Rattle.rbd_machine.specs.Label.{Label}
+use Rattle.rbd_machine.specs.Label.{Label, IsFit}
 use Rattle.rbd_machine.specs.Lawful.{IsLawful, IsLawfulRequest}
 use Rattle.rbd_machine.specs.Path.{Answered, IsWalk}
 use Rattle.rbd_machine.specs.Permits.{IsLeftOver, MayLengthen, OwnsBy, Permits}
@@ -40,7 +40,7 @@ use Rattle.rbd_replies.proofs.Taught.{drew_by, removed_by}
 
 -- ---- a walk of a lawful plan
 
-module _ (labels : Label → Plan) (at : Label → Knowledge) (lawful_there : (label : Label) → IsLawful at (at label) (labels label)) where
+module _ (labels : Label → Plan) (at : Label → Knowledge) (lawful_there : (label : Label) → IsFit label → IsLawful at (at label) (labels label)) where
   walk_lawful : (feds : List Fed) (k : Knowledge) (plan : Plan) (steps : List Answered) (last : Plan) → IsLawful at k plan → AreGiven steps → TellAllStandalone steps
       → IsWalk labels plan feds steps last → IsLawful at (known_along labels k plan feds) last
   walk_lawful [] k plan steps last lawful given told (none, same) = subst (IsLawful at k) (sym same) lawful

@@ -24,7 +24,7 @@ use crate::heard::Heard;
 use crate::runner::Runner;
 use rbd_kinds::{Instance, NoMemory, Notice, SessionNo};
 use rbd_machine::Machine;
-use rbd_world::{Event, World};
+use rbd_world::World;
 use std::alloc::Global;
 use std::collections::{HashSet, VecDeque};
 
@@ -42,7 +42,7 @@ impl Runner {
         let all = self.world.notices();
         let mut told = 0;
         while let Some(number) = self.next_due(session, told, all) {
-            self.happen(alloc, Event::Deliver { number })?;
+            self.deliver_and_start(alloc, number)?;
             told = number;
         }
         Ok(())

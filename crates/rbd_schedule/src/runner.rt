@@ -179,6 +179,19 @@ impl Runner {
         Ok(outcome)
     }
 
+    /// A notice is delivered, and then all that may start does.
+    pub fn deliver_and_start(&mut self, alloc: Global, number: u64) -> Result<(), NoMemory>
+        requires { KeepsUp self.old }
+        ensures happens { OnOk result (Happens as_is (given_to self.old) (of_event.Deliver number)
+            (seen self.old.world) (seen self.new.world)) }
+        ensures goes { OnOk result (RunnerGoesOn self.old self.new) }
+    {
+        let from = self.world.history().len();
+        let outcome = self.world.deliver(number)?;
+        self.note(from, Some(number), &outcome)?;
+        self.start_all(alloc)
+    }
+
     /// An event that begins no command, and then all that may start.
     pub fn happen(&mut self, alloc: Global, event: Event) -> Result<(), NoMemory>
         requires keeps { KeepsUp self.old }
@@ -292,6 +305,17 @@ impl Runner {
         if !self.is_due {
             return Ok(());
         }
+        self.start_due(alloc)
+    }
+
+    // Not inline: behind most events none may start, and then its frame would be made for nothing.
+    /// The same where one may.
+    #[inline(never)]
+    fn start_due(&mut self, alloc: Global) -> Result<(), NoMemory>
+        requires { KeepsUp self.old }
+        ensures starts { OnOk result (StartsAll as_is (given_to self.old) (seen self.old.world) (seen self.new.world)) }
+        ensures goes { OnOk result (RunnerGoesOn self.old self.new) }
+    {
         for session in 0..self.queues.len() {
             self.start_each(alloc, SessionNo(session as u8))?;
         }

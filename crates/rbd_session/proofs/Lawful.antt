@@ -1,5 +1,5 @@
 -- The plans do what they may.
-use Rattle.std.proofs.Common.{ℕ, List, true, cond, Option, Some, None, refl, ap}
+use Rattle.std.proofs.Common.{ℕ, List, true, cond, Option, Some, None, ap}
 use Rattle.rbd_kinds.specs.declared.sharing.Sharing.TheVariants as sharing
 use Rattle.rbd_kinds.specs.declared.answer.Answer.{Answer}
 use Rattle.rbd_kinds.specs.declared.answer.Answer.TheVariants as answer
@@ -14,6 +14,7 @@ use Rattle.rbd_machine.specs.Lawful.{IsLawful, IsLawfulRequest}
 use Rattle.rbd_machine.specs.Permits.{HoldsUnlooked}
 use Rattle.rbd_machine.specs.Plan.{without_labels}
 use Rattle.rbd_machine.specs.Refused.{refuses_none}
+use Rattle.rbd_machine.proofs.AtLeast.{jump_lawful}
 use Rattle.rbd_machine.proofs.Lawful.{holding_known, lawful_not_there, lawful_on_id, lawful_on_done, lawful_change}
 use Rattle.rbd_meaning.specs.Straight.{Straight, straight_of}
 use Rattle.rbd_session.specs.Close.{close, close_plan, replies_done, dropping, joining, on_dropped, quiesced, straight_plan, telling, unwatching}
@@ -57,4 +58,4 @@ lawful_plan site (command.Quiesce image) = lawful_change known_nowhere site imag
 lawful_plan site c = lawful_straight site (straight_of c)
 
 pub lawful_request : (site : SiteId) (c : Command) → IsLawfulRequest (without_labels (close_plan site c))
-lawful_request site c = record { known_at = known_nowhere; plan = lawful_plan site c; labels = λ label. refl }
+lawful_request site c = record { known_at = known_nowhere; plan = lawful_plan site c; labels = jump_lawful known_nowhere }

@@ -23,6 +23,7 @@ use Rattle.rbd_machine.specs.Lawful.{CanTell, IsLawful, IsLawfulRequest}
 use Rattle.rbd_machine.specs.Objects.{data_read}
 use Rattle.rbd_machine.specs.Plan.{Plan, without_labels}
 use Rattle.rbd_machine.specs.Steps.{applied}
+use Rattle.rbd_machine.proofs.AtLeast.{jump_lawful}
 use Rattle.rbd_machine.proofs.Lawful.{lawful_change, lawful_not_there, own_is_found, under_lock_known}
 use Rattle.rbd_meaning.specs.Rollbacks.{at_size, rollback_refuses}
 use Rattle.rbd_pieces.specs.Gather.{gather, on_bytes}
@@ -100,4 +101,4 @@ module _ (at : Label → Knowledge) (site : SiteId) where
   lawful_rollback_plan _ = tt
 
 pub lawful_rollback_request : (site : SiteId) (c : Command) → IsLawfulRequest (without_labels (rollback_plan site c))
-lawful_rollback_request site c = record { known_at = λ label. nothing_known; plan = lawful_rollback_plan (λ label. nothing_known) site c; labels = λ label. refl }
+lawful_rollback_request site c = record { known_at = λ label. nothing_known; plan = lawful_rollback_plan (λ label. nothing_known) site c; labels = jump_lawful (λ label. nothing_known) }

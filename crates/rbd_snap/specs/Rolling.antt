@@ -1,6 +1,8 @@
 -- Where a rollback stands, as a part of a request and as a request.
-use Rattle.std.specs.Prelude.{ℕ, Option}
+use Rattle.std.specs.Prelude.{ℕ, Option, Some}
 use Rattle.rbd_commands.specs.declared.refusal.Refusal.{Refusal}
+use Rattle.rbd_kinds.specs.declared.sharing.Sharing.{Sharing}
+use Rattle.rbd_kinds.specs.declared.sharing.Sharing.TheVariants as sharing
 use Rattle.rbd_kinds.specs.declared.answer.Answer.{Answer}
 use Rattle.rbd_kinds.specs.declared.header.HeaderView.{HeaderView}
 use Rattle.rbd_kinds.specs.declared.id.SiteId.{SiteId}
@@ -51,8 +53,11 @@ IsPartReady r = IsPartReadyAt r.stage
 abbrev pub refuses_of : RollbackChange → HeaderView → Option Refusal
 refuses_of change = rollback_refuses change.snap
 
-abbrev pub event_of : RollbackChange → JournalEvent
-event_of change = event.SnapRollback change.snap
+abbrev pub shares_of : RollbackChange → Sharing
+shares_of change = sharing.Alone
+
+abbrev pub event_of : RollbackChange → Option JournalEvent
+event_of change = Some (event.SnapRollback change.snap)
 
 abbrev pub does : RollbackChange → SiteId → (image : ℕ) → HeaderView → Plan
 does change site = roll_back_to site change.snap

@@ -1,6 +1,8 @@
 -- Where a request of `snap create` or `snap rm` stands.
-use Rattle.std.specs.Prelude.{ℕ, List, Option}
+use Rattle.std.specs.Prelude.{ℕ, List, Option, Some}
 use Rattle.rbd_commands.specs.declared.refusal.Refusal.{Refusal}
+use Rattle.rbd_kinds.specs.declared.sharing.Sharing.{Sharing}
+use Rattle.rbd_kinds.specs.declared.sharing.Sharing.TheVariants as sharing
 use Rattle.rbd_kinds.specs.declared.answer.Answer.{Answer}
 use Rattle.rbd_kinds.specs.declared.header.HeaderView.{HeaderView}
 use Rattle.rbd_kinds.specs.declared.id.SiteId.{SiteId}
@@ -45,8 +47,11 @@ abbrev pub event_by : ChangeKind → (snap : List ℕ) → JournalEvent
 event_by kind.Create = event.SnapCreate
 event_by kind.Remove = event.SnapRemove
 
-abbrev pub event_of : SnapChange → JournalEvent
-event_of change = event_by change.kind change.snap
+abbrev pub shares_of : SnapChange → Sharing
+shares_of change = sharing.Alone
+
+abbrev pub event_of : SnapChange → Option JournalEvent
+event_of change = Some (event_by change.kind change.snap)
 
 abbrev pub does_by : ChangeKind → SiteId → (snap : List ℕ) → (image : ℕ) → HeaderView → Plan
 does_by kind.Create = take

@@ -3,11 +3,11 @@ ghost use Rattle.std.specs.Prelude.{◌≡◌};
 ghost use Rattle.rbd_kinds.specs.Header.{snap_named};
 ghost use Rattle.rbd_meaning.specs.Rollbacks.{listing_refusal};
 ghost use Rattle.rbd_snap.specs.Rollback.{is_rollback, rollback_plan};
-ghost use Rattle.rbd_snap.specs.Rolling.{refuses_of, event_of, does};
+ghost use Rattle.rbd_snap.specs.Rolling.{refuses_of, event_of, shares_of, does};
 
 use crate::rollback::Rollback;
 use rbd_change::{Change, ChangeRequest};
-use rbd_kinds::{Command, HeaderView, ImageId, Name, NoMemory, Refusal, SiteId};
+use rbd_kinds::{Command, HeaderView, ImageId, Name, NoMemory, Refusal, Sharing, SiteId};
 use rbd_machine::{Refuses, non_primary};
 use std::alloc::Global;
 
@@ -42,6 +42,8 @@ impl Change for RollbackChange {
 
     ghost plan = { rollback_plan };
 
+    ghost shares = { shares_of };
+
     ghost noted = { event_of };
 
     ghost does = { does };
@@ -56,6 +58,14 @@ impl Change for RollbackChange {
             }
             _ => unreachable!(),
         }
+    }
+
+    fn sharing(&self) -> Sharing {
+        Sharing::Alone
+    }
+
+    fn has_event(&self) -> bool {
+        true
     }
 
     fn part(

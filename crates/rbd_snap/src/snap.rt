@@ -4,7 +4,7 @@ ghost use Rattle.rbd_kinds.specs.Header.{snap_named};
 ghost use Rattle.rbd_header.specs.Header.{is_full as lists_all};
 ghost use Rattle.rbd_meaning.specs.Snaps.{removal_refusal, is_unprotected};
 ghost use Rattle.rbd_snap.specs.Snap.{is_snap, snap_plan};
-ghost use Rattle.rbd_snap.specs.Snapping.{rest_of_part, TellsPart, IsPartReady, refuses_of, event_of, does};
+ghost use Rattle.rbd_snap.specs.Snapping.{rest_of_part, TellsPart, IsPartReady, refuses_of, event_of, shares_of, does};
 ghost use Rattle.rbd_snap.specs.SnapLaws.{part_asks, part_tells};
 
 use crate::remove_snap::RemoveSnap;
@@ -12,7 +12,7 @@ use crate::take_snap::TakeSnap;
 use rbd_change::{Change, ChangeRequest, ChangeSteps};
 use rbd_header::is_full;
 use rbd_kinds::{
-    Answer, Command, HeaderView, ImageId, Name, NoMemory, Op, Refusal, SiteId, SnapStatus,
+    Answer, Command, HeaderView, ImageId, Name, NoMemory, Op, Refusal, Sharing, SiteId, SnapStatus,
     TryClone, Want,
 };
 use rbd_machine::{Progress, Refuses, non_primary};
@@ -65,6 +65,8 @@ impl Change for SnapChange {
 
     ghost plan = { snap_plan };
 
+    ghost shares = { shares_of };
+
     ghost noted = { event_of };
 
     ghost does = { does };
@@ -87,6 +89,14 @@ impl Change for SnapChange {
             }
             _ => unreachable!(),
         }
+    }
+
+    fn sharing(&self) -> Sharing {
+        Sharing::Alone
+    }
+
+    fn has_event(&self) -> bool {
+        true
     }
 
     fn part(

@@ -31,7 +31,7 @@ parent_kept below after linked (Some link) keeps has =
     let kept = keeps has.snap has.is in
     record { snap = kept.snap; is = kept.is; long = subst (λ (bs : List ℕ). link.overlap ≤ length bs) (sym kept.bytes) has.long; kept = kept.kept has.kept; child = has.child }
 
-inherited_kept : (below after : Snapshots) (linked : Links) (parent : Option ParentLink) → KeepsParent below after parent → HasParent below linked parent → (x : ℕ) → inherited after parent x ≡ inherited below parent x
+pub inherited_kept : (below after : Snapshots) (linked : Links) (parent : Option ParentLink) → KeepsParent below after parent → HasParent below linked parent → (x : ℕ) → inherited after parent x ≡ inherited below parent x
 inherited_kept below after linked None keeps has x = refl
 inherited_kept below after linked (Some link) keeps has x =
     let kept = keeps has.snap has.is in

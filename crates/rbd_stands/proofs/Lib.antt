@@ -18,6 +18,7 @@ pub mod Contexts
 pub mod DirectorySteps
 pub mod ImageSteps
 pub mod Telling
+pub mod Told
 pub mod DataSteps
 pub mod EffectLemmas
 pub mod HeaderEdits

@@ -7,6 +7,7 @@ pub mod Covering
 pub mod Effect
 pub mod Unseen
 pub mod Reading
+pub mod Told
 pub mod Writing
 pub mod Owned
 pub mod Kept

@@ -1,6 +1,6 @@
 //! What each operation does to the relation `StandsFor`: laws, each the contract of a function that
 //! does nothing. A law speaks of any records, and of any flat site that they stand for.
-ghost use Rattle.std.specs.Prelude.{◌≡◌, ℕ, ◌↔◌, List, [], All, Option, Some, None, Bool, true, false, IsTrue, IsFalse, IsSome, ◌∷◌, slice_get};
+ghost use Rattle.std.specs.Prelude.{◌≡◌, ℕ, ◌≤◌, ◌↔◌, List, [], All, Option, Some, None, Bool, true, false, IsTrue, IsFalse, IsSome, ◌∷◌, slice_get};
 ghost use Rattle.std.specs.FinMap as finmap;
 ghost use Rattle.rbd_kinds.specs.declared.answer.Answer.{Answer};
 ghost use Rattle.rbd_kinds.specs.declared.answer.Answer.TheVariants as answer;
@@ -27,6 +27,7 @@ ghost use Rattle.rbd_kinds.specs.Form.{IsNewHeader};
 ghost use Rattle.rbd_kinds.specs.Striping.{IsLayout};
 ghost use Rattle.rbd_layout.specs.Pieces.{IsPart, IsPieces};
 ghost use Rattle.rbd_header.specs.Header.{context_of, snap_in};
+ghost use Rattle.rbd_header.specs.Later.{IsLaterOf};
 ghost use Rattle.rbd_object.specs.Kept.{is_listed};
 ghost use Rattle.rbd_object.specs.Mapped.{mapped_change};
 ghost use Rattle.rbd_flat.specs.declared.effect.Effect.{Effect};
@@ -41,7 +42,7 @@ ghost use Rattle.rbd_site.specs.Laws.{may_have_changed, is_look};
 ghost use Rattle.rbd_site.specs.declared.done.DoneOp.TheVariants as done;
 ghost use Rattle.rbd_site.specs.Log.{expired_by, live_in, trimmed};
 ghost use Rattle.rbd_site.specs.Records.{Records, no_records, object_at, with_object};
-ghost use Rattle.rbd_site.specs.Step.{is_fenced, answer_to, after};
+ghost use Rattle.rbd_site.specs.Step.{MayDo, is_fenced, answer_to, after};
 ghost use Rattle.rbd_stands.specs.Condition.{IsContextOf, ArePartsBelow, AreWhole, IsCopiedUp, ChangesObject, IsZeroPast, IsZeroedFrom, IsUnnamed, IsDrawn, IsFree, IsCloneHeader, MayCopyUp, extents_of};
 ghost use Rattle.rbd_stands.specs.Effect.{effect_of, effect_of_data};
 ghost use Rattle.rbd_stands.specs.Image.{IsInside};
@@ -49,6 +50,7 @@ ghost use Rattle.rbd_stands.specs.Reading.{TellsFlatImage, AreFlatBytes, AreInhe
 ghost use Rattle.rbd_stands.specs.Unseen.{is_about, is_unseen};
 ghost use Rattle.rbd_stands.specs.Shown.{HasParent, links_of, snapshots_of};
 ghost use Rattle.rbd_stands.specs.Site.{StandsFor, IsUntouched, IsAwaited, Pending};
+ghost use Rattle.rbd_stands.specs.Told.{CouldList, IsDated, IsStillTold, KeepsSnapshots};
 ghost use Rattle.rbd_stands.specs.Writing.{piece_effects};
 ghost use Rattle.rbd_stands.specs.View.{EachView, Shape, shape_of};
 
@@ -154,6 +156,41 @@ pub fn reading_an_object()
         → ArePartsBelow h shape.size number parts
         → answer_to r me (op.Data image number (data_op.Read view parts)) ≡ answer.Absent
         → AreInherited f image view shape.parent parts }
+{}
+
+/// What was read of a snapshot is so as long as the image lists the snapshot, whatever anybody does
+/// meanwhile: its bytes never change, and those that it inherits are another such snapshot's. So a
+/// request may read a snapshot and those that it inherits from one after another, with anything in
+/// between. A snapshot that the image may list later isn't taken for one that it listed: the number
+/// isn't above that of the snapshot which it took last.
+pub fn what_was_read_of_snapshots_stays()
+    ensures bytes { (pending : List Pending) (r : Records) (f : Flat) (me : Instance) (image snap number : ℕ)
+        (parts : List Part) (bytes : List ℕ) → StandsFor pending r f
+        → answer_to r me (op.Data image number (data_op.Read (Some snap) parts)) ≡ answer.Bytes bytes
+        → IsStillTold r f image snap number parts (Some bytes) }
+    ensures absent { (pending : List Pending) (r : Records) (f : Flat) (me : Instance) (image snap number : ℕ)
+        (parts : List Part) → StandsFor pending r f
+        → answer_to r me (op.Data image number (data_op.Read (Some snap) parts)) ≡ answer.Absent
+        → IsStillTold r f image snap number parts None }
+    ensures moments { (pending later : List Pending) (r s : Records) (f g : Flat) (image snap number : ℕ)
+        (parts : List Part) (told : Option (List ℕ))
+        → StandsFor pending r f → StandsFor later s g → KeepsSnapshots f g
+        → ((h : HeaderView) (v : SnapView) → s.headers image ≡ Some h → snap_in h.snaps snap ≡ Some v
+        → CouldList (r.headers image) snap h)
+        → IsStillTold r f image snap number parts told → IsStillTold s g image snap number parts told }
+    ensures operation { (pending later : List Pending) (r : Records) (f g : Flat) (me : Instance) (o : Op)
+        (image snap number : ℕ) (parts : List Part) (told : Option (List ℕ))
+        → StandsFor pending r f → StandsFor later (after r me o) g → KeepsSnapshots f g → MayDo r me o
+        → IsDated r image snap
+        → IsStillTold r f image snap number parts told → IsStillTold (after r me o) g image snap number parts told }
+{}
+
+/// A header that is there before an operation and behind it is later: so a snapshot's date lasts.
+pub fn headers_become_later()
+    ensures later { (r : Records) (me : Instance) (o : Op) (image : ℕ) (h k : HeaderView)
+        → r.headers image ≡ Some h → (after r me o).headers image ≡ Some k → IsLaterOf h k }
+    ensures dated { (r : Records) (me : Instance) (o : Op) (image snap : ℕ) (h : HeaderView)
+        → r.headers image ≡ Some h → snap ≤ h.snap_seq → IsDated (after r me o) image snap }
 {}
 
 // ---- changes of the directory

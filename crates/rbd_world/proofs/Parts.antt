@@ -203,6 +203,17 @@ module _ {R : Type 0} (stands : R → Standing) where
   poll_does session slot sites new_sites old new b at_sites lives =
       parts_of (event.Poll session slot) (polled stands sites slot (client_in session old)) sites new_sites old new b (polled_begins_nothing sites slot (client_in session old)) at_sites lives
 
+  -- so is a delivery, which is at no site and unnoted
+  pub delivery_does : (number : ℕ) (sites : Sites) (old new : List (LivesView R)) (b : BegunLines) → DoesToLives stands (event.Deliver number) (delivered (notice_numbered number sites.mail) old) old new
+      → DoesToParts stands (event.Deliver number) (delivered (notice_numbered number sites.mail) old) sites sites old new b b
+  delivery_does number sites old new b lives =
+      let is = delivery_is_still (notice_numbered number sites.mail) old in
+      parts_of (event.Deliver number) (delivered (notice_numbered number sites.mail) old) sites sites old new b is.0.begins (left_by (delivered (notice_numbered number sites.mail) old) is.1 sites) lives
+
+  pub delivery_unnoted : (number : ℕ) (sites : Sites) (old : List (LivesView R)) (history : List Entry) → history ≡ history_with history (delivered (notice_numbered number sites.mail) old)
+  delivery_unnoted number sites old history =
+      unnoted_by (delivered (notice_numbered number sites.mail) old) (delivery_is_still (notice_numbered number sites.mail) old).0.notes history
+
   -- of sites, sessions, lines and history
   module _ {F : Type 0} (r : Result Outcome F) (sites : Sites) (old : List (LivesView R)) (b : BegunLines) (history : List Entry) where
     abbrev Does : Event → (new_sites : Sites) → (new : List (LivesView R)) → (after : BegunLines) → (later : List Entry) → Type 0

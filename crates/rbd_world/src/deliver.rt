@@ -17,7 +17,7 @@ use rbd_watch::Mail;
 
 /// The instance that a notice is for hears it: nothing where there is no such notice, or that
 /// instance doesn't run. NoMemory where memory is refused; then nothing changes.
-pub fn deliver<R: Request>(
+pub fn deliver_notice<R: Request>(
     mail: &Mail,
     lives: &mut Vec<Lives<R>>,
     number: u64,

@@ -52,6 +52,18 @@ pub fn keep_poll(book: &mut Book, session: SessionNo, slot: Slot, outcome: &Outc
     drop(event);
 }
 
+/// The same of a delivery, for who has no event at hand.
+pub fn keep_delivery(book: &mut Book, number: u64, outcome: &Outcome)
+    requires { length book.old.calls + 1 < 2 ^ 59 }
+    ensures calls { book.new.calls
+        ≡ book.old.calls ++ record { event = of_event.Deliver number; outcome = outcome.now } ∷ [] }
+    ensures history { book.new.history ≡ book.old.history }
+{
+    let event = Event::Deliver { number };
+    keep_call(book, &event, outcome);
+    drop(event);
+}
+
 /// Notes an operation that was done, and the reply where its command has it. It takes no memory.
 pub fn note(history: &mut Vec<Entry>, by: &Sender, entry: Entry, reply: Option<Reply>)
     requires { vec_len history.old + 2 ≤ vec_capacity history.old }

@@ -10,7 +10,7 @@ ghost use Rattle.rbd_world.specs.Step.{DropsWhatItMay, IsBuiltEvent, IsSoundIf, 
 ghost use Rattle.rbd_world.specs.World.{client_in, late_at};
 
 use crate::begun::BegunLines;
-use crate::deliver::deliver;
+use crate::deliver::deliver_notice;
 use crate::event::{Event, Outcome};
 use crate::late::come;
 use crate::lives::Lives;
@@ -94,7 +94,7 @@ fn happen(
             submit(alloc, lives, begun, &mut book.history, &at, command)
         }
         Event::Poll { session, slot } => poll_session(alloc, sites, lives, book, *session, *slot),
-        Event::Deliver { number } => deliver(&sites.mail, lives, *number),
+        Event::Deliver { number } => deliver_notice(&sites.mail, lives, *number),
         Event::Expire {
             session,
             site,

@@ -12,9 +12,10 @@ ghost use Rattle.rbd_world.specs.declared.event.Event.TheVariants as of_event;
 
 use crate::begun::BegunLines;
 use crate::calls::Calls;
+use crate::deliver::deliver_notice;
 use crate::event::{Event, Outcome};
 use crate::lives::Lives;
-use crate::noting::{Book, keep_poll, reserve};
+use crate::noting::{Book, keep_delivery, keep_poll, reserve};
 use crate::poll::poll_session;
 use crate::sites::Sites;
 use crate::step::step_parts;
@@ -164,6 +165,19 @@ impl World {
             slot,
         )?;
         keep_poll(&mut self.book, session, slot, &outcome);
+        Ok(outcome)
+    }
+
+    /// The event of a delivery: as [`World::step`], for whoever has no event at hand.
+    pub fn deliver(&mut self, number: u64) -> Result<Outcome, NoMemory>
+        ensures step { IfOk result (λ outcome. IsWorldStep as_is (of_event.Deliver number) (seen self.old) outcome
+            (seen self.new)) }
+        ensures err { OnErr result (IsUndone as_is (seen self.old) (seen self.new)) }
+        ensures sound { IsSoundWorld as_is (seen self.new) }
+    {
+        reserve(&mut self.book)?;
+        let outcome = deliver_notice(&self.sites.mail, &mut self.lives, number)?;
+        keep_delivery(&mut self.book, number, &outcome);
         Ok(outcome)
     }
 

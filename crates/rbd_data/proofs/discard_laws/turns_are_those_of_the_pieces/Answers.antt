@@ -3,4 +3,4 @@ use Rattle.rbd_data.proofs.DiscardTurns.{turns_of_pieces}
 use Rattle.rbd_data.proofs.discard_laws.turns_are_those_of_the_pieces.Goals as goal
 
 pub returns : goal.returns
-returns c = λ site e image h. turns_of_pieces (pieces_of h.layout e) site image h
+returns c = λ left site e image h. turns_of_pieces left (pieces_of h.layout e) site image h

@@ -12,8 +12,8 @@ use Rattle.rbd_world.proofs.step.happen.Goals as goal
 pub poll_session-requires : goal.poll_session-requires
 poll_session-requires c = record { room = c.requires.room; wants = c.requires.wants c.in-Poll.session c.in-Poll.slot; rest = c.requires.rest c.in-Poll.session c.in-Poll.slot }
 
-pub deliver-requires : goal.deliver-requires
-deliver-requires c = c.requires.sound
+pub deliver_notice-requires : goal.deliver_notice-requires
+deliver_notice-requires c = c.requires.sound
 
 pub come-requires : goal.come-requires
 come-requires c = record { room = c.requires.room; may = c.requires.late c.in-Late.session c.in-Late.slot; sound = c.requires.sound c.in-Late.session }
@@ -44,13 +44,13 @@ returns-in-Poll-clause-err c =
 
 pub returns-in-Deliver-clause-did : goal.returns-in-Deliver-clause-did
 returns-in-Deliver-clause-did c =
-    subst (λ (e : Event). IfOk c.deliver.result (IsNotedStep stands_of e (happens stands_of e (λ l. has_line l c.args.begun.now) c.args.sites.now c.args.lives.now.items)
-    c.args.sites.now c.args.sites.now c.args.lives.now.items c.deliver.new.lives.items c.args.begun.now c.args.begun.now c.args.book.now.history.items c.args.book.now.history.items)) (sym c.in-Deliver.is)
-    (delivery_noted stands_of c.deliver.result c.args.sites.now c.args.lives.now.items c.args.begun.now c.args.book.now.history.items c.in-Deliver.number c.deliver.new.lives.items c.deliver.ensures.outcome c.deliver.ensures.lives)
+    subst (λ (e : Event). IfOk c.deliver_notice.result (IsNotedStep stands_of e (happens stands_of e (λ l. has_line l c.args.begun.now) c.args.sites.now c.args.lives.now.items)
+    c.args.sites.now c.args.sites.now c.args.lives.now.items c.deliver_notice.new.lives.items c.args.begun.now c.args.begun.now c.args.book.now.history.items c.args.book.now.history.items)) (sym c.in-Deliver.is)
+    (delivery_noted stands_of c.deliver_notice.result c.args.sites.now c.args.lives.now.items c.args.begun.now c.args.book.now.history.items c.in-Deliver.number c.deliver_notice.new.lives.items c.deliver_notice.ensures.outcome c.deliver_notice.ensures.lives)
 
 pub returns-in-Deliver-clause-err : goal.returns-in-Deliver-clause-err
 returns-in-Deliver-clause-err c =
-    leaves_sites stands_of c.deliver.result c.args.sites.now c.args.sites.now c.args.lives.now.items c.deliver.new.lives.items c.args.begun.now c.args.begun.now c.deliver.ensures.err (always_err c.deliver.result _ (λ l. refl))
+    leaves_sites stands_of c.deliver_notice.result c.args.sites.now c.args.sites.now c.args.lives.now.items c.deliver_notice.new.lives.items c.args.begun.now c.args.begun.now c.deliver_notice.ensures.err (always_err c.deliver_notice.result _ (λ l. refl))
 
 pub returns-in-Expire-clause-did : goal.returns-in-Expire-clause-did
 returns-in-Expire-clause-did c =

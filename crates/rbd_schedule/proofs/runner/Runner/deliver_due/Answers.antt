@@ -23,8 +23,8 @@ loop-number-init c = record {
 pub next_due-requires : goal.next_due-requires
 next_due-requires c = c.loop-number.invariant.goes.keeps c.requires
 
-pub happen-requires-clause-keeps : goal.happen-requires-clause-keeps
-happen-requires-clause-keeps c = c.next_due.ensures.goes.keeps (c.loop-number.invariant.goes.keeps c.requires)
+pub deliver_and_start-requires : goal.deliver_and_start-requires
+deliver_and_start-requires c = c.next_due.ensures.goes.keeps (c.loop-number.invariant.goes.keeps c.requires)
 
 pub loop-number-smaller : goal.loop-number-smaller
 loop-number-smaller c = omega (arith, c.in-Some.ensures.some.0, c.in-Some.ensures.some.1)
@@ -35,24 +35,24 @@ loop-number-preserved c =
     let same : (k : ℕ) → c.loop-number.told ≤ k
     → is_notice_due (lost_in c.loop-number.self) c.args.session (k + 1) (seen c.loop-number.self.world) ≡ is_notice_due (lost_in c.args.self.now) c.args.session (k + 1) (seen c.args.self.now.world)
     = λ k from. ap (λ l. is_notice_due l c.args.session (k + 1) (seen c.loop-number.self.world)) was.goes.lost ∙ was.due k from in
-    let happens : Happens as_is (given_to c.args.self.now) (event.Deliver c.in-Some.number) (seen c.loop-number.self.world) (seen c.happen.new.self.world)
-    = subst (λ w. Happens as_is (given_to c.args.self.now) (event.Deliver c.in-Some.number) w (seen c.happen.new.self.world)) c.next_due.ensures.world
-    (subst (λ gs. Happens as_is gs (event.Deliver c.in-Some.number) (seen c.next_due.new.self.world) (seen c.happen.new.self.world)) (c.next_due.ensures.goes.given ∙ was.goes.given)
-    c.in_ok-happen.ensures.happens) in
+    let happens : Happens as_is (given_to c.args.self.now) (event.Deliver c.in-Some.number) (seen c.loop-number.self.world) (seen c.deliver_and_start.new.self.world)
+    = subst (λ w. Happens as_is (given_to c.args.self.now) (event.Deliver c.in-Some.number) w (seen c.deliver_and_start.new.self.world)) c.next_due.ensures.world
+    (subst (λ gs. Happens as_is gs (event.Deliver c.in-Some.number) (seen c.next_due.new.self.world) (seen c.deliver_and_start.new.self.world)) (c.next_due.ensures.goes.given ∙ was.goes.given)
+    c.in_ok-deliver_and_start.ensures.happens) in
     record {
-      goes = goes_then c.args.self.now c.loop-number.self c.happen.new.self was.goes
-          (goes_then c.loop-number.self c.next_due.new.self c.happen.new.self c.next_due.ensures.goes c.in_ok-happen.ensures.goes);
+      goes = goes_then c.args.self.now c.loop-number.self c.deliver_and_start.new.self was.goes
+          (goes_then c.loop-number.self c.next_due.new.self c.deliver_and_start.new.self c.next_due.ensures.goes c.in_ok-deliver_and_start.ensures.goes);
       notices = next_done (λ k. DeliversWhere as_is (given_to c.args.self.now) (is_notice_due (lost_in c.args.self.now) c.args.session (k + 1) (seen c.args.self.now.world)) (k + 1))
-          c.loop-number.told c.in-Some.number (seen c.args.self.now.world) (seen c.loop-number.self.world) (seen c.happen.new.self.world) c.in-Some.ensures.some.0 was.notices
+          c.loop-number.told c.in-Some.number (seen c.args.self.now.world) (seen c.loop-number.self.world) (seen c.deliver_and_start.new.self.world) c.in-Some.ensures.some.0 was.notices
           (λ k from below. not_delivered as_is (given_to c.args.self.now) _ (k + 1) (seen c.loop-number.self.world) (sym (same k from) ∙ c.in-Some.ensures.before k from below))
           (λ k is.
-          subst (λ b. DeliversWhere as_is (given_to c.args.self.now) b (k + 1) (seen c.loop-number.self.world) (seen c.happen.new.self.world))
+          subst (λ b. DeliversWhere as_is (given_to c.args.self.now) b (k + 1) (seen c.loop-number.self.world) (seen c.deliver_and_start.new.self.world))
           (sym (sym (same k (omega (arith, is, c.in-Some.ensures.some.0)))
           ∙ subst (λ n. is_notice_due (lost_in c.loop-number.self) c.args.session n (seen c.loop-number.self.world) ≡ true) (sym is) c.in-Some.ensures.some.2))
-          (subst (λ n. Happens as_is (given_to c.args.self.now) (event.Deliver n) (seen c.loop-number.self.world) (seen c.happen.new.self.world)) (sym is) happens));
+          (subst (λ n. Happens as_is (given_to c.args.self.now) (event.Deliver n) (seen c.loop-number.self.world) (seen c.deliver_and_start.new.self.world)) (sym is) happens));
       due = λ j from.
           due_stays as_is (given_to c.args.self.now) (given_all c.args.self.now c.requires) (lost_in c.args.self.now) c.args.session (j + 1) true c.in-Some.number
-          (seen c.loop-number.self.world) (seen c.happen.new.self.world) (λ at. absurd (omega (arith, from, at))) happens
+          (seen c.loop-number.self.world) (seen c.deliver_and_start.new.self.world) (λ at. absurd (omega (arith, from, at))) happens
           ∙ was.due j (omega (arith, from, c.in-Some.ensures.some.0));
       most = c.in-Some.ensures.some.1;
     }

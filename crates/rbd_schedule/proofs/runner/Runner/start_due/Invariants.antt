@@ -5,7 +5,7 @@ use Rattle.rbd_schedule.specs.Deeds.{Deeds}
 use Rattle.rbd_schedule.specs.Playing.{RunnerGoesOn, given_to}
 use Rattle.rbd_schedule.specs.Schedule.{Starts}
 use Rattle.rbd_schedule.specs.Starts.{IsIdle}
-use Rattle.rbd_schedule.proofs.runner.Runner.start_all.Given as goal
+use Rattle.rbd_schedule.proofs.runner.Runner.start_due.Given as goal
 
 -- so many commands were started so far, and none of the sessions so far has one that may start
 abbrev pub invariant-loop-session : goal.invariant-loop-session

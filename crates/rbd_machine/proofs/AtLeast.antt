@@ -1,0 +1,781 @@
+-- Who knows at least as much stays so, and may do as much.
+use Rattle.std.proofs.Common.{◌≡◌, ◌⊎◌, inl, inr, ℕ, zero, suc, ◌==◌, eqb, cond, not, Bool, true, false, List, [], ◌∷◌, filter, length, ◌*◌, slice_set, Option, Some, None, is_some, option_map, refl, sym, ap, ◌∙◌, subst, arith}
+use Rattle.std.specs.Prelude.{Any, IsSome}
+use Rattle.std.proofs.lemmas.Bool.{true≢false, and_parts, eqb-true}
+use Rattle.rbd_kinds.specs.declared.answer.Answer.{Answer}
+use Rattle.rbd_kinds.specs.declared.answer.Answer.TheVariants as answer
+use Rattle.rbd_kinds.specs.declared.data_op.DataOp.{DataOp}
+use Rattle.rbd_kinds.specs.declared.data_op.DataOp.TheVariants as object
+use Rattle.rbd_kinds.specs.declared.directory_op.DirectoryOp.{DirectoryOp}
+use Rattle.rbd_kinds.specs.declared.directory_op.DirectoryOp.TheVariants as directory
+use Rattle.rbd_kinds.specs.declared.header.HeaderView.{HeaderView}
+use Rattle.rbd_kinds.specs.declared.header_op.HeaderOp.{HeaderOp}
+use Rattle.rbd_kinds.specs.declared.header_op.HeaderOp.TheVariants as header
+use Rattle.rbd_kinds.specs.declared.id.Instance.{Instance}
+use Rattle.rbd_kinds.specs.declared.id.SiteId.{SiteId}
+use Rattle.rbd_kinds.specs.declared.layout.Layout.{Layout}
+use Rattle.rbd_kinds.specs.declared.layout.Part.{Part}
+use Rattle.rbd_kinds.specs.declared.map_op.MapOp.{MapOp}
+use Rattle.rbd_kinds.specs.declared.map_op.MapOp.TheVariants as states
+use Rattle.rbd_kinds.specs.declared.operation.Op.{Op}
+use Rattle.rbd_kinds.specs.declared.operation.Op.TheVariants as op
+use Rattle.rbd_kinds.specs.Striping.{object_of}
+use Rattle.rbd_kinds.proofs.Images.{same_site_is}
+use Rattle.rbd_map.specs.States.{states_of}
+use Rattle.rbd_machine.specs.AtLeast.{AreMapsAtLeast, AreObjectsAtLeast, IsToldToo, KnowsAtLeast}
+use Rattle.rbd_machine.specs.Knowledge.{Blank, Fence, ImageMaps, ImagePlace, Knowledge, MapsKnown, Mark, ObjectsKnown, Own, afresh, blanked, first_told, forgotten, header_told, is_absent, is_at, is_drawn, is_fenced_by, is_mark, is_raised, known_after_wait, learned, learned_of_directory, learned_of_header, learned_of_listing, learned_of_map, learned_of_object, looked_behind, looked_by, looked_under_lock, maps_of, maps_told, marks_after, objects_known_of, only_there, own_of, owns_when_held, owns_without, removed, removed_header, same_site, states_set, unfenced, unmapped, unmarked, with_maps, with_objects, without_drawn, without_fence}
+use Rattle.rbd_machine.specs.Label.{Label, IsFit}
+use Rattle.rbd_machine.specs.Lawful.{IsLawful}
+use Rattle.rbd_machine.specs.Permits.{HasTurn, IsInParts, IsLeftOver, IsMappedFor, IsZeroByChange, IsZeroByState, MayMake, MaySize, MayTakeSnap, OwnsAlone, OwnsBy, Permits, PermitsOnDirectory, PermitsOnHeader, PermitsOnMap, PermitsOnObject}
+use Rattle.rbd_machine.specs.Plan.{Plan, Ask, Await, Note, Return, Goto}
+use Rattle.rbd_machine.specs.Wait.{Wait}
+use Rattle.rbd_machine.specs.Wait as wait
+
+-- ---- what was told
+
+told_itself : {T : Type 0} (told : Option T) → IsToldToo told told
+told_itself None = tt
+told_itself (Some x) = refl
+
+told_is : {T : Type 0} (more less : Option T) → IsToldToo more less → (x : T) → less ≡ Some x → more ≡ Some x
+told_is more less too x is = subst (IsToldToo more) is too
+
+told_onward : {T : Type 0} (a b c : Option T) → IsToldToo a b → IsToldToo b c → IsToldToo a c
+told_onward a b None first then_less = tt
+told_onward a b (Some x) first then_less = told_is a b first x then_less
+
+told_some : {T : Type 0} (more less : Option T) → IsToldToo more less → IsSome less → IsSome more
+told_some more None too some = absurd (true≢false (sym some))
+told_some more (Some x) too some = ap is_some too
+
+told_by : {T : Type 0} (f : T → T) (more less : Option T) → IsToldToo more less → IsToldToo (option_map f more) (option_map f less)
+told_by f more None too = tt
+told_by f more (Some x) too = ap (option_map f) too
+
+-- ---- of maps
+
+pub maps_themselves : (m : MapsKnown) → AreMapsAtLeast m m
+maps_themselves m = record { raised = λ view object marked. marked; states = told_itself m.states; count = told_itself m.count; put = told_itself m.put }
+
+maps_onward : (a b c : MapsKnown) → AreMapsAtLeast a b → AreMapsAtLeast b c → AreMapsAtLeast a c
+maps_onward a b c first then_less = record {
+  raised = λ view object marked. first.raised view object (then_less.raised view object marked);
+  states = told_onward a.states b.states c.states first.states then_less.states;
+  count = told_onward a.count b.count c.count first.count then_less.count;
+  put = told_onward a.put b.put c.put first.put then_less.put;
+}
+
+-- without the marks
+pub maps_unmarked : (maps : List ImageMaps) (site : SiteId) (image : ℕ) → maps_of (unmarked maps) site image ≡ record (maps_of maps site image) { raised = [] }
+maps_unmarked [] site image = refl
+maps_unmarked (m ∷ maps) site image = by (is_at site image m.site m.image) (maps_unmarked maps site image)
+  where
+    by : (b : Bool) → maps_of (unmarked maps) site image ≡ record (maps_of maps site image) { raised = [] }
+        → cond b (record m.known { raised = [] }) (maps_of (unmarked maps) site image) ≡ record (cond b m.known (maps_of maps site image)) { raised = [] }
+    by true rest = refl
+    by false rest = rest
+
+bare : (more less : MapsKnown) → AreMapsAtLeast more less → AreMapsAtLeast (record more { raised = [] }) (record less { raised = [] })
+bare more less l = record { raised = λ view object marked. marked; states = l.states; count = l.count; put = l.put }
+
+unmarked_more : (more less : List ImageMaps) (site : SiteId) (image : ℕ) → AreMapsAtLeast (maps_of more site image) (maps_of less site image) → AreMapsAtLeast (maps_of (unmarked more) site image) (maps_of (unmarked less) site image)
+unmarked_more more less site image l =
+    subst (λ m. AreMapsAtLeast m (maps_of (unmarked less) site image)) (sym (maps_unmarked more site image))
+    (subst (λ m. AreMapsAtLeast (record (maps_of more site image) { raised = [] }) m) (sym (maps_unmarked less site image))
+    (bare (maps_of more site image) (maps_of less site image) l))
+
+-- one image's maps were told, of the others the same is known
+maps_more : (m n : MapsKnown) (more less : List ImageMaps) (site : SiteId) (image : ℕ) (there : SiteId) (place : ℕ)
+    → AreMapsAtLeast m n → AreMapsAtLeast (maps_of more there place) (maps_of less there place)
+    → AreMapsAtLeast (maps_of (maps_told site image m more) there place) (maps_of (maps_told site image n less) there place)
+maps_more m n more less site image there place here others = by (is_at there place site image)
+  where
+    by : (b : Bool) → AreMapsAtLeast (cond b m (maps_of more there place)) (cond b n (maps_of less there place))
+    by true = here
+    by false = others
+
+-- ---- marks
+
+-- a mark is of one view and one object
+same_mark : (view other : Option ℕ) (object number : ℕ) (m : Mark) → is_mark view object m ≡ true → is_mark other number m ≡ is_mark other number (record { view = view; object = object })
+same_mark None other object number m is = by m.view is
+  where
+    by : (v : Option ℕ) → is_mark None object (record { view = v; object = m.object }) ≡ true → is_mark other number (record { view = v; object = m.object }) ≡ is_mark other number (record { view = None; object = object })
+    by None is = ap (λ n. is_mark other number (record { view = None; object = n })) (eqb-true m.object object is)
+    by (Some t) is = absurd (true≢false (sym is))
+same_mark (Some s) other object number m is = by m.view is
+  where
+    by : (v : Option ℕ) → is_mark (Some s) object (record { view = v; object = m.object }) ≡ true → is_mark other number (record { view = v; object = m.object }) ≡ is_mark other number (record { view = Some s; object = object })
+    by None is = absurd (true≢false (sym is))
+    by (Some t) is =
+        let both = and_parts (eqb t s) (eqb m.object object) is in
+        ap (λ v. is_mark other number (record { view = Some v; object = m.object })) (eqb-true t s both.0)
+        ∙ ap (λ n. is_mark other number (record { view = Some s; object = n })) (eqb-true m.object object both.1)
+
+-- the marks that are left once those of one view and object went
+marks_left : (view other : Option ℕ) (object number : ℕ) (raised : List Mark)
+    → is_raised view object (filter (λ m. not (is_mark other number m)) raised) ≡ cond (is_mark other number (record { view = view; object = object })) false (is_raised view object raised)
+marks_left view other object number [] = by (is_mark other number (record { view = view; object = object }))
+  where
+    by : (b : Bool) → false ≡ cond b false false
+    by true = refl
+    by false = refl
+marks_left view other object number (m ∷ raised) = by (is_mark other number m) refl (is_mark view object m) refl (marks_left view other object number raised)
+  where
+    rest : List Mark
+    rest = filter (λ x. not (is_mark other number x)) raised
+
+    here : Bool
+    here = is_mark other number (record { view = view; object = object })
+
+    by : (a : Bool) → is_mark other number m ≡ a → (b : Bool) → is_mark view object m ≡ b → is_raised view object rest ≡ cond here false (is_raised view object raised)
+        → is_raised view object (cond (not a) (m ∷ rest) rest) ≡ cond here false (cond b true (is_raised view object raised))
+    by true goes true is more =
+        let it : here ≡ true = sym (same_mark view other object number m is) ∙ goes in
+        more ∙ ap (λ b. cond b false (is_raised view object raised)) it ∙ sym (ap (λ b. cond b false true) it)
+    by true goes false is more = more
+    by false stays true is more =
+        let it : here ≡ false = sym (same_mark view other object number m is) ∙ stays in
+        ap (λ b. cond b true (is_raised view object rest)) is ∙ sym (ap (λ b. cond b false true) it)
+    by false stays false is more = ap (λ b. cond b true (is_raised view object rest)) is ∙ more
+
+marks_more : (other : Option ℕ) (number state : ℕ) (more less : List Mark) → ((view : Option ℕ) (object : ℕ) → is_raised view object less ≡ true → is_raised view object more ≡ true)
+    → (view : Option ℕ) (object : ℕ) → is_raised view object (marks_after other number state less) ≡ true → is_raised view object (marks_after other number state more) ≡ true
+marks_more other number state more less l view object = by (state == 0)
+  where
+    at : Mark
+    at = record { view = other; object = number }
+
+    new : (b : Bool) → cond b true (is_raised view object less) ≡ true → cond b true (is_raised view object more) ≡ true
+    new true is = refl
+    new false is = l view object is
+
+    left : (b : Bool) → cond b false (is_raised view object less) ≡ true → cond b false (is_raised view object more) ≡ true
+    left true is = is
+    left false is = l view object is
+
+    by : (b : Bool) → is_raised view object (cond b (filter (λ m. not (is_mark other number m)) less) (at ∷ less)) ≡ true
+        → is_raised view object (cond b (filter (λ m. not (is_mark other number m)) more) (at ∷ more)) ≡ true
+    by true is =
+        marks_left view other object number more
+        ∙ left (is_mark other number (record { view = view; object = object })) (sym (marks_left view other object number less) ∙ is)
+    by false is = new (is_mark view object at) is
+
+-- ---- of objects
+
+objects_themselves : (o : ObjectsKnown) → AreObjectsAtLeast o o
+objects_themselves o = record { absent = λ object gone. gone; blank = λ object x is. is }
+
+-- of each object something isn't there once it is forgotten
+absent_left : (object number : ℕ) (absent : List ℕ) → is_absent object (filter (λ x. not (x == number)) absent) ≡ cond (object == number) false (is_absent object absent)
+absent_left object number [] = by (object == number)
+  where
+    by : (b : Bool) → false ≡ cond b false false
+    by true = refl
+    by false = refl
+absent_left object number (y ∷ absent) = by (y == number) refl (y == object) refl (absent_left object number absent)
+  where
+    rest : List ℕ
+    rest = filter (λ x. not (x == number)) absent
+
+    by : (a : Bool) → (y == number) ≡ a → (b : Bool) → (y == object) ≡ b → is_absent object rest ≡ cond (object == number) false (is_absent object absent)
+        → is_absent object (cond (not a) (y ∷ rest) rest) ≡ cond (object == number) false (cond b true (is_absent object absent))
+    by true goes true is more =
+        let it : (object == number) ≡ true = sym (ap (λ n. n == number) (eqb-true y object is)) ∙ goes in
+        more ∙ ap (λ b. cond b false (is_absent object absent)) it ∙ sym (ap (λ b. cond b false true) it)
+    by true goes false is more = more
+    by false stays true is more =
+        let it : (object == number) ≡ false = sym (ap (λ n. n == number) (eqb-true y object is)) ∙ stays in
+        ap (λ b. cond b true (is_absent object rest)) is ∙ sym (ap (λ b. cond b false true) it)
+    by false stays false is more = ap (λ b. cond b true (is_absent object rest)) is ∙ more
+
+any_cases : {X : Type 0} (P : X → Type 0) (x : X) (xs : List X) → Any P (x ∷ xs) → P x ⊎ Any P xs
+any_cases P x xs (zero, y, less, is, holds) = inl (subst P (sym is) holds)
+any_cases P x xs (suc k, y, less, is, holds) = inr (k, y, omega arith, is, holds)
+
+any_there : {X : Type 0} (P : X → Type 0) (x : X) (xs : List X) → Any P xs → Any P (x ∷ xs)
+any_there P x xs (k, y, less, is, holds) = (suc k, y, omega arith, is, holds)
+
+any_here : {X : Type 0} (P : X → Type 0) (x : X) (xs : List X) → P x → Any P (x ∷ xs)
+any_here P x xs holds = (0, x, omega arith, refl, holds)
+
+-- what is left by a test, and passes it
+abbrev Passing : {X : Type 0} → (X → Type 0) → (X → Bool) → X → Type 0
+Passing P passes x = P x × (passes x ≡ true)
+
+any_first : {X : Type 0} (P Q : X → Type 0) (y : X) (xs zs : List X) → (P y → Q y) → (Any P xs → Any Q zs) → P y ⊎ Any P xs → Any Q (y ∷ zs)
+any_first P Q y xs zs one others (inl here) = any_here Q y zs (one here)
+any_first P Q y xs zs one others (inr there) = any_there Q y zs (others there)
+
+any_left : {X : Type 0} (P : X → Type 0) (passes : X → Bool) (xs : List X) → Any P (filter passes xs) → Any (Passing P passes) xs
+any_left P passes [] (k, x, less, is, holds) = absurd (omega arith)
+any_left P passes (y ∷ xs) some = by (passes y) refl (any_left P passes xs) some
+  where
+    by : (b : Bool) → passes y ≡ b → (Any P (filter passes xs) → Any (Passing P passes) xs) → Any P (cond b (y ∷ filter passes xs) (filter passes xs)) → Any (Passing P passes) (y ∷ xs)
+    by true is later some = any_first P (Passing P passes) y (filter passes xs) xs (λ here. (here, is)) later (any_cases P y (filter passes xs) some)
+    by false is later some = any_there (Passing P passes) y xs (later some)
+
+any_stays : {X : Type 0} (P : X → Type 0) (passes : X → Bool) (xs : List X) → Any (Passing P passes) xs → Any P (filter passes xs)
+any_stays P passes [] (k, x, less, is, holds) = absurd (omega arith)
+any_stays P passes (y ∷ xs) some = by (passes y) refl (any_stays P passes xs) (any_cases (Passing P passes) y xs some)
+  where
+    by : (b : Bool) → passes y ≡ b → (Any (Passing P passes) xs → Any P (filter passes xs)) → Passing P passes y ⊎ Any (Passing P passes) xs → Any P (cond b (y ∷ filter passes xs) (filter passes xs))
+    by true is later (inl here) = any_here P y (filter passes xs) here.0
+    by true is later (inr there) = any_there P y (filter passes xs) (later there)
+    by false is later (inl here) = absurd (true≢false (sym here.1 ∙ is))
+    by false is later (inr there) = later there
+
+any_weaker : {X : Type 0} (P Q : X → Type 0) (xs : List X) → ((x : X) → P x → Q x) → Any P xs → Any Q xs
+any_weaker P Q xs weaker (k, x, less, is, holds) = (k, x, less, is, weaker x holds)
+
+-- a place that is blank, of one object
+abbrev BlanksAt : (object x : ℕ) → Blank → Type 0
+BlanksAt object x b = (b.object ≡ object) × IsInParts b.parts x
+
+blank_cons : (b : Blank) (more less : List Blank) (object x : ℕ) → (Any (BlanksAt object x) less → Any (BlanksAt object x) more) → Any (BlanksAt object x) (b ∷ less) → Any (BlanksAt object x) (b ∷ more)
+blank_cons b more less object x l some = by (any_cases (BlanksAt object x) b less some)
+  where
+    by : BlanksAt object x b ⊎ Any (BlanksAt object x) less → Any (BlanksAt object x) (b ∷ more)
+    by (inl here) = any_here (BlanksAt object x) b more here
+    by (inr there) = any_there (BlanksAt object x) b more (l there)
+
+blank_left : (number : ℕ) (more less : List Blank) (object x : ℕ) → (Any (BlanksAt object x) less → Any (BlanksAt object x) more)
+    → Any (BlanksAt object x) (filter (λ b. not (b.object == number)) less) → Any (BlanksAt object x) (filter (λ b. not (b.object == number)) more)
+blank_left number more less object x l some =
+    any_stays (BlanksAt object x) (λ b. not (b.object == number)) more
+    (any_weaker (BlanksAt object x) (Passing (BlanksAt object x) (λ b. not (b.object == number))) more (λ b at. (at, ap (λ n. not (n == number)) at.0 ∙ other)) (l was))
+  where
+    found : Any (Passing (BlanksAt object x) (λ b. not (b.object == number))) less
+    found = any_left (BlanksAt object x) (λ b. not (b.object == number)) less some
+
+    was : Any (BlanksAt object x) less
+    was = any_weaker (Passing (BlanksAt object x) (λ b. not (b.object == number))) (BlanksAt object x) less (λ b at. at.0) found
+
+    other : not (object == number) ≡ true
+    other = let (k, b, less, is, holds) = found in sym (ap (λ n. not (n == number)) holds.0.0) ∙ holds.1
+
+module _ (more less : ObjectsKnown) (l : AreObjectsAtLeast more less) (number : ℕ) where
+  forgotten_more : AreObjectsAtLeast (forgotten number more) (forgotten number less)
+  forgotten_more = record {
+    absent = λ object gone. absent_left object number more.absent ∙ by object (object == number) (sym (absent_left object number less.absent) ∙ gone);
+    blank = λ object x is. blank_left number more.blank less.blank object x (l.blank object x) is;
+  }
+    where
+      by : (object : ℕ) (b : Bool) → cond b false (is_absent object less.absent) ≡ true → cond b false (is_absent object more.absent) ≡ true
+      by object true gone = gone
+      by object false gone = l.absent object gone
+
+  blanked_more : (parts : Option (List Part)) → AreObjectsAtLeast (blanked number parts more) (blanked number parts less)
+  blanked_more parts = record {
+    absent = l.absent;
+    blank = λ object x is. blank_cons (record { object = number; parts = parts }) more.blank less.blank object x (l.blank object x) is;
+  }
+
+  removed_more : AreObjectsAtLeast (removed number more) (removed number less)
+  removed_more = record {
+    absent = λ object gone. by object (number == object) gone;
+    blank = λ object x is. blank_cons (record { object = number; parts = None }) more.blank less.blank object x (l.blank object x) is;
+  }
+    where
+      by : (object : ℕ) (b : Bool) → cond b true (is_absent object less.absent) ≡ true → cond b true (is_absent object more.absent) ≡ true
+      by object true gone = refl
+      by object false gone = l.absent object gone
+
+objects_onward : (a b c : ObjectsKnown) → AreObjectsAtLeast a b → AreObjectsAtLeast b c → AreObjectsAtLeast a c
+objects_onward a b c first then_less =
+    record { absent = λ object gone. first.absent object (then_less.absent object gone); blank = λ object x is. first.blank object x (then_less.blank object x is) }
+
+-- ---- ids
+
+place_of : (site there : SiteId) (image place : ℕ) → is_at site image there place ≡ true → (there ≡ site) × (place ≡ image)
+place_of site there image place is =
+    let parts = and_parts (same_site there site) (place == image) is in
+    (same_site_is there site parts.0, eqb-true place image parts.1)
+
+-- the ids that are left once one was used
+drawn_left : (s t : SiteId) (image i : ℕ) (drawn : List ImagePlace) → is_drawn (filter (λ d. not (is_at s image d.site d.image)) drawn) t i ≡ cond (is_at s image t i) false (is_drawn drawn t i)
+drawn_left s t image i [] = by (is_at s image t i)
+  where
+    by : (b : Bool) → false ≡ cond b false false
+    by true = refl
+    by false = refl
+drawn_left s t image i (d ∷ drawn) = by (is_at s image d.site d.image) refl (is_at t i d.site d.image) refl (drawn_left s t image i drawn)
+  where
+    rest : List ImagePlace
+    rest = filter (λ x. not (is_at s image x.site x.image)) drawn
+
+    same : is_at t i d.site d.image ≡ true → is_at s image d.site d.image ≡ is_at s image t i
+    same is =
+        let place = place_of t d.site i d.image is in
+        ap (λ x. is_at s image x d.image) place.0 ∙ ap (λ x. is_at s image t x) place.1
+
+    by : (a : Bool) → is_at s image d.site d.image ≡ a → (b : Bool) → is_at t i d.site d.image ≡ b → is_drawn rest t i ≡ cond (is_at s image t i) false (is_drawn drawn t i)
+        → is_drawn (cond (not a) (d ∷ rest) rest) t i ≡ cond (is_at s image t i) false (cond b true (is_drawn drawn t i))
+    by true goes true is more =
+        let it : is_at s image t i ≡ true = sym (same is) ∙ goes in
+        more ∙ ap (λ b. cond b false (is_drawn drawn t i)) it ∙ sym (ap (λ b. cond b false true) it)
+    by true goes false is more = more
+    by false stays true is more =
+        let it : is_at s image t i ≡ false = sym (same is) ∙ stays in
+        ap (λ b. cond b true (is_drawn rest t i)) is ∙ sym (ap (λ b. cond b false true) it)
+    by false stays false is more = ap (λ b. cond b true (is_drawn rest t i)) is ∙ more
+
+drawn_less : (s t : SiteId) (image i : ℕ) (more less : List ImagePlace) → (is_drawn less t i ≡ true → is_drawn more t i ≡ true)
+    → is_drawn (filter (λ d. not (is_at s image d.site d.image)) less) t i ≡ true → is_drawn (filter (λ d. not (is_at s image d.site d.image)) more) t i ≡ true
+drawn_less s t image i more less l is = drawn_left s t image i more ∙ by (is_at s image t i) (sym (drawn_left s t image i less) ∙ is)
+  where
+    by : (b : Bool) → cond b false (is_drawn less t i) ≡ true → cond b false (is_drawn more t i) ≡ true
+    by true is = is
+    by false is = l is
+
+drawn_cons : (s t : SiteId) (image i : ℕ) (more less : List ImagePlace) → (is_drawn less t i ≡ true → is_drawn more t i ≡ true) → (b : Bool) → cond b true (is_drawn less t i) ≡ true → cond b true (is_drawn more t i) ≡ true
+drawn_cons s t image i more less l true is = refl
+drawn_cons s t image i more less l false is = l is
+
+-- ---- knowledge
+
+pub knows_itself : (k : Knowledge) → KnowsAtLeast k k
+knows_itself k = record {
+  alone = refl;
+  owns = refl;
+  turn = refl;
+  fenced = refl;
+  drawn = λ site image drawn. drawn;
+  maps = λ site image. maps_themselves (maps_of k.maps site image);
+  objects = λ site image. objects_themselves (objects_known_of k.objects site image);
+  gone = λ site image gone. gone;
+}
+
+pub knows_as : (k other : Knowledge) → k ≡ other → KnowsAtLeast k other
+knows_as k other same = subst (KnowsAtLeast k) same (knows_itself k)
+
+pub knows_onward : (a b c : Knowledge) → KnowsAtLeast a b → KnowsAtLeast b c → KnowsAtLeast a c
+knows_onward a b c first then_less = record {
+  alone = first.alone ∙ then_less.alone;
+  owns = first.owns ∙ then_less.owns;
+  turn = first.turn ∙ then_less.turn;
+  fenced = first.fenced ∙ then_less.fenced;
+  drawn = λ site image drawn. first.drawn site image (then_less.drawn site image drawn);
+  maps = λ site image. maps_onward (maps_of a.maps site image) (maps_of b.maps site image) (maps_of c.maps site image) (first.maps site image) (then_less.maps site image);
+  objects = λ site image.
+      objects_onward (objects_known_of a.objects site image) (objects_known_of b.objects site image) (objects_known_of c.objects site image) (first.objects site image) (then_less.objects site image);
+  gone = λ site image gone. first.gone site image (then_less.gone site image gone);
+}
+
+-- ---- what it learns
+
+module _ (more less : Knowledge) (l : KnowsAtLeast more less) (site : SiteId) where
+  with_maps_more : (image : ℕ) (change : MapsKnown → MapsKnown) → ((m n : MapsKnown) → AreMapsAtLeast m n → AreMapsAtLeast (change m) (change n))
+      → KnowsAtLeast (with_maps site image change more) (with_maps site image change less)
+  with_maps_more image change goes = record {
+    alone = l.alone;
+    owns = l.owns;
+    turn = l.turn;
+    fenced = l.fenced;
+    drawn = l.drawn;
+    maps = λ there place.
+        maps_more (change (maps_of more.maps site image)) (change (maps_of less.maps site image)) more.maps less.maps site image there place
+        (goes (maps_of more.maps site image) (maps_of less.maps site image) (l.maps site image)) (l.maps there place);
+    objects = l.objects;
+    gone = l.gone;
+  }
+
+  map_more : (image : ℕ) (o : MapOp) (a : Answer) → KnowsAtLeast (learned_of_map more site image o a) (learned_of_map less site image o a)
+  map_more image (states.Resize count) answer.Done =
+      with_maps_more image (λ m. record { raised = m.raised; states = None; count = Some count; put = None }) (λ m n at. record { raised = at.raised; states = tt; count = refl; put = tt })
+  map_more image (states.Get None) (answer.Bits bits) = with_maps_more image (λ m. record m { states = Some (states_of bits (4 * length bits)) }) (λ m n at. record { raised = at.raised; states = refl; count = at.count; put = at.put })
+  map_more image (states.Put (Some snap) bits) answer.Done = with_maps_more image (λ m. record m { put = Some snap }) (λ m n at. record { raised = at.raised; states = at.states; count = at.count; put = refl })
+  map_more image (states.Set view object state) answer.Done =
+      with_maps_more image (λ m. record {
+        raised = marks_after view object state m.raised;
+        states = states_set view object state m.states;
+        count = m.count;
+        put = None;
+      })
+      (λ m n at. record { raised = marks_more view object state m.raised n.raised at.raised; states = set view m n at; count = at.count; put = tt })
+    where
+      set : (view : Option ℕ) (m n : MapsKnown) → AreMapsAtLeast m n → IsToldToo (states_set view object state m.states) (states_set view object state n.states)
+      set None m n at = told_by (λ s. slice_set s object state) m.states n.states at.states
+      set (Some snap) m n at = at.states
+  map_more image (states.Remove view) answer.Done = with_maps_more image (λ m. unmapped) (λ m n at. maps_themselves unmapped)
+  map_more image _ _ = l
+
+  with_objects_more : (image : ℕ) (change : ObjectsKnown → ObjectsKnown) → ((o p : ObjectsKnown) → AreObjectsAtLeast o p → AreObjectsAtLeast (change o) (change p))
+      → KnowsAtLeast (with_objects site image change more) (with_objects site image change less)
+  with_objects_more image change goes = record {
+    alone = l.alone;
+    owns = l.owns;
+    turn = l.turn;
+    fenced = l.fenced;
+    drawn = l.drawn;
+    maps = l.maps;
+    objects = λ there place. by there place (is_at there place site image);
+    gone = l.gone;
+  }
+    where
+      by : (there : SiteId) (place : ℕ) (b : Bool)
+          → AreObjectsAtLeast (cond b (change (objects_known_of more.objects site image)) (objects_known_of more.objects there place))
+          (cond b (change (objects_known_of less.objects site image)) (objects_known_of less.objects there place))
+      by there place true = goes (objects_known_of more.objects site image) (objects_known_of less.objects site image) (l.objects site image)
+      by there place false = l.objects there place
+
+  object_more : (image number : ℕ) (o : DataOp) (a : Answer) → KnowsAtLeast (learned_of_object more site image number o a) (learned_of_object less site image number o a)
+  object_more image number (object.Write context must parts bytes) answer.Done = with_objects_more image (forgotten number) (λ o p at. forgotten_more o p at number)
+  object_more image number (object.WriteFull context bytes) answer.Done = with_objects_more image (forgotten number) (λ o p at. forgotten_more o p at number)
+  object_more image number (object.CopyUp bytes) answer.Done = with_objects_more image (forgotten number) (λ o p at. forgotten_more o p at number)
+  object_more image number (object.Zero context must parts) answer.Done =
+      with_objects_more image (blanked number (Some parts)) (λ o p at. blanked_more o p at number (Some parts))
+  object_more image number (object.Empty context) answer.Done =
+      with_objects_more image (λ o. blanked number None (forgotten number o)) (λ o p at. blanked_more (forgotten number o) (forgotten number p) (forgotten_more o p at number) number None)
+  object_more image number (object.Remove context) answer.Done = with_objects_more image (removed number) (λ o p at. removed_more o p at number)
+  object_more image number _ _ = l
+
+  directory_more : (o : DirectoryOp) (a : Answer) → KnowsAtLeast (learned_of_directory more site o a) (learned_of_directory less site o a)
+  directory_more (directory.Add name) (answer.Id image) = record {
+    alone = l.alone;
+    owns = l.owns;
+    turn = l.turn;
+    fenced = l.fenced;
+    drawn = λ there place. drawn_cons site there image place more.drawn less.drawn (l.drawn there place) (is_at there place site image);
+    maps = λ there place. maps_more unmapped unmapped more.maps less.maps site image there place (maps_themselves unmapped) (l.maps there place);
+    objects = l.objects;
+    gone = l.gone;
+  }
+  directory_more _ _ = l
+
+  listing_more : (i : Instance) (a : Answer) → KnowsAtLeast (learned_of_listing more site i a) (learned_of_listing less site i a)
+  listing_more i answer.Done = record {
+    alone = l.alone;
+    owns = l.owns;
+    turn = l.turn;
+    fenced = ap (λ (fenced : List Fence). record { site = site; instance = i } ∷ fenced) l.fenced;
+    drawn = l.drawn;
+    maps = l.maps;
+    objects = l.objects;
+    gone = l.gone;
+  }
+  listing_more i _ = l
+
+  -- a fence that was used
+  unfenced_more : (owner : Instance) → KnowsAtLeast (without_fence site owner more) (without_fence site owner less)
+  unfenced_more owner = record {
+    alone = l.alone;
+    owns = l.owns;
+    turn = l.turn;
+    fenced = ap (unfenced site owner) l.fenced;
+    drawn = l.drawn;
+    maps = l.maps;
+    objects = l.objects;
+    gone = l.gone;
+  }
+
+  told_more : (image : ℕ) (change : Option HeaderView → Option HeaderView) → KnowsAtLeast (header_told site image change more) (header_told site image change less)
+  told_more image change = record {
+    alone = l.alone;
+    owns = ap (λ owns. map_told owns) l.owns;
+    turn = l.turn;
+    fenced = l.fenced;
+    drawn = l.drawn;
+    maps = l.maps;
+    objects = l.objects;
+    gone = l.gone;
+  }
+    where
+      map_told : List Own → List Own
+      map_told owns = (header_told site image change (record more { owns = owns })).owns
+
+  made_more : (image : ℕ) → KnowsAtLeast (without_drawn site image more) (without_drawn site image less)
+  made_more image = record {
+    alone = l.alone;
+    owns = l.owns;
+    turn = l.turn;
+    fenced = l.fenced;
+    drawn = λ there place. drawn_less site there image place more.drawn less.drawn (l.drawn there place);
+    maps = l.maps;
+    objects = l.objects;
+    gone = l.gone;
+  }
+
+  removed_header_more : (image : ℕ) → KnowsAtLeast (removed_header site image more) (removed_header site image less)
+  removed_header_more image = record {
+    alone = l.alone;
+    owns = ap (owns_without site image) l.owns;
+    turn = l.turn;
+    fenced = l.fenced;
+    drawn = l.drawn;
+    maps = λ there place. maps_more only_there only_there more.maps less.maps site image there place (maps_themselves only_there) (l.maps there place);
+    objects = l.objects;
+    gone = λ there place. drawn_cons site there image place more.gone less.gone (l.gone there place) (is_at there place site image);
+  }
+
+  afresh_more : (image : ℕ) → KnowsAtLeast (afresh site image more) (afresh site image less)
+  afresh_more image = record {
+    alone = l.alone;
+    owns = l.owns;
+    turn = refl;
+    fenced = l.fenced;
+    drawn = l.drawn;
+    maps = λ there place.
+        maps_more unmapped unmapped (unmarked more.maps) (unmarked less.maps) site image there place (maps_themselves unmapped) (unmarked_more more.maps less.maps there place (l.maps there place));
+    objects = λ there place. objects_themselves (objects_known_of [] there place);
+    gone = l.gone;
+  }
+
+  looked_more : (image : ℕ) → KnowsAtLeast (looked_behind site image more) (looked_behind site image less)
+  looked_more image =
+      subst (λ o. KnowsAtLeast (looked_under_lock o site image more) (looked_behind site image less)) (sym (ap (λ owns. own_of owns site image) l.owns)) (by (own_of less.owns site image))
+    where
+      of : (header : Option HeaderView) → KnowsAtLeast (looked_by header site image more) (looked_by header site image less)
+      of None = afresh_more image
+      of (Some h) = l
+
+      by : (o : Option Own) → KnowsAtLeast (looked_under_lock o site image more) (looked_under_lock o site image less)
+      by None = l
+      by (Some o) = of o.header
+
+module _ (more less : Knowledge) (l : KnowsAtLeast more less) (site : SiteId) where
+  header_more : (image : ℕ) (o : HeaderOp) (a : Answer) → KnowsAtLeast (learned_of_header more site image o a) (learned_of_header less site image o a)
+  header_more image header.Get (answer.Header h) =
+      told_more (looked_behind site image more) (looked_behind site image less) (looked_more more less l site image) site image (first_told h)
+  header_more image (header.Create view) answer.Done = made_more more less l site image
+  header_more image (header.SetSize to) answer.Done = told_more more less l site image _
+  header_more image header.Remove answer.Done = removed_header_more more less l site image
+  header_more image (header.SnapAdd name) (answer.Snap snap) = told_more more less l site image _
+  header_more image (header.SnapRemove snap) answer.Done = told_more more less l site image _
+  header_more image (header.LockBreak owner) answer.Done = unfenced_more more less l site owner
+  header_more image (header.LockBreak owner) answer.Changed = unfenced_more more less l site owner
+  header_more image _ _ = l
+
+  pub learned_more : (o : Op) (a : Answer) → KnowsAtLeast (learned more site o a) (learned less site o a)
+  learned_more (op.Directory o) a = directory_more more less l site o a
+  learned_more (op.Header image o) a = header_more image o a
+  learned_more (op.Data image number o) a = object_more more less l site image number o a
+  learned_more (op.BlockAdd i) a = listing_more more less l site i a
+  learned_more (op.Map image o) a = map_more more less l site image o a
+  learned_more _ a = l
+
+-- ---- what it waits for
+
+module _ (more less : Knowledge) (l : KnowsAtLeast more less) where
+  held_more : (site : SiteId) (image : ℕ) → owns_when_held more site image ≡ owns_when_held less site image
+  held_more site image =
+      ap (λ alone. record { site = site; image = image; alone = alone; header = None } ∷ owns_without site image more.owns) l.alone
+      ∙ ap (λ owns. record { site = site; image = image; alone = less.alone; header = None } ∷ owns_without site image owns) l.owns
+
+  turned_more : (turn : Option ℕ) → KnowsAtLeast (record more { turn = turn; maps = unmarked more.maps; objects = [] }) (record less { turn = turn; maps = unmarked less.maps; objects = [] })
+  turned_more turn = record {
+    alone = l.alone;
+    owns = l.owns;
+    turn = refl;
+    fenced = l.fenced;
+    drawn = l.drawn;
+    maps = λ site image. unmarked_more more.maps less.maps site image (l.maps site image);
+    objects = λ site image. objects_themselves (objects_known_of [] site image);
+    gone = l.gone;
+  }
+
+  pub waited_more : (w : Wait) → KnowsAtLeast (known_after_wait more w) (known_after_wait less w)
+  waited_more (wait.Join site image sharing) = record {
+    alone = refl;
+    owns = l.owns;
+    turn = l.turn;
+    fenced = l.fenced;
+    drawn = l.drawn;
+    maps = l.maps;
+    objects = l.objects;
+    gone = l.gone;
+  }
+  waited_more (wait.Hold site image) = record {
+    alone = l.alone;
+    owns = held_more site image;
+    turn = l.turn;
+    fenced = l.fenced;
+    drawn = l.drawn;
+    maps = l.maps;
+    objects = λ there place. objects_themselves (objects_known_of [] there place);
+    gone = l.gone;
+  }
+  waited_more (wait.Turn object) = turned_more (Some object)
+  waited_more (wait.Applied site image) = turned_more None
+  waited_more (wait.Leave site image) = record {
+    alone = l.alone;
+    owns = ap (owns_without site image) l.owns;
+    turn = l.turn;
+    fenced = l.fenced;
+    drawn = l.drawn;
+    maps = l.maps;
+    objects = l.objects;
+    gone = l.gone;
+  }
+
+-- ---- what it may do
+
+module _ (more less : Knowledge) (l : KnowsAtLeast more less) (site : SiteId) where
+  owns_more : (image : ℕ) (needs has : (alone : Bool) → HeaderView → Type 0) → ((alone : Bool) (h : HeaderView) → has alone h → needs alone h) → OwnsBy less site image has → OwnsBy more site image needs
+  owns_more image needs has goes owns = record {
+    alone = owns.alone;
+    header = owns.header;
+    is = ap (λ owns. own_of owns site image) l.owns ∙ owns.is;
+    meets = goes owns.alone owns.header owns.meets;
+  }
+
+  alone_more : (image : ℕ) (needs has : HeaderView → Type 0) → ((h : HeaderView) → has h → needs h) → OwnsAlone less site image has → OwnsAlone more site image needs
+  alone_more image needs has goes owns =
+      owns_more image (λ alone h. (alone ≡ true) × needs h) (λ alone h. (alone ≡ true) × has h) (λ alone h may. (may.0, goes h may.1)) owns
+
+  turn_more : (alone : Bool) (number : ℕ) → HasTurn alone less.turn number → HasTurn alone more.turn number
+  turn_more alone number has = subst (λ turn. HasTurn alone turn number) (sym l.turn) has
+
+  left_more : (image : ℕ) → IsLeftOver less site image → IsLeftOver more site image
+  left_more image over = record { gone = l.gone site image over.gone; unowned = ap (λ owns. own_of owns site image) l.owns ∙ over.unowned }
+
+  mapped_more : (image : ℕ) (layout : Layout) (size : ℕ) → IsMappedFor (maps_of less.maps site image) layout size → IsMappedFor (maps_of more.maps site image) layout size
+  mapped_more image layout size mapped = record {
+    count = mapped.count;
+    known = told_is (maps_of more.maps site image).count (maps_of less.maps site image).count (l.maps site image).count mapped.count mapped.known;
+    room = mapped.room;
+  }
+
+  size_more : (image to : ℕ) (h : HeaderView)
+      → MaySize (maps_of less.maps site image) (objects_known_of less.objects site image) to h → MaySize (maps_of more.maps site image) (objects_known_of more.objects site image) to h
+  size_more image to h may = record {
+    few = may.few;
+    mapped = λ grows. mapped_more image h.layout to (may.mapped grows);
+    zeroed = λ x from within. by x (may.zeroed x from within);
+  }
+    where
+      by : (x : ℕ) → IsZeroByState (maps_of less.maps site image) h x ⊎ IsZeroByChange (objects_known_of less.objects site image) h x
+          → IsZeroByState (maps_of more.maps site image) h x ⊎ IsZeroByChange (objects_known_of more.objects site image) h x
+      by x (inl none) = inl (record {
+        states = none.states;
+        told = told_is (maps_of more.maps site image).states (maps_of less.maps site image).states (l.maps site image).states none.states none.told;
+        none = none.none;
+      })
+      by x (inr blank) = inr ((l.objects site image).blank (object_of h.layout x) x blank)
+
+  make_more : (image : ℕ) (view : HeaderView) → MayMake less site image view → MayMake more site image view
+  make_more image view may = record {
+    drawn = l.drawn site image may.drawn;
+    new = may.new;
+    no_parent = may.no_parent;
+    no_journal = may.no_journal;
+    mapped = mapped_more image view.layout view.size may.mapped;
+  }
+
+  take_more : (image : ℕ) (name : List ℕ) (h : HeaderView) → MayTakeSnap (maps_of less.maps site image) name h → MayTakeSnap (maps_of more.maps site image) name h
+  take_more image name h may = record {
+    unlisted = may.unlisted;
+    has_room = may.has_room;
+    put = told_is (maps_of more.maps site image).put (maps_of less.maps site image).put (l.maps site image).put _ may.put;
+  }
+
+  raised_more : (image number : ℕ) → is_raised None number (maps_of less.maps site image).raised ≡ true → is_raised None number (maps_of more.maps site image).raised ≡ true
+  raised_more image number raised = (l.maps site image).raised None number raised
+
+  may_on_directory : (o : DirectoryOp) → PermitsOnDirectory less site o → PermitsOnDirectory more site o
+  may_on_directory (directory.Find name) may = tt
+  may_on_directory (directory.Add name) may = tt
+  may_on_directory (directory.Rename from to) may = tt
+  may_on_directory (directory.Remove image) may = alone_more image _ _ (λ h has. has) may
+  may_on_directory directory.List may = tt
+
+  may_on_header : (image : ℕ) (o : HeaderOp) → PermitsOnHeader less site image o → PermitsOnHeader more site image o
+  may_on_header image header.Get may = tt
+  may_on_header image (header.Create view) may = make_more image view may
+  may_on_header image (header.SetSize to) may = alone_more image _ _ (size_more image to) may
+  may_on_header image header.Remove may = alone_more image _ _ (λ h has. has) may
+  may_on_header image (header.SnapAdd name) may = alone_more image _ _ (take_more image name) may
+  may_on_header image (header.SnapRemove snap) may = alone_more image _ _ (λ h has. has) may
+  may_on_header image header.LockTake may = tt
+  may_on_header image header.LockDrop may = record { is = ap (λ owns. own_of owns site image) l.owns ∙ may.is }
+  may_on_header image (header.LockBreak owner) may = ap (λ fenced. is_fenced_by fenced site owner) l.fenced ∙ may
+  may_on_header image header.Watch may = tt
+  may_on_header image header.Unwatch may = tt
+  may_on_header image header.WatchersGet may = tt
+  may_on_header image (header.Notify kind) may = tt
+  may_on_header image _ may = elim may [ ]
+
+  may_on_object : (image number : ℕ) (o : DataOp) → PermitsOnObject less site image number o → PermitsOnObject more site image number o
+  may_on_object image number (object.Read snap parts) may = tt
+  may_on_object image number (object.Write context must parts bytes) may =
+      owns_more image _ _ (λ alone h has. record {
+        under = has.under;
+        within = has.within;
+        long = has.long;
+        at_turn = turn_more alone number has.at_turn;
+        raised = raised_more image number has.raised;
+      }) may
+  may_on_object image number (object.Zero context must parts) may =
+      owns_more image _ _ (λ alone h has. record { under = has.under; within = has.within; at_turn = turn_more alone number has.at_turn }) may
+  may_on_object image number (object.Empty context) may =
+      owns_more image _ _ (λ alone h has. record {
+        under = has.under;
+        within = has.within;
+        at_turn = turn_more alone number has.at_turn;
+        raised = raised_more image number has.raised;
+      }) may
+  may_on_object image number (object.Remove context) (inl over) = inl (left_more image over)
+  may_on_object image number (object.Remove context) (inr may) =
+      inr (owns_more image _ _ (λ alone h has. record {
+        under = has.under;
+        within = has.within;
+        at_turn = turn_more alone number has.at_turn;
+        outside = has.outside;
+      }) may)
+  may_on_object image number (object.WriteFull context bytes) may =
+      owns_more image _ _ (λ alone h has. record {
+        under = has.under;
+        within = has.within;
+        at_turn = turn_more alone number has.at_turn;
+        raised = raised_more image number has.raised;
+        long = has.long;
+        clear = has.clear;
+      }) may
+  may_on_object image number (object.CopyUp bytes) may = absurd may
+
+  may_on_map : (image : ℕ) (o : MapOp) → PermitsOnMap less site image o → PermitsOnMap more site image o
+  may_on_map image (states.Resize count) (inl may) = inl (record { drawn = l.drawn site image may.drawn; few = may.few })
+  may_on_map image (states.Resize count) (inr may) = inr (alone_more image _ _ (λ h has. has) may)
+  may_on_map image (states.Get view) may = tt
+  may_on_map image (states.Put (Some snap) bits) may =
+      alone_more image _ _ (λ h has. record {
+        next = has.next;
+        told = told_is (maps_of more.maps site image).states (maps_of less.maps site image).states (l.maps site image).states _ has.told;
+        hold = has.hold;
+      }) may
+  may_on_map image (states.Set None object state) may =
+      owns_more image _ _ (λ alone h has. record {
+        within = has.within;
+        at_turn = turn_more alone object has.at_turn;
+        is_state = has.is_state;
+        lowers = λ zero. (l.objects site image).absent object (has.lowers zero);
+      }) may
+  may_on_map image (states.Remove None) may =
+      (left_more image may.0, told_some (maps_of more.maps site image).count (maps_of less.maps site image).count (l.maps site image).count may.1)
+  may_on_map image (states.Remove (Some snap)) (inl over) = inl (left_more image over)
+  may_on_map image (states.Remove (Some snap)) (inr may) = inr (alone_more image _ _ (λ h has. has) may)
+  may_on_map image _ may = elim may [ ]
+
+  pub permits_more : (o : Op) → Permits less site o → Permits more site o
+  permits_more (op.Directory o) may = may_on_directory o may
+  permits_more (op.Header image o) may = may_on_header image o may
+  permits_more (op.Data image number o) may = may_on_object image number o may
+  permits_more (op.BlockAdd i) may = tt
+  permits_more (op.Map image o) may = may_on_map image o may
+  permits_more _ may = elim may [ ]
+
+-- ---- plans
+
+pub lawful_by_more : (at : Label → Knowledge) (plan : Plan) (more less : Knowledge) → KnowsAtLeast more less → IsLawful at less plan → IsLawful at more plan
+lawful_by_more at (Ask site why o next) more less l lawful = (
+  permits_more more less l site o lawful.0,
+  λ a can. lawful_by_more at (next a) (learned more site o a) (learned less site o a) (learned_more more less l site o a) (lawful.1 a can),
+)
+lawful_by_more at (Await w next) more less l lawful = lawful_by_more at next (known_after_wait more w) (known_after_wait less w) (waited_more more less l w) lawful
+lawful_by_more at (Note site image event next) more less l lawful = lawful_by_more at next more less l lawful
+lawful_by_more at (Return reply) more less l lawful = tt
+lawful_by_more at (Goto label) more less l lawful = (lawful.0, knows_onward more less (at label) l lawful.1)
+
+-- a request that goes to a label knows there what is known there
+pub jump_lawful : (at : Label → Knowledge) (label : Label) → IsFit label → IsLawful at (at label) (Goto label)
+jump_lawful at label fit = (fit, knows_itself (at label))
