@@ -1,9 +1,10 @@
 -- The image bytes of parts, as extents.
-use Rattle.std.proofs.Common.{Bool, true, false, ◌≡◌, ◌≢◌, ℕ, ◌+◌, ◌-◌, ◌*◌, ◌%◌, ◌<◌, ◌≤◌, ◌⊎◌, inl, inr, refl, sym, ap, subst, ◌∙◌, cond, eqb, arith, zero, suc, List, [], ◌∷◌, ◌++◌, map, min, append_assoc}
+use Rattle.std.proofs.Common.{Bool, true, false, ◌≡◌, ◌≢◌, ℕ, ◌+◌, ◌-◌, ◌*◌, ◌/◌, ◌%◌, ◌<◌, ◌≤◌, ◌⊎◌, inl, inr, refl, sym, ap, subst, ◌∙◌, cond, eqb, arith, zero, suc, List, [], ◌∷◌, ◌++◌, map, min, append_assoc}
 use Rattle.std.specs.List.{range_with_len}
-use Rattle.std.proofs.lemmas.Bool.{eq-eqb, ne_eqb}
+use Rattle.std.proofs.lemmas.Bool.{eq-eqb, eqb-true, ne_eqb}
 use Rattle.std.proofs.lemmas.List.{map-append}
-use Rattle.std.proofs.Math.Nat.{mul-le-mul_right, mod-lt}
+use Rattle.std.proofs.Math.Nat.{div_self, mul-le-mul_right, mod-lt}
+use Rattle.std.proofs.lemmas.Nat.{div-add-mod'}
 use Rattle.rbd_kinds.specs.declared.layout.Extent.{Extent}
 use Rattle.rbd_kinds.specs.declared.layout.Layout.{Layout}
 use Rattle.rbd_kinds.specs.declared.layout.Part.{Part}
@@ -297,7 +298,7 @@ is_series l is n o end at len count less is_at is_len is_count =
 
         below : o % l.unit < l.unit
         below = mod-lt o some
-    units whole (inr (inl one)) = once ((end - o) / run_from l o end) (sym (ap (λ k. (end - o) / k) all ∙ div-self (end - o) (omega arith)))
+    units whole (inr (inl one)) = once ((end - o) / run_from l o end) (sym (ap (λ k. (end - o) / k) all ∙ div_self (omega arith)))
       where
         all : run_from l o end ≡ end - o
         all = ap (λ b. cond b (end - o) (min (l.unit - o % l.unit) (end - o))) (eq-eqb l.count 1 (sym one))

@@ -1,4 +1,4 @@
-use Rattle.std.proofs.Common.{◌+◌, ◌*◌, ℕ, List, drop, get_or, ap, ◌∙◌, sym}
+use Rattle.std.proofs.Common.{◌+◌, ℕ, List, drop, ◌∙◌, sym}
 use Rattle.std.specs.List.{flat_map}
 use Rattle.rbd_flat.specs.declared.extents.Series.{Series}
 use Rattle.rbd_flat.specs.Flat.{painted, places_of}
