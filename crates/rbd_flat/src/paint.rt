@@ -37,7 +37,10 @@ fn paint_series<'a>(bytes: &mut [u8], series: &Series, new: &'a [u8]) -> &'a [u8
 fn begin(series: &Series, k: u64) -> u64
     ensures { result ≡ min (series.now.first.at + k * series.now.step) (2 ^ 64 - 1) }
 {
-    series.first.at.saturating_add(k.saturating_mul(series.step))
+    series
+        .first
+        .at
+        .saturating_add(k.saturating_mul(series.step))
 }
 
 /// What is left behind the first `len` bytes.

@@ -238,7 +238,7 @@ whole_units l is more n o end (suc m) begins fits =
     first = omega arith
 
     less : o < end
-    less = omega arith
+    less = omega (arith, some, first)
 
     whole : run_from l o end ≡ l.unit
     whole = unit_whole l more o end begins first
@@ -252,7 +252,7 @@ whole_units l is more n o end (suc m) begins fits =
 unit_series : (l : Layout) → IsLayout l → l.count ≢ 1 → (n o end : ℕ) → o % l.unit ≡ 0 → l.unit ≤ end - o
     → IsSeriesFrom l n o end (record { first = record { at = byte_at l n o; len = l.unit }; step = l.unit * l.count; count = (end - o) / l.unit })
 unit_series l is more n o end begins fits = record {
-  some = omega arith;
+  some = omega (arith, rest, below);
   within = within;
   first = whole_units l is more n o end ((end - o) / l.unit) begins within;
 }
@@ -267,7 +267,7 @@ unit_series l is more n o end begins fits = record {
     below = mod-lt (end - o) some
 
     within : o + l.unit * ((end - o) / l.unit) ≤ end
-    within = omega arith
+    within = omega (arith, rest, some)
 
 -- what lies together from an offset on, and all whole units behind it where that is one
 pub is_series : (l : Layout) → IsLayout l → (n o end at len count : ℕ) → o < end → at ≡ byte_at l n o → len ≡ run_from l o end
@@ -285,7 +285,7 @@ is_series l is n o end at len count less is_at is_len is_count =
     once count one = subst (IsMade (run_from l o end)) one (one_series l is n o end (l.unit * l.count) less)
 
     units : run_from l o end ≡ l.unit → (1 < l.count) ⊎ ((1 ≡ l.count) ⊎ (l.count < 1)) → IsMade (run_from l o end) ((end - o) / run_from l o end)
-    units whole (inl more) = subst (λ k. IsMade k ((end - o) / k)) (sym whole) (unit_series l is not_one n o end (omega (arith, below)) (omega arith))
+    units whole (inl more) = subst (λ k. IsMade k ((end - o) / k)) (sym whole) (unit_series l is not_one n o end (omega (arith, some, below, least)) (omega (arith, least)))
       where
         not_one : l.count ≢ 1
         not_one one = omega arith

@@ -21,5 +21,5 @@ returns c =
     let h = c.args.header.now in
     let end : c.min-end.result ≡ min c.held_below.result h.layout.object = c.min-end.ensures in
     c.in_ok-push_between.ensures
-    ∙ (λ i. c.in_ok-with_capacity.ensures i ++ extents_between h.layout c.args.object 0 (end i))
+    ∙ (λ i. c.in_ok-found.ensures i ++ extents_between h.layout c.args.object 0 (end i))
     ∙ whole_places h.layout c.requires.form.layout h.size c.args.object c.held_below.result c.held_below.ensures
