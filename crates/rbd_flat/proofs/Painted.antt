@@ -1,12 +1,15 @@
 -- Bytes painted at places, seen at one place.
-use Rattle.std.proofs.Common.{◌≡◌, ◌≢◌, ℕ, zero, suc, ◌+◌, ◌-◌, min, ◌<◌, ◌≤◌, Bool, true, false, cond, eqb, ltb, leb, ◌&&◌, ◌||◌, List, [], ◌∷◌, ◌++◌, length, get_or, set, drop, refl, sym, ◌∙◌, ap, subst, arith, inl, inr, ◌⊎◌, length-set, add-zero}
-use Rattle.std.specs.List.{range_with_len}
-use Rattle.std.proofs.lemmas.List.{drop-drop, get_or-drop, set_past, get_or-set_same, get_or-set_other, at_drop_more}
+use Rattle.std.proofs.Common.{◌≡◌, ◌≢◌, ℕ, zero, suc, ◌+◌, ◌-◌, ◌*◌, min, ◌<◌, ◌≤◌, Bool, true, false, cond, eqb, ltb, leb, ◌&&◌, ◌||◌, List, [], ◌∷◌, ◌++◌, length, get_or, set, drop, refl, sym, ◌∙◌, ap, subst, arith, inl, inr, ◌⊎◌, length-set, add-zero}
+use Rattle.std.specs.List.{flat_map, range_with_len}
+use Rattle.std.proofs.lemmas.List.{append-nil, length-append, drop-drop, get_or-drop, set_past, get_or-set_same, get_or-set_other, at_drop_more}
 use Rattle.std.proofs.lemmas.Bool.{cases_lt, cases_eq, ltb-true, ltb-false, leb-true, leb-false, eq-eqb, ne_eqb}
+use Rattle.std.proofs.lemmas.Grind.{flat_map-append}
 use Rattle.std.proofs.lemmas.List.FromFn.{length-range_with_len}
 use Rattle.rbd_kinds.specs.declared.layout.Extent.{Extent}
 use Rattle.rbd_kinds.proofs.Plain.{range_append}
 use Rattle.rbd_flat.specs.Flat.{painted, places_of, places_of_one}
+use Rattle.rbd_flat.specs.Series.{extents_from, extents_in}
+use Rattle.rbd_flat.specs.declared.extents.Series.{Series}
 use Rattle.rbd_flat.specs.Laws.{covers, covered, painted_at, painted_byte}
 
 -- painting keeps the length
@@ -136,14 +139,58 @@ painted_within at len new old h = elim (cases_lt (length old - at) len) [
   | inr all ↦ ap (λ n. painted (range_with_len at n) new old) (let e : min len (length old - at) ≡ len = omega arith in e)
 ]
 
--- the first of several extents
-pub painted_next : (e : Extent) (at : List Extent) (new old : List ℕ) → painted (places_of (e ∷ at)) new old ≡ painted (places_of at) (drop e.len new) (painted (places_of_one e) new old)
-painted_next e at new old =
-    painted_append (places_of_one e) (places_of at) new old
-    ∙ ap (λ k. painted (places_of at) (drop k new) (painted (places_of_one e) new old)) (length-range_with_len e.at e.len)
+-- ---- a series
 
--- the next of several extents
-pub painted_step : (at : List Extent) (i : ℕ) (d : Extent) (new old : List ℕ) → i < length at → painted (places_of (drop i at)) new old ≡ painted (places_of (drop (i + 1) at)) (drop (get_or at i d).len new) (painted (places_of_one (get_or at i d)) new old)
-painted_step at i d new old h =
-    at_drop_more (λ (es : List Extent). painted (places_of es) new old) at i d h
-    ∙ painted_next (get_or at i d) (drop (i + 1) at) new old
+-- a series of one extent more
+series_more : (first : Extent) (step k : ℕ) → extents_from first step (k + 1) ≡ extents_from first step k ++ record { at = first.at + k * step; len = first.len } ∷ []
+series_more first step zero = ap (λ a. record { at = a; len = first.len } ∷ []) here
+  where
+    here : first.at ≡ first.at + 0 * step
+    here = omega arith
+series_more first step (suc k) =
+    let next : Extent = record first { at = first.at + step } in
+    ap (extents_from first step) (let e : suc k + 1 ≡ suc (k + 1) = omega arith in e)
+    ∙ ap (λ es. first ∷ es) (series_more next step k)
+    ∙ ap (λ a. first ∷ (extents_from next step k ++ record { at = a; len = first.len } ∷ [])) (let e : first.at + step + k * step ≡ first.at + suc k * step = omega arith in e)
+
+length_series : (first : Extent) (step k : ℕ) → length (places_of (extents_from first step k)) ≡ k * first.len
+length_series first step zero = omega arith
+length_series first step (suc k) =
+    let next : Extent = record first { at = first.at + step } in
+    length-append (places_of_one first) (places_of (extents_from next step k))
+    ∙ (λ i. length-range_with_len first.at first.len i + length_series next step k i)
+    ∙ (let e : first.len + k * first.len ≡ suc k * first.len = omega arith in e)
+
+-- what is painted behind a series
+after_series : (first : Extent) (step k : ℕ) (at : List Extent) (new old : List ℕ)
+    → painted (places_of (extents_from first step k ++ at)) new old
+    ≡ painted (places_of at) (drop (k * first.len) new) (painted (places_of (extents_from first step k)) new old)
+after_series first step k at new old =
+    ap (λ ps. painted ps new old) (flat_map-append places_of_one (extents_from first step k) at)
+    ∙ painted_append (places_of (extents_from first step k)) (places_of at) new old
+    ∙ ap (λ n. painted (places_of at) (drop n new) (painted (places_of (extents_from first step k)) new old)) (length_series first step k)
+
+-- the next extent of a series
+pub series_step : (first : Extent) (step k : ℕ) (new old : List ℕ)
+    → painted (places_of (extents_from first step (k + 1))) new old
+    ≡ painted (places_of_one (record { at = first.at + k * step; len = first.len })) (drop (k * first.len) new) (painted (places_of (extents_from first step k)) new old)
+series_step first step k new old =
+    ap (λ es. painted (places_of es) new old) (series_more first step k)
+    ∙ after_series first step k (record { at = first.at + k * step; len = first.len } ∷ []) new old
+    ∙ ap (λ ps. painted ps (drop (k * first.len) new) (painted (places_of (extents_from first step k)) new old)) (append-nil (range_with_len (first.at + k * step) first.len))
+
+-- the next of several series
+pub several_step : (all : List Series) (i : ℕ) (d : Series) (new old : List ℕ) → i < length all
+    → painted (places_of (flat_map extents_in (drop i all))) new old
+    ≡ painted (places_of (flat_map extents_in (drop (i + 1) all))) (drop ((get_or all i d).count * (get_or all i d).first.len) new) (painted (places_of (extents_in (get_or all i d))) new old)
+several_step all i d new old h =
+    let s = get_or all i d in
+    at_drop_more (λ (ss : List Series). painted (places_of (flat_map extents_in ss)) new old) all i d h
+    ∙ after_series s.first s.step s.count (flat_map extents_in (drop (i + 1) all)) new old
+
+-- where a place is past all numbers, any place past the end is as good
+pub painted_bounded : (at most len : ℕ) (new old : List ℕ) → length old ≤ most → painted (range_with_len (min at most) len) new old ≡ painted (range_with_len at len) new old
+painted_bounded at most len new old h = elim (cases_lt most at) [
+  | inl past ↦ painted_past (min at most) len new old (omega arith) ∙ sym (painted_past at len new old (omega arith))
+  | inr all ↦ ap (λ a. painted (range_with_len a len) new old) (let e : min at most ≡ at = omega arith in e)
+]

@@ -1,3 +1,4 @@
+pub mod Series
 pub mod Flat
 pub mod Laws
 pub mod Read

@@ -6,8 +6,9 @@ ghost use Rattle.rbd_kinds.specs.declared.header.SnapStatus.TheVariants.{Unprote
 ghost use Rattle.rbd_flat.specs.Flat.{FlatSnap, FlatImage, painted, places_of, resized, snap_in, with_status};
 ghost use Rattle.rbd_flat.specs.Read.{image_view};
 
+use crate::extents::Extents;
 use crate::paint::paint;
-use rbd_kinds::{Bytes, Extent, Name, NoMemory, Role, SnapId, SnapStatus, TryClone};
+use rbd_kinds::{Bytes, Name, NoMemory, Role, SnapId, SnapStatus, TryClone};
 use std::alloc::Global;
 use std::marker::Model;
 
@@ -113,7 +114,7 @@ impl Image {
     }
 
     /// Puts the bytes into the extents, one after another; what lies past the size is left out.
-    pub fn paint(&mut self, at: &[Extent], bytes: &[u8])
+    pub fn paint(&mut self, at: &Extents, bytes: &[u8])
         ensures { self.new ≡ record self.old { bytes = painted (places_of at.now) bytes.now self.old.bytes } }
     {
         paint(self.bytes.as_mut_slice(), at, bytes);

@@ -46,6 +46,6 @@ mod site;
 
 pub use effect::Effect;
 pub use entry::{Cause, Entry};
-pub use extents::Extents;
+pub use extents::{Extents, Series};
 pub use fault::FlatFault;
 pub use site::FlatSite;

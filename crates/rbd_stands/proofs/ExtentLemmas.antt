@@ -1,14 +1,17 @@
 -- The image bytes of parts, as extents.
-use Rattle.std.proofs.Common.{Bool, true, false, ◌≡◌, ◌≢◌, ℕ, ◌+◌, ◌-◌, ◌*◌, ◌%◌, ◌<◌, ◌≤◌, ◌⊎◌, inl, inr, refl, sym, ap, subst, ◌∙◌, cond, eqb, arith, zero, suc, List, [], ◌∷◌, ◌++◌, map, min, append_assoc}
+use Rattle.std.proofs.Common.{Bool, true, false, ◌≡◌, ◌≢◌, ℕ, ◌+◌, ◌-◌, ◌*◌, ◌/◌, ◌%◌, ◌<◌, ◌≤◌, ◌⊎◌, inl, inr, refl, sym, ap, subst, ◌∙◌, cond, eqb, arith, zero, suc, List, [], ◌∷◌, ◌++◌, map, min, append_assoc}
 use Rattle.std.specs.List.{range_with_len}
-use Rattle.std.proofs.lemmas.Bool.{eq-eqb, ne_eqb}
+use Rattle.std.proofs.lemmas.Bool.{eq-eqb, eqb-true, ne_eqb}
 use Rattle.std.proofs.lemmas.List.{map-append}
-use Rattle.std.proofs.Math.Nat.{mul-le-mul_right, mod-lt}
+use Rattle.std.proofs.Math.Nat.{div_self, mul-le-mul_right, mod-lt}
+use Rattle.std.proofs.lemmas.Nat.{div-add-mod'}
 use Rattle.rbd_kinds.specs.declared.layout.Extent.{Extent}
 use Rattle.rbd_kinds.specs.declared.layout.Layout.{Layout}
 use Rattle.rbd_kinds.specs.declared.layout.Part.{Part}
 use Rattle.rbd_kinds.specs.Striping.{IsLayout, byte_at, units_per_object}
 use Rattle.rbd_kinds.proofs.Plain.{range_append}
+use Rattle.rbd_flat.specs.Series.{extents_from, extents_in}
+use Rattle.rbd_flat.specs.declared.extents.Series.{Series}
 use Rattle.rbd_layout.specs.Pieces.{IsHeld, part_at, parts_at, with_place}
 use Rattle.rbd_layout.proofs.Cover.{cover, map-range}
 use Rattle.rbd_layout.proofs.Limits.{Shape, shape_of}
@@ -17,7 +20,7 @@ use Rattle.rbd_layout.proofs.Places.{held_at_start}
 use Rattle.rbd_layout.proofs.Walk.{next_row, same_row, whole_object as linear}
 use Rattle.rbd_stands.specs.Condition.{extents_of}
 use Rattle.rbd_stands.specs.Effect.{joined_extents, places_below, whole_object}
-use Rattle.rbd_stands.specs.Kept.{IsHeldBelow, extents_between, kept_len, run_from}
+use Rattle.rbd_stands.specs.Kept.{IsHeldBelow, IsSeriesFrom, extents_between, kept_len, run_from}
 use Rattle.rbd_stands.proofs.HeldLemmas.{part_places}
 
 -- ---- places one after another are one extent
@@ -186,12 +189,130 @@ kept_places l n size held kept is p same =
     let count : p.offset + kept - p.offset ≡ kept = omega arith in
     ap (λ k. joined_extents l (map (byte_at l n) (range_with_len p.offset k))) (count ∙ same) ∙ ap (joined_extents l) (sym (part_places l n size held is p))
 
--- ---- the loop over the runs
+-- ---- units of an object, one in each stripe
 
-pub pushed_next : (l : Layout) → IsLayout l → (n o end at len : ℕ) (found new : List Extent) → o < end → at ≡ byte_at l n o → len ≡ run_from l o end
-    → new ≡ found ++ record { at = at; len = len } ∷ [] → new ++ extents_between l n (o + len) end ≡ found ++ extents_between l n o end
-pushed_next l is n o end at len found new less is_at is_len pushed =
-    ap (λ xs. xs ++ extents_between l n (o + len) end) pushed
-    ∙ append_assoc found (record { at = at; len = len } ∷ []) (extents_between l n (o + len) end)
-    ∙ (λ i. found ++ record { at = is_at i; len = is_len i } ∷ extents_between l n (o + is_len i) end)
-    ∙ ap (λ xs. found ++ xs) (sym (next_extent l is n o end less))
+-- an extent of its own
+one_series : (l : Layout) → IsLayout l → (n o end step : ℕ) → o < end
+    → IsSeriesFrom l n o end (record { first = record { at = byte_at l n o; len = run_from l o end }; step = step; count = 1 })
+one_series l is n o end step less = record {
+  some = let some : 0 < run_from l o end = run.0 in omega arith;
+  within = let within : o + run_from l o end ≤ end = run.1 in omega arith;
+  first = next_extent l is n o end less ∙ ap (λ k. record { at = byte_at l n o; len = run_from l o end } ∷ extents_between l n k end) once;
+}
+  where
+    run : (0 < run_from l o end) × (o + run_from l o end ≤ end)
+    run = run_positive l is o end less
+
+    once : o + run_from l o end ≡ o + run_from l o end * 1
+    once = omega arith
+
+-- a unit further on in the object is a stripe further on in the image
+next_unit : (l : Layout) → 0 < l.unit → (n o : ℕ) → o % l.unit ≡ 0 → (byte_at l n (o + l.unit) ≡ byte_at l n o + l.unit * l.count) × ((o + l.unit) % l.unit ≡ 0)
+next_unit l some n o begins =
+    let digits = next_row l.unit o l.unit some (let e : o % l.unit + l.unit ≡ l.unit = omega arith in e) in
+    (rw (digits.0, digits.1) (omega arith), digits.1)
+
+-- a unit that the end leaves whole lies together
+unit_whole : (l : Layout) → l.count ≢ 1 → (o end : ℕ) → o % l.unit ≡ 0 → o + l.unit ≤ end → run_from l o end ≡ l.unit
+unit_whole l more o end begins fits = ap (λ b. cond b (end - o) (min (l.unit - o % l.unit) (end - o))) (ne_eqb l.count 1 more) ∙ least
+  where
+    least : min (l.unit - o % l.unit) (end - o) ≡ l.unit
+    least = omega arith
+
+whole_units : (l : Layout) → IsLayout l → l.count ≢ 1 → (n o end m : ℕ) → o % l.unit ≡ 0 → o + l.unit * m ≤ end
+    → extents_between l n o end ≡ extents_from (record { at = byte_at l n o; len = l.unit }) (l.unit * l.count) m ++ extents_between l n (o + l.unit * m) end
+whole_units l is more n o end zero begins fits = ap (λ k. extents_between l n k end) here
+  where
+    here : o ≡ o + l.unit * 0
+    here = omega arith
+whole_units l is more n o end (suc m) begins fits =
+    next_extent l is n o end less
+    ∙ (λ i. record { at = byte_at l n o; len = whole i } ∷ extents_between l n (o + whole i) end)
+    ∙ ap (λ xs. record { at = byte_at l n o; len = l.unit } ∷ xs) (whole_units l is more n (o + l.unit) end m next.1 (omega arith)
+    ∙ (λ i. extents_from (record { at = next.0 i; len = l.unit }) (l.unit * l.count) m ++ extents_between l n (behind i) end))
+  where
+    some : 0 < l.unit
+    some = let s = shape_of l is in omega (arith, s.unit_least)
+
+    first : o + l.unit ≤ end
+    first = omega arith
+
+    less : o < end
+    less = omega (arith, some, first)
+
+    whole : run_from l o end ≡ l.unit
+    whole = unit_whole l more o end begins first
+
+    next : (byte_at l n (o + l.unit) ≡ byte_at l n o + l.unit * l.count) × ((o + l.unit) % l.unit ≡ 0)
+    next = next_unit l some n o begins
+
+    behind : o + l.unit + l.unit * m ≡ o + l.unit * suc m
+    behind = omega arith
+
+unit_series : (l : Layout) → IsLayout l → l.count ≢ 1 → (n o end : ℕ) → o % l.unit ≡ 0 → l.unit ≤ end - o
+    → IsSeriesFrom l n o end (record { first = record { at = byte_at l n o; len = l.unit }; step = l.unit * l.count; count = (end - o) / l.unit })
+unit_series l is more n o end begins fits = record {
+  some = omega (arith, rest, below);
+  within = within;
+  first = whole_units l is more n o end ((end - o) / l.unit) begins within;
+}
+  where
+    some : 0 < l.unit
+    some = let s = shape_of l is in omega (arith, s.unit_least)
+
+    rest : (end - o) / l.unit * l.unit + (end - o) % l.unit ≡ end - o
+    rest = div-add-mod' (end - o) l.unit
+
+    below : (end - o) % l.unit < l.unit
+    below = mod-lt (end - o) some
+
+    within : o + l.unit * ((end - o) / l.unit) ≤ end
+    within = omega (arith, rest, some)
+
+-- what lies together from an offset on, and all whole units behind it where that is one
+pub is_series : (l : Layout) → IsLayout l → (n o end at len count : ℕ) → o < end → at ≡ byte_at l n o → len ≡ run_from l o end
+    → count ≡ cond (eqb len l.unit) ((end - o) / len) 1
+    → IsSeriesFrom l n o end (record { first = record { at = at; len = len }; step = l.unit * l.count; count = count })
+is_series l is n o end at len count less is_at is_len is_count =
+    subst (λ a. IsSeriesFrom l n o end (record { first = record { at = a; len = len }; step = l.unit * l.count; count = count })) (sym is_at)
+    (subst (IsMade len) (sym is_count)
+    (subst (λ k. IsMade k (cond (eqb k l.unit) ((end - o) / k) 1)) (sym is_len) (go (eqb (run_from l o end) l.unit) refl)))
+  where
+    IsMade : (len count : ℕ) → Type 0
+    IsMade len count = IsSeriesFrom l n o end (record { first = record { at = byte_at l n o; len = len }; step = l.unit * l.count; count = count })
+
+    once : (count : ℕ) → 1 ≡ count → IsMade (run_from l o end) count
+    once count one = subst (IsMade (run_from l o end)) one (one_series l is n o end (l.unit * l.count) less)
+
+    units : run_from l o end ≡ l.unit → (1 < l.count) ⊎ ((1 ≡ l.count) ⊎ (l.count < 1)) → IsMade (run_from l o end) ((end - o) / run_from l o end)
+    units whole (inl more) = subst (λ k. IsMade k ((end - o) / k)) (sym whole) (unit_series l is not_one n o end (omega (arith, some, below, least)) (omega (arith, least)))
+      where
+        not_one : l.count ≢ 1
+        not_one one = omega arith
+
+        least : min (l.unit - o % l.unit) (end - o) ≡ l.unit
+        least = sym (ap (λ b. cond b (end - o) (min (l.unit - o % l.unit) (end - o))) (ne_eqb l.count 1 not_one)) ∙ whole
+
+        some : 0 < l.unit
+        some = let s = shape_of l is in omega (arith, s.unit_least)
+
+        below : o % l.unit < l.unit
+        below = mod-lt o some
+    units whole (inr (inl one)) = once ((end - o) / run_from l o end) (sym (ap (λ k. (end - o) / k) all ∙ div_self (omega arith)))
+      where
+        all : run_from l o end ≡ end - o
+        all = ap (λ b. cond b (end - o) (min (l.unit - o % l.unit) (end - o))) (eq-eqb l.count 1 (sym one))
+    units whole (inr (inr none)) = absurd (let s = shape_of l is in omega (arith, s.count_least))
+
+    go : (b : Bool) → eqb (run_from l o end) l.unit ≡ b → IsMade (run_from l o end) (cond b ((end - o) / run_from l o end) 1)
+    go true e = units (eqb-true (run_from l o end) l.unit e) (cases_lt 1 l.count)
+    go false e = once 1 refl
+
+-- ---- the loop over the series
+
+pub pushed_next : (l : Layout) (n o end : ℕ) (s : Series) (found new : List Extent) → IsSeriesFrom l n o end s
+    → new ≡ found ++ extents_in s → new ++ extents_between l n (o + s.first.len * s.count) end ≡ found ++ extents_between l n o end
+pushed_next l n o end s found new is pushed =
+    ap (λ xs. xs ++ extents_between l n (o + s.first.len * s.count) end) pushed
+    ∙ append_assoc found (extents_in s) (extents_between l n (o + s.first.len * s.count) end)
+    ∙ ap (λ xs. found ++ xs) (sym is.first)

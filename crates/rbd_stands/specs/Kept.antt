@@ -1,11 +1,13 @@
 -- How much of an object's parts lies below a size, where it is known how many of the object's
 -- offsets do.
-use Rattle.std.specs.Prelude.{ℕ, ◌-◌, ◌%◌, ◌<◌, ◌↔◌, nat_lt, ◌==◌, if◌then◌else◌, List, [], ◌∷◌, ◌++◌, min, map, take, drop}
+use Rattle.std.specs.Prelude.{◌≡◌, ℕ, ◌+◌, ◌-◌, ◌*◌, ◌%◌, ◌<◌, ◌≤◌, ◌↔◌, nat_lt, ◌==◌, if◌then◌else◌, List, [], ◌∷◌, ◌++◌, min, map, take, drop}
 use Rattle.std.specs.List.{range_with_len}
 use Rattle.rbd_kinds.specs.declared.layout.Extent.{Extent}
 use Rattle.rbd_kinds.specs.declared.layout.Layout.{Layout}
 use Rattle.rbd_kinds.specs.declared.layout.Part.{Part}
 use Rattle.rbd_kinds.specs.Striping.{byte_at}
+use Rattle.rbd_flat.specs.Series.{extents_in}
+use Rattle.rbd_flat.specs.declared.extents.Series.{Series}
 use Rattle.rbd_stands.specs.Effect.{joined_extents}
 
 -- How many offsets of an object have their image byte below a size: they are the first ones.
@@ -31,6 +33,13 @@ run_from l offset end = if l.count == 1 then end - offset else min (l.unit - off
 -- the image bytes of the offsets from one to another, as extents
 abbrev pub extents_between : Layout → (number from end : ℕ) → List Extent
 extents_between l number from end = joined_extents l (map (byte_at l number) (range_with_len from (end - from)))
+
+-- The series has the first extents from an offset on, at least one, and what it leaves comes behind.
+pub record IsSeriesFrom (l : Layout) (number offset end : ℕ) (s : Series) : Type 0 where
+  pub some : 0 < s.first.len * s.count
+  pub within : offset + s.first.len * s.count ≤ end
+  pub first : extents_between l number offset end
+      ≡ extents_in s ++ extents_between l number (offset + s.first.len * s.count) end
 
 -- those of the bytes that are kept, where each part has as many as its length
 abbrev pub bytes_kept : (held : ℕ) → List Part → (bytes : List ℕ) → List ℕ

@@ -47,7 +47,7 @@ impl FlatSite {
         let Some(found) = self.images.get_mut(&image) else {
             return;
         };
-        found.paint(at.as_slice(), bytes.as_slice());
+        found.paint(at, bytes.as_slice());
     }
 
     /// Puts zeros into the extents of an image.
@@ -57,7 +57,7 @@ impl FlatSite {
         let Some(found) = self.images.get_mut(&image) else {
             return;
         };
-        found.paint(at.as_slice(), &[]);
+        found.paint(at, &[]);
     }
 
     /// Cuts an image to a size in bytes, or lengthens it by zeros.

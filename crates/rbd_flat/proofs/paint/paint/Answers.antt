@@ -1,15 +1,17 @@
-use Rattle.std.proofs.Common.{◌+◌, ℕ, List, drop, get_or, ap, ◌∙◌, sym}
-use Rattle.rbd_kinds.specs.declared.layout.Extent.{Extent}
+use Rattle.std.proofs.Common.{◌+◌, ℕ, List, drop, ◌∙◌, sym}
+use Rattle.std.specs.List.{flat_map}
+use Rattle.rbd_flat.specs.declared.extents.Series.{Series}
 use Rattle.rbd_flat.specs.Flat.{painted, places_of}
-use Rattle.rbd_flat.proofs.Painted.{painted_step}
+use Rattle.rbd_flat.specs.Series.{extents_in}
+use Rattle.rbd_flat.proofs.Painted.{several_step}
 use Rattle.rbd_flat.proofs.paint.paint.Goals as goal
 
-pub loop-extent-preserved : goal.loop-extent-preserved
-loop-extent-preserved c =
-    let i = c.loop-extent.extent-index in
-    let later : List ℕ = places_of (drop (i + 1) c.args.at.now) in
-    let d : Extent = record { at = 0; len = 0 } in
-    ap (λ (rest : List ℕ). painted later rest c.paint_extent.new.bytes) c.behind-rest.ensures
-    ∙ ap (λ (bs : List ℕ). painted later (drop (get_or c.args.at.now i d).len c.loop-extent.rest.now) bs) c.paint_extent.ensures
-    ∙ sym (painted_step c.args.at.now i d c.loop-extent.rest.now c.loop-extent.bytes c.loop-extent-test.true)
-    ∙ c.loop-extent.invariant
+pub loop-series-preserved : goal.loop-series-preserved
+loop-series-preserved c =
+    let i = c.loop-series.series-index in
+    let all = c.as_slice-series-items.result.now in
+    let later : List ℕ = places_of (flat_map extents_in (drop (i + 1) all)) in
+    let d : Series = record { first = record { at = 0; len = 0 }; step = 0; count = 0 } in
+    (λ j. painted later (c.paint_series-rest.ensures.rest j) (c.paint_series-rest.ensures.bytes j))
+    ∙ sym (several_step all i d c.loop-series.rest.now c.loop-series.bytes c.loop-series-test.true)
+    ∙ c.loop-series.invariant

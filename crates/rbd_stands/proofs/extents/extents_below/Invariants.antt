@@ -4,4 +4,4 @@ use Rattle.rbd_stands.proofs.extents.extents_below.Given as goal
 
 -- what was found, and what is left to find
 abbrev pub invariant-loop-part : goal.invariant-loop-part
-invariant-loop-part l = l.found.items ++ extents_below l.header.layout l.header.size l.object (drop l.part-index l.parts) ≡ extents_below l.header.layout l.header.size l.object l.parts
+invariant-loop-part l = l.found ++ extents_below l.header.layout l.header.size l.object (drop l.part-index l.parts) ≡ extents_below l.header.layout l.header.size l.object l.parts

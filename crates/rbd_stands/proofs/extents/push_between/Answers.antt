@@ -4,6 +4,5 @@ use Rattle.rbd_stands.proofs.extents.push_between.Goals as goal
 
 pub loop-offset-preserved : goal.loop-offset-preserved
 loop-offset-preserved c =
-    let l = c.args.layout.now in
-    pushed_next l c.requires.layout c.args.object c.loop-offset.offset c.args.end c.image_byte-at.result c.run_from-len.result c.loop-offset.found.items c.push.new.self.items
-    c.loop-offset-test.true c.image_byte-at.ensures c.run_from-len.ensures c.in_ok-push.ensures.items ∙ c.loop-offset.invariant
+    pushed_next c.args.layout.now c.args.object c.loop-offset.offset c.args.end c.series_from-series.result c.loop-offset.found c.push.new.self
+    c.series_from-series.ensures c.in_ok-push.ensures.ok ∙ c.loop-offset.invariant

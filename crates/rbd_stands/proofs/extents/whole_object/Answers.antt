@@ -20,6 +20,6 @@ pub returns : goal.returns
 returns c =
     let h = c.args.header.now in
     let end : c.min-end.result ≡ min c.held_below.result h.layout.object = c.min-end.ensures in
-    c.from_vec.ensures ∙ c.in_ok-push_between.ensures
-    ∙ (λ i. c.new-found.ensures.items i ++ extents_between h.layout c.args.object 0 (end i))
+    c.in_ok-push_between.ensures
+    ∙ (λ i. c.in_ok-found.ensures i ++ extents_between h.layout c.args.object 0 (end i))
     ∙ whole_places h.layout c.requires.form.layout h.size c.args.object c.held_below.result c.held_below.ensures

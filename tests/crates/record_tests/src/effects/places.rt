@@ -1,9 +1,9 @@
 //! Which image bytes an object's parts are, and which a whole object.
 use super::{DISK, STRIPED, header};
 use crate::holds;
-use rbd_flat::Effect;
+use rbd_flat::{Effect, Extents};
 use rbd_kinds::{
-    Answer, Bytes, DataOp, Extent, HeaderView, Layout, NoMemory, Op, Part, Parts, SnapContext,
+    Answer, Bytes, DataOp, HeaderView, Layout, NoMemory, Op, Part, Parts, SnapContext,
     SnapId, SnapIds,
 };
 use rbd_stands::effect_of;
@@ -35,22 +35,24 @@ fn context(alloc: Global) -> SnapContext {
 /// Whether an effect is zeros at these places of the image.
 fn is_zero_at(effect: &Option<Effect>, want: &[(u64, u64)]) -> bool {
     match effect {
-        Some(Effect::Zero { image, at }) => *image == DISK && are_at(at.as_slice(), want),
+        Some(Effect::Zero { image, at }) => *image == DISK && are_at(at, want),
         _ => false,
     }
 }
 
 /// Whether extents have these begins and lengths.
-fn are_at(at: &[Extent], want: &[(u64, u64)]) -> bool {
-    if at.len() != want.len() {
-        return false;
-    }
-    for k in 0..at.len() {
-        if at[k].at != want[k].0 || at[k].len != want[k].1 {
-            return false;
+fn are_at(at: &Extents, want: &[(u64, u64)]) -> bool {
+    let mut k = 0;
+    for series in at.as_slice() {
+        for n in 0..series.count {
+            let at = series.first.at + n * series.step;
+            if want.get(k) != Some(&(at, series.first.len)) {
+                return false;
+            }
+            k += 1;
         }
     }
-    true
+    k == want.len()
 }
 
 fn zeroes(
@@ -234,7 +236,7 @@ fn write(alloc: Global) -> Result<Op, NoMemory> {
 fn is_piece(effect: &Option<Effect>, want: &[(u64, u64)], want_bytes: &[u8]) -> bool {
     match effect {
         Some(Effect::Piece { image, at, bytes }) => {
-            *image == DISK && are_at(at.as_slice(), want) && bytes.as_slice() == want_bytes
+            *image == DISK && are_at(at, want) && bytes.as_slice() == want_bytes
         }
         _ => false,
     }

@@ -1,6 +1,6 @@
 //! Each effect once, with the bytes worked out by hand, and the answers of a read.
 use crate::holds;
-use rbd_flat::{Effect, Extents, FlatFault, FlatSite};
+use rbd_flat::{Effect, Extents, FlatFault, FlatSite, Series};
 use rbd_kinds::{Bytes, Extent, ImageId, Name, NoMemory, Role, SnapId, SnapStatus};
 use std::alloc::Global;
 use std::process::Abort;
@@ -17,7 +17,12 @@ fn name(rt: &impl Abort, alloc: Global, text: &[u8]) -> Result<Name, NoMemory> {
 }
 
 fn places(alloc: Global, at: &[Extent]) -> Result<Extents, NoMemory> {
-    Ok(Extents::from_vec(Vec::from_slice(alloc, at)?))
+    let mut places = Extents::with_capacity(alloc, at.len())?;
+    for extent in at {
+        let (first, step, count) = (*extent, 0, 1);
+        places.push(Series { first, step, count })?;
+    }
+    Ok(places)
 }
 
 /// Takes a step. The effect goes with the call, so that no test lets one go itself.

@@ -18,5 +18,5 @@ returns c =
     let now = c.get_mut.follows.lender made in
     image_written c.self.inside.names.entries there.entries now.entries c.self.inside.links.keys c.args.image c.in-Some.found.now made
     (λ i. record i { bytes = painted (places_of c.args.at.now) c.args.bytes.now i.bytes })
-    (sym c.in-Some.ensures.value) (rw (c.as_slice.ensures, c.as_slice-2.ensures) at c.paint.ensures)
+    (sym c.in-Some.ensures.value) (rw c.as_slice.ensures at c.paint.ensures)
     ((c.get_mut.follows.holds made).3 (ap is_some (sym c.in-Some.ensures.value))).0 c.args.self.now c.self.view_is
