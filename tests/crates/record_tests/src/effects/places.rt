@@ -3,8 +3,8 @@ use super::{DISK, STRIPED, header};
 use crate::holds;
 use rbd_flat::{Effect, Extents};
 use rbd_kinds::{
-    Answer, Bytes, DataOp, HeaderView, Layout, NoMemory, Op, Part, Parts, SnapContext,
-    SnapId, SnapIds,
+    Answer, Bytes, DataOp, HeaderView, Layout, NoMemory, Op, Part, Parts, SnapContext, SnapId,
+    SnapIds,
 };
 use rbd_stands::effect_of;
 use std::alloc::Global;

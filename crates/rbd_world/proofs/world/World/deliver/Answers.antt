@@ -1,6 +1,5 @@
-use Rattle.std.proofs.Common.{List, [], ◌∷◌, ◌++◌, ◌+◌, ◌<◌, ◌^◌, length, refl, sym, ap, ◌∙◌, subst}
+use Rattle.std.proofs.Common.{List, [], ◌∷◌, ◌++◌, refl, sym, ap, ◌∙◌, subst}
 use Rattle.rbd_client.specs.Seen.{as_is}
-use Rattle.rbd_flat.specs.declared.entry.Entry.{Entry}
 use Rattle.rbd_kinds.proofs.Results.{on_err_always}
 use Rattle.rbd_machine.specs.Plan.{Standing}
 use Rattle.rbd_watch.specs.Posting.{notice_numbered}
@@ -8,7 +7,6 @@ use Rattle.rbd_catalog.specs.Session.{stands_of}
 use Rattle.rbd_world.specs.declared.event.Call.{Call}
 use Rattle.rbd_world.specs.declared.event.Event.TheVariants as event
 use Rattle.rbd_world.specs.Begun.{has_line}
-use Rattle.rbd_world.specs.Noted.{history_with}
 use Rattle.rbd_world.specs.Seen.{seen, seen_by}
 use Rattle.rbd_world.specs.Step.{IsWorldStep, IsUndone, LeavesLives, LeavesParts, StepsParts, delivered}
 use Rattle.rbd_world.specs.World.{WorldView, client_in}
