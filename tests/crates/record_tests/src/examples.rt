@@ -2,7 +2,7 @@
 //! a page says of a value is asserted here.
 use rbd_edge::{SureSink, SureSource, read_to, write_all};
 use rbd_fence::Blocklist;
-use rbd_flat::{Effect, Extents, FlatSite};
+use rbd_flat::{Effect, Extents, FlatSite, Series};
 use rbd_guard::Guard;
 use rbd_header::{Header, new_header};
 use rbd_journal::{Journal, decode, encode};
@@ -305,7 +305,13 @@ fn parts(rt: HostRuntime) -> Result<(), Fail> {
 fn flat(rt: HostRuntime) -> Result<(), Fail> {
     let alloc = rt.alloc();
     let image = ImageId(1);
-    let at = Extents::from_vec(Vec::from_slice(alloc, &[Extent { at: 4094, len: 5 }])?);
+    let mut at = Extents::with_capacity(alloc, 1)?;
+    let first = Extent { at: 4094, len: 5 };
+    at.push(Series {
+        first,
+        step: 0,
+        count: 1,
+    })?;
     let bytes = Bytes::from_slice(alloc, b"hello")?;
     let mut site = FlatSite::new(alloc);
     site.after(&Effect::Create {

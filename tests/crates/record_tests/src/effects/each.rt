@@ -35,11 +35,11 @@ unwatch|done|None
 watchers-get|done|None
 notify|done|None
 data-read|done|None
-data-write|done|Some(Piece { image: ImageId(7), at: Sequence { items: [Extent { at: 8190, len: 2 }, Extent { at: 16384, len: 2 }, Extent { at: 19998, len: 2 }] }, bytes: Bytes { bytes: [1, 2, 3, 4, 5, 6] } })
-data-write-full|done|Some(Piece { image: ImageId(7), at: Sequence { items: [Extent { at: 4096, len: 4096 }, Extent { at: 16384, len: 3616 }] }, bytes: Bytes { bytes: [1, 2, 3] } })
-data-zero|done|Some(Zero { image: ImageId(7), at: Sequence { items: [Extent { at: 8190, len: 2 }, Extent { at: 16384, len: 2 }, Extent { at: 19998, len: 2 }] } })
-data-empty|done|Some(Zero { image: ImageId(7), at: Sequence { items: [Extent { at: 4096, len: 4096 }, Extent { at: 16384, len: 3616 }] } })
-data-remove|done|Some(Zero { image: ImageId(7), at: Sequence { items: [Extent { at: 4096, len: 4096 }, Extent { at: 16384, len: 3616 }] } })
+data-write|done|Some(Piece { image: ImageId(7), at: Extents { all: [Series { first: Extent { at: 8190, len: 2 }, step: 12288, count: 1 }, Series { first: Extent { at: 16384, len: 2 }, step: 12288, count: 1 }, Series { first: Extent { at: 19998, len: 2 }, step: 12288, count: 1 }] }, bytes: Bytes { bytes: [1, 2, 3, 4, 5, 6] } })
+data-write-full|done|Some(Piece { image: ImageId(7), at: Extents { all: [Series { first: Extent { at: 4096, len: 4096 }, step: 12288, count: 1 }, Series { first: Extent { at: 16384, len: 3616 }, step: 12288, count: 1 }] }, bytes: Bytes { bytes: [1, 2, 3] } })
+data-zero|done|Some(Zero { image: ImageId(7), at: Extents { all: [Series { first: Extent { at: 8190, len: 2 }, step: 12288, count: 1 }, Series { first: Extent { at: 16384, len: 2 }, step: 12288, count: 1 }, Series { first: Extent { at: 19998, len: 2 }, step: 12288, count: 1 }] } })
+data-empty|done|Some(Zero { image: ImageId(7), at: Extents { all: [Series { first: Extent { at: 4096, len: 4096 }, step: 12288, count: 1 }, Series { first: Extent { at: 16384, len: 3616 }, step: 12288, count: 1 }] } })
+data-remove|done|Some(Zero { image: ImageId(7), at: Extents { all: [Series { first: Extent { at: 4096, len: 4096 }, step: 12288, count: 1 }, Series { first: Extent { at: 16384, len: 3616 }, step: 12288, count: 1 }] } })
 data-copy-up|done|None
 map-resize|done|None
 map-get|done|None
