@@ -10,9 +10,9 @@ use rbd_data::{ReadRequest, discard_request, write_request};
 use rbd_header::context_of;
 use rbd_image::{CreateRequest, RemoveRequest, ResizeRequest};
 use rbd_kinds::{
-    Answer, Bytes, Command, DataOp, Extent, Fed, Flow, HeaderOp, HeaderView, ImageId, Instance,
-    Name, NoMemory, Notice, NoticeKind, Number, Op, OpKind, Refusal, Reply, SessionNo, Shape,
-    Sharing, SiteId, Slot, SnapId, Want,
+    Answer, Bytes, Command, Extent, Fed, Flow, HeaderOp, HeaderView, ImageId, Instance, Name,
+    NoMemory, Notice, NoticeKind, Number, Op, OpKind, Refusal, Reply, SessionNo, Shape, Sharing,
+    SiteId, Slot, SnapId, Want,
 };
 use rbd_layout::{Piece, pieces as pieces_of};
 use rbd_lock::{Acquire, Locks, Release};
@@ -32,10 +32,7 @@ use std::test::Fail;
 fn answer_of(op: &Op) -> Answer {
     match op {
         Op::Directory(_) => Answer::Id(ImageId(7)),
-        Op::Data { op, .. } => match op.get() {
-            DataOp::Read { .. } => Answer::Absent,
-            _ => Answer::Done,
-        },
+        _ if op.kind() == OpKind::DataRead => Answer::Absent,
         _ => Answer::Done,
     }
 }

@@ -85,11 +85,10 @@ fn write_event(rt: &impl Abort, alloc: Global, session: u8, line: u32) -> Result
     submit(alloc, session, line, write)
 }
 
-#[test]
-fn world(rt: HostRuntime) -> Result<(), Fail> {
-    let alloc = rt.alloc();
-    let (create, write) = (create_event(&rt, alloc)?, write_event(&rt, alloc, 0, 5)?);
-    let other_write = write_event(&rt, alloc, 1, 6)?;
+/// A write whose session stops with it, and another session's write.
+fn stopped(rt: &impl Abort, alloc: Global, world: &mut World) -> Result<(), Fail> {
+    let (create, write) = (create_event(rt, alloc)?, write_event(rt, alloc, 0, 5)?);
+    let other_write = write_event(rt, alloc, 1, 6)?;
     let expire = Event::Expire {
         session: SessionNo(0),
         site: SiteId::A,
@@ -100,7 +99,6 @@ fn world(rt: HostRuntime) -> Result<(), Fail> {
         slot: Slot(1),
     };
     let c1 = SessionNo(0);
-    let mut world = World::new(alloc, &[SiteId::A, SiteId::A])?;
     world.step(alloc, &create)?;
     world.poll(alloc, c1, Slot(1))?;
     world.poll(alloc, c1, Slot(1))?;
@@ -112,8 +110,17 @@ fn world(rt: HostRuntime) -> Result<(), Fail> {
     world.step(alloc, &other_write)?;
     world.step(alloc, &late)?;
     world.step(alloc, &Event::Restart { session: c1 })?;
+    Ok(())
+}
+
+/// (A world is let go by a call, so its steps stand in a function of their own.)
+#[test]
+fn world(rt: HostRuntime) -> Result<(), Fail> {
+    let alloc = rt.alloc();
+    let mut world = World::new(alloc, &[SiteId::A, SiteId::A])?;
+    let came = stopped(&rt, alloc, &mut world);
     let history = world.history();
     assert!(rt; history.len() > 5);
     world.close();
-    Ok(())
+    came
 }
