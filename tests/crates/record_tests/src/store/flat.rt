@@ -110,6 +110,30 @@ fn bytes_after_a_piece_and_zeros(rt: HostRuntime) -> Result<(), Fail> {
     Ok(())
 }
 
+/// Bytes of 1, 2, 3 and so on at the places of a series.
+fn paint_series(alloc: Global, site: &mut FlatSite, series: Series) -> Result<(), NoMemory> {
+    let mut at = Extents::with_capacity(alloc, 1)?;
+    at.push(series)?;
+    let bytes = Bytes::from_slice(alloc, &[1, 2, 3, 4, 5, 6, 7, 8])?;
+    take(site, Effect::Piece { image: DISK, at, bytes })
+}
+
+/// Two bytes at 0, 3 and 6, and at 9, which is past the end. Then one at 7, and one past all
+/// numbers.
+#[test]
+fn bytes_of_a_series(rt: HostRuntime) -> Result<(), Fail> {
+    let mut site = created(rt.alloc())?;
+    let first = Extent { at: 0, len: 2 };
+    let (step, count) = (3, 4);
+    paint_series(rt.alloc(), &mut site, Series { first, step, count })?;
+    shows(&rt, &site, None, &[1, 2, 0, 3, 4, 0, 5, 6]);
+    let first = Extent { at: 7, len: 1 };
+    let (step, count) = (u64::MAX, 2);
+    paint_series(rt.alloc(), &mut site, Series { first, step, count })?;
+    shows(&rt, &site, None, &[1, 2, 0, 3, 4, 0, 5, 1]);
+    Ok(())
+}
+
 fn resize(site: &mut FlatSite, size: u64) -> Result<(), NoMemory> {
     take(site, Effect::Size { image: DISK, size })
 }
