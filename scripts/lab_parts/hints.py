@@ -21,7 +21,7 @@ ALIASES_BEHIND_SNAP = {"list": "ls", "remove": "rm", "add": "create", "revert": 
 def one_of(words):
     """Returns words as a text: `a, b or c`."""
     *some, last = words
-    return f"{', '.join(some)} or {last}"
+    return f"{', '.join(some)} or {last}" if some else last
 
 
 def built(table):
@@ -60,6 +60,14 @@ WORDS = {
     "kind": sorted(KINDS),
     "flag": ["object", "unit", "count"],
 }
+# Which numbers are of bytes, by their names in the grammar or by what they are of.
+OF_BYTES = ("SIZE", "AT", "LEN", "object", "unit")
+# What others are, where their names don't tell it.
+NUMBERS = {
+    "image": "the image's number, 1 for the first that its site made",
+    "notice": "a notice's number, which `scripts/lab show --locks` prints",
+    "rounds": "how many rounds",
+}
 NOT_BUILT = "the grammar has this form, but it isn't built yet: docs/RULES.md has those that are"
 
 
@@ -85,6 +93,12 @@ def limits(part):
     return upper(part) if part[2] >= BELOW_32_BITS else f"from {part[1]} to {part[2]:,}"
 
 
+def number_wanted(part):
+    """Returns which number is wanted in a part's place."""
+    what = NUMBERS.get(part[-1])
+    return f"{part[3]}, {f'{what}: ' if what else ''}a decimal number {limits(part)}"
+
+
 def short(text):
     """Returns a word, cut where it is long."""
     return text if len(text) <= 24 else f"{text[:20]}.."
@@ -94,7 +108,10 @@ def of_number(text, part):
     """Returns what helps where a number is wanted."""
     if len(text) > 40:
         return f"wanted here: {part[3]}, a number {limits(part)}"
-    if found := SUFFIXED.fullmatch(text):
+    found = SUFFIXED.fullmatch(text)
+    if found and part[-1] not in OF_BYTES:
+        return f"no letters stand behind a number; wanted here: {number_wanted(part)}"
+    if found:
         meant = int(found[1]) << POWERS[found[2][0].lower()]
         return f"a size is a plain number of bytes: {meant}{f', and {upper(part)}' * (meant > part[2])}"
     if text.startswith("--"):
@@ -107,7 +124,7 @@ def of_number(text, part):
         return "a number has no sign"
     if re.fullmatch(r"[0-9]+", text):
         return f"{part[3]} is {upper(part) if int(text) > part[2] else f'at least {part[1]}'}"
-    return f"wanted here: {part[3]}, a decimal number {limits(part)}"
+    return f"wanted here: {number_wanted(part)}"
 
 
 def of_hex(text, part):
@@ -193,8 +210,7 @@ def of_fault(fault, lines, number, sessions):
     """Returns what may help with a fault."""
     part = fault.part
     if fault.token is None:
-        number_wanted = part[0] in ("number", "times")
-        wanted = f"{part[3]}, a number {limits(part)}" if number_wanted else WANTED[part[0]]
+        wanted = number_wanted(part) if part[0] in ("number", "times") else WANTED[part[0]]
         return f"wanted behind the last word: {wanted}"
     text = fault.token.text.decode("latin-1")
     if text.endswith("\r"):

@@ -13,6 +13,7 @@ from typing import NamedTuple
 
 from .hints import FAULT, drawn, faulty_lines, guess
 from .marks import LIMIT
+from .words import OPTIONS, USAGES, faults, is_option, meant
 
 TOP = Path(__file__).resolve().parents[2]
 HELP = """\
@@ -35,7 +36,7 @@ Plays a script on rbd_lab, on a fresh machine too: what is missing is built.
                                      a browser opens: a row that is chosen shows the state there;
                                      where OUT ends with .svg, as a picture; without -o on standard
                                      output
-  scripts/lab help | -h | --help     prints this
+  scripts/lab help | -h | --help     prints this, whatever stands behind it
   scripts/lab version | -V           prints which sources these are
 
 All other words go to the program as they are. Standard output is the program's alone, and so is the
@@ -66,8 +67,8 @@ SHOWN = 20
 KEPT_OF_LINE = 120
 # The words that are the wrapper's, and what asks for help alone.
 OURS = (["run"], ["show"], ["draw"], ["-h"], ["--help"])
-RUN_OPTIONS = ("--trace", "--strict")
-SHOW_OPTIONS = ("--trace", "--locks")
+# What no picture is drawn as.
+OTHER_PICTURES = (".png", ".jpg", ".jpeg", ".gif", ".webp", ".pdf")
 # What a user or a closed pipe does to a program is no fault of it.
 FROM_OUTSIDE = (signal.SIGPIPE, signal.SIGINT, signal.SIGTERM, signal.SIGHUP, signal.SIGQUIT)
 
@@ -276,7 +277,7 @@ def run(words, strict, files):
         try:
             script = script_at(path)
         except OSError as error:
-            say(unreadable(path, error), *filter(None, [guess(path, RUN_OPTIONS)]))
+            say(unreadable(path, error), *filter(None, [guess(path, OPTIONS["run"])]))
             ended = ended or UNREADABLE
             continue
         status = run_one(ours, words, script, strict)
@@ -368,26 +369,35 @@ def drawing_asked(words):
     if "-o" in words[:-1]:
         place = words.index("-o")
         out, words = words[place + 1], words[:place] + words[place + 2 :]
-    if len(words) > 1 or "-o" in words:
-        fail("usage: scripts/lab draw [FILE] [-o OUT]", NOT_UNDERSTOOD)
+    found = ["behind `-o` stands one file, and it stands once"] if "-o" in words else faults("draw", words)
+    if out and out.lower().endswith(OTHER_PICTURES):
+        found.append(f"{out}: a picture is an .svg, and whatever has another name is a page of HTML")
+    if found:
+        not_understood("draw", found)
     return (words or ["-"])[0], out
 
 
 def show_asked(words):
     """Returns the script and the options that `show` is asked for by its words."""
-    options = [it for it in words if it in SHOW_OPTIONS]
+    if found := faults("show", words):
+        not_understood("show", found)
+    options = [it for it in words if is_option(it)]
     files = [it for it in words if it not in options]
-    if len({*options}) < len(options) or len(files) > 1 or any(it.startswith("--") for it in files):
-        fail("usage: scripts/lab show [--trace] [--locks] [FILE]", NOT_UNDERSTOOD)
     return (files or ["-"])[0], options
+
+
+def not_understood(command, found):
+    """Says what is wrong with the words behind a command, and how it is asked for, and ends."""
+    say(*found)
+    fail(USAGES[command], NOT_UNDERSTOOD)
 
 
 def run_asked(words):
     """Returns what `run` is asked for by its words: the program's words, whether each command has to
     be done, and the scripts; or None where one isn't understood."""
-    options = [it for it in words if it.startswith("-") and it != "-"]
+    options = [it for it in words if is_option(it)]
     files = [it for it in words if it not in options]
-    if len({*options}) < len(options) or not {*options} <= {*RUN_OPTIONS}:
+    if len({*options}) < len(options) or not {*options} <= {*OPTIONS["run"]}:
         return None
     return ["run", *(["--trace"] if "--trace" in options else [])], "--strict" in options, files or ["-"]
 
@@ -397,15 +407,13 @@ def other(words):
     ours = build()
     status, _ = passed_on(ours, words, b"")
     if status == NOT_UNDERSTOOD:
-        from .words import meant
-
-        say(*meant(words, RUN_OPTIONS))
+        say(*meant(words))
     end(ours, status)
 
 
 def main():
     words = sys.argv[1:]
-    if words == ["help"] or words[:1] in OURS and {"-h", "--help"} & {*words}:
+    if words[:1] == ["help"] or words[:1] in OURS and {"-h", "--help"} & {*words}:
         put([HELP.encode()])
     elif words in (["-V"], ["--version"], ["version"]):
         put([version().encode()])

@@ -17,7 +17,8 @@ MIRROR_WORDS = ("enable", "demote", "resync", "status", "follow")
 SHAPE = [("option", "object", GREATEST), ("option", "unit", GREATEST)]
 SHAPE += [("option", "count", BELOW_32_BITS), ("flag", "journal")]
 
-# What stands behind a command's word. Behind a number's bounds stands its name in the grammar.
+# What stands behind a command's word. Behind a number's bounds stands its name in the grammar, and
+# where that doesn't tell it what the number is of.
 COMMANDS = {
     "create": [("image",), ("number", 0, GREATEST, "SIZE"), *SHAPE],
     "clone": [("snap",), ("image",), *SHAPE],
@@ -35,13 +36,14 @@ COMMANDS = {
 BEHIND_SNAP = {**{word: [("snap",)] for word in SNAP_WORDS}, "ls": [("image",)]}
 BEHIND_MIRROR = {word: [("image",)] for word in MIRROR_WORDS}
 BEHIND_MIRROR["promote"] = [("image",), ("flag", "force")]
-SLOT, ID = ("number", 0, 64, "SLOT"), ("number", 0, BELOW_32_BITS, "ID")
+SLOT, ID = ("number", 0, 64, "SLOT"), ("number", 0, BELOW_32_BITS, "ID", "image")
+NOTICE = ("number", 0, GREATEST, "N", "notice")
 SCHEDULE = {
     "@poll": [("session",), SLOT, ("times", 1, 1_000_000, "TIMES")],
     "@until": [("session",), SLOT, ("kind",)],
-    "@settle": [("number", 0, GREATEST, "N")],
-    "@deliver": [("number", 0, GREATEST, "N")],
-    "@lose": [("number", 0, GREATEST, "N")],
+    "@settle": [("number", 0, GREATEST, "N", "rounds")],
+    "@deliver": [NOTICE],
+    "@lose": [NOTICE],
     "@expire": [("session",), ("site",), ID],
     "@stop": [("session",)],
     "@restart": [("session",)],
@@ -160,7 +162,7 @@ def faults_in(parts, tokens, sessions):
             if left[0].text.decode("latin-1") != part[1]:
                 continue
             left.pop(0)
-            part = ("number", 0, part[2], "N")
+            part = ("number", 0, part[2], "N", part[1])
         if not left:
             return found or [Fault("missing part", None, part)]
         cause = cause_of(part, left[0].text, sessions)

@@ -17,8 +17,10 @@ MOST, LOOKED_AT = 20, 10_000
 OBJECTS = 1 << 20
 OBJECT, UNIT, COUNT = (4096, 33_554_432), 512, 16
 OBJECT_IF_NOT_SAID = 4_194_304
-# What gives a name to an image, and which of its words that is.
-MAKES = {"create": 2, "rename": 3}
+# What gives a name to an image or a snapshot, and which of its words that is.
+MAKES = {"create": 1, "rename": 2, "snap create": 2}
+# What gives an image another size, or its name to another one.
+RESHAPES = ("resize", "snap rollback", "rm", "rename")
 # What a `quiesce` holds up.
 CHANGES = ("write", "fill", "discard", "resize", "rm", "quiesce")
 CHANGES_BEHIND_SNAP = ("create", "rm", "rollback")
@@ -52,10 +54,19 @@ class Command(NamedTuple):
         """Returns what it is called: `snap rm` is one word."""
         return " ".join(self.words[: 1 + (self.words[0] == "snap")])
 
+    def target(self):
+        """Returns its first image, or snapshot of one, as it is named, or nothing."""
+        at = 1 + (self.words[0] == "snap")
+        return self.words[at] if len(self.words) > at else ""
+
     def image(self):
         """Returns the name of its first image, or nothing."""
-        at = 1 + (self.words[0] == "snap")
-        return self.words[at].partition("@")[0] if len(self.words) > at else ""
+        return self.target().partition("@")[0]
+
+    def extent(self):
+        """Returns where the bytes of a `write`, `fill`, `discard` or `read` begin, and how many they are."""
+        bytes_given = len(self.words[3]) // 2 if self.word() == "write" else int(self.words[3])
+        return int(self.words[2]), bytes_given
 
     def is_change(self):
         """Returns whether it changes its image, and so can be held up."""
@@ -97,8 +108,11 @@ class Played:
 
     def __init__(self, script, replies):
         self.sites, self.commands, self.stops = {}, {}, defaultdict(int)
-        # The commands that give a name, by it and their site; and all of a session on an image.
-        self.makers, self.on_image = defaultdict(list), defaultdict(list)
+        # Of a session that is stopped: the line that did it. And the lines that lose a notice.
+        self.stopped, self.losing = {}, []
+        # The commands that give a name, by it and their site; those that reshape an image, by its name and
+        # their site; and all of a session on an image.
+        self.makers, self.reshapers, self.on_image = defaultdict(list), defaultdict(list), defaultdict(list)
         for number, line in enumerate(script.split(b"\n"), 1):
             if not line.startswith(b"#"):
                 self.take(number, [it.text.decode("latin-1") for it in words_of_command(line)])
@@ -111,28 +125,72 @@ class Played:
         """Takes a line of the script."""
         if words[:1] == ["client"]:
             self.sites[words[1]] = words[2]
-        elif words[:1] == ["@stop"]:
+        elif words[:1] == ["@stop"] and words[1] not in self.stopped:
             self.stops[words[1]] += 1
+            self.stopped[words[1]] = number
+        elif words[:1] == ["@restart"]:
+            self.stopped.pop(words[1], None)
+        elif words[:1] == ["@lose"]:
+            self.losing.append(number)
         elif words and not words[0].startswith("@"):
-            command = Command(number, words[0], words[1:])
-            self.commands[number] = command
-            self.on_image[command.session, command.image()].append(command)
-            if command.word() in MAKES:
-                name = words[MAKES[command.word()]]
-                self.makers[name, self.sites[command.session]].append(command)
+            self.take_command(Command(number, words[0], words[1:]))
+
+    def take_command(self, command):
+        """Takes a command."""
+        self.commands[command.number] = command
+        self.on_image[command.session, command.image()].append(command)
+        site, word = self.sites[command.session], command.word()
+        if word in MAKES:
+            self.makers[command.words[MAKES[word]], site].append(command)
+        if word in RESHAPES:
+            self.reshapers[command.image(), site].append(command)
 
     def maker(self, name, site, number):
         """Returns the last command before a line that gave a name, if it wasn't refused, or None."""
-        for it in reversed(self.makers[name, site]):
-            if it.number < number and not self.text[it.number].startswith("error "):
-                return it
-        return None
+        return self.last(self.makers[name, site], number)
+
+    def last(self, commands, number):
+        """Returns the last of some commands that stands before a line, if it wasn't refused, or None."""
+        found = (it for it in reversed(commands) if it.number < number)
+        return next((it for it in found if not self.text[it.number].startswith("error ")), None)
+
+    def is_later(self, one, other):
+        """Returns whether a command had no reply yet when another one had its own."""
+        return self.place[one.number] > self.place[other.number]
+
+    def of_no_snap(self, command):
+        """Returns why a snapshot that an earlier line takes wasn't found, or nothing."""
+        taker = self.maker(command.target(), self.sites[command.session], command.number)
+        if taker and self.is_later(taker, command):
+            return (
+                f"line {taker.number} takes `{command.target()}`, and had no reply yet: an `@settle 1000` before "
+                f"line {command.number} lets it be taken"
+            )
+        return ""
+
+    def of_range(self, command):
+        """Returns why an extent isn't the image's, where that is sure, or nothing."""
+        begin, count = command.extent()
+        at = command.image(), self.sites[command.session]
+        if count == 0:
+            return "this has no bytes, and 1 is the least"
+        last = self.last(self.reshapers[at], command.number)
+        if last and last.word() == "resize" and int(last.words[2]) >= begin + count and self.is_later(last, command):
+            return (
+                f"line {last.number} gives `{at[0]}` {last.words[2]} bytes, and had no reply yet: an `@settle 1000` "
+                f"before line {command.number} lets that be done"
+            )
+        # (an image that nothing reshapes has the size that it was made with, and so have its snapshots)
+        makers = [] if self.reshapers[at] else self.makers[at]
+        size = int(makers[0].words[2]) if [it.word() for it in makers] == ["create"] else None
+        is_past = size is not None and begin + count > size
+        return f"`{at[0]}` has {size} bytes, and this ends at {begin + count}" if is_past else ""
 
     def of_no_image(self, command):
         """Returns why an image that an earlier line makes wasn't found, or nothing."""
         name, site = command.image(), self.sites[command.session]
         maker = self.maker(name, site, command.number)
-        if maker and self.place[maker.number] > self.place[command.number]:
+        if maker and self.is_later(maker, command):
             return (
                 f"line {maker.number} makes `{name}`, and had no reply yet: an `@settle 1000` before "
                 f"line {command.number} lets it be made"
@@ -183,7 +241,17 @@ class Played:
             )
         if quiesce := self.quiesce_of(session, command.image(), float("inf")):
             return f"line {quiesce.number} quiesced it, and a `resume` of {session} lets others go on"
+        if self.losing:
+            return (
+                f"{instance} is asked for the lock by notices, and line {self.losing[-1]} may have lost one: "
+                "`scripts/lab show --locks` has their numbers, and `@deliver N` lets one come"
+            )
         return ""
+
+    def of_stopped(self, session):
+        """Returns how a session goes on that is stopped, or nothing."""
+        number = self.stopped.get(session)
+        return f"line {number} stopped {session}: it goes on behind an `@restart {session}`" if number else ""
 
     def hint(self, reply):
         """Returns what may help with a reply, or nothing."""
@@ -192,10 +260,14 @@ class Played:
             return ""
         if reply.text == "error 2 NoImage":
             return self.of_no_image(command)
+        if reply.text == "error 2 NoSnap":
+            return self.of_no_snap(command)
+        if reply.text == "error 22 BadRange":
+            return self.of_range(command)
         if reply.text == "error 22 BadShape" and command.word() == "create":
             return of_shape(command.words)
-        if reply.text == "unsent" and command.word() == "resume":
-            return self.of_resume(command)
+        if reply.text == "unsent":
+            return self.of_stopped(command.session) or command.word() == "resume" and self.of_resume(command) or ""
         if reply.text == "unfinished" and command.is_change():
             return self.of_change(command)
         if reply.text.startswith("unfinished waiting "):

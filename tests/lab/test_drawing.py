@@ -22,7 +22,7 @@ TOP = Path(__file__).resolve().parent.parent.parent
 sys.path[:0] = [str(TOP / "scripts"), str(TOP / "tests")]
 import striping
 from lab_parts import marks as lab_marks
-from lab_parts.drawing import fold, history, locks, marks, page, picture, reading, records
+from lab_parts.drawing import fold, history, locks, marks, page, picture, reading, records, words
 
 TRACES = Path(__file__).parent / "traces"
 EXAMPLES = sorted(it.stem for it in (TOP / "examples").glob("*.script"))
@@ -514,6 +514,22 @@ class Drawing(unittest.TestCase):
         facts = locks.facts(reading.script_of(example("handover")[0]), steps_of("handover"))
         self.assertEqual({line: texts for line, texts in facts.items() if texts}, LOCKS)
 
+    def test_who_asked_for_a_lock_is_named_once(self):
+        speaker = words.Speaker([])
+        senders = {1: "c2.0", 2: "c3.0", 3: "c2.0", 5: "c2.0", 6: "c2.0"}
+        speaker.notices = {number: {"from": who, "lost": number in (2, 5)} for number, who in senders.items()}
+        rows = {
+            (1,): "c2.0 (notice 1)",
+            (2,): "c3.0 (notice 2, lost)",
+            (1, 2, 3): "c2.0 (notices 1 and 3) and c3.0 (notice 2, lost)",
+            (1, 3, 5): "c2.0 (notices 1, 3 and 5; lost: 5)",
+            (1, 3, 5, 6): "c2.0 (notices 1, .. and 6; lost: 5)",
+        }
+        for numbers, said in rows.items():
+            text = locks.of_lock("a/1/lock", {"owner": "c1.0", "asked": numbers, "watchers": []}, speaker)
+            wanted = f"image 1: c1.0 has the lock, which is asked for by {said}; watched by nobody"
+            self.assertEqual(text, wanted)
+
 
 class Wrapper(unittest.TestCase):
     """scripts/lab over a program of `sh`, in a copy of its files."""
@@ -569,8 +585,20 @@ class Wrapper(unittest.TestCase):
         self.assertIn(b"the trace is not understood", ran.stderr)
 
     def test_draw_asked_wrongly(self):
-        for words in (("draw", "a", "b"), ("draw", "-o"), ("show", "--locks", "a", "b")):
-            self.assertEqual(self.lab(*words).returncode, 1, words)
+        rows = {
+            "a b": b"`draw` takes one script, and here are 2: a, b",
+            "-o": b"behind `-o` stands one file, and it stands once",
+            "-o a.svg -o b.svg": b"behind `-o` stands one file, and it stands once",
+            "script --out y": b"`--out` is no option of `draw`",
+            "--locks": b"`--locks` is no option of `draw`; it is one of `show`",
+            "script -o late.PNG": b"late.PNG: a picture is an .svg",
+        }
+        for words, said in rows.items():
+            ran = self.lab("draw", *words.split())
+            self.assertEqual((ran.returncode, ran.stdout), (1, b""), words)
+            self.assertIn(said, ran.stderr)
+            self.assertTrue(ran.stderr.endswith(b"lab: usage: scripts/lab draw [FILE] [-o OUT]\n"), words)
+        self.assertFalse((self.room / "late.PNG").exists())
 
     def test_show_with_locks(self):
         ran = self.lab("show", "--locks", "script")

@@ -63,6 +63,13 @@ c1 create d 9999999999G | 9999999999G | and below 2^63
 c1 create d 8192 count 4294967296 | 4294967296 | below 2^32
 c1 fill d 0 1048577 aa | 1048577 | LEN is at most 1,048,576
 c1 read d 0 70000 | 70000 | LEN is at most 65,536
+@settle 1K | 1K | no letters stand behind a number; wanted here: N, how many rounds: a decimal number below 2^63
+@poll c1 1 2K | 2K | wanted here: TIMES, a decimal number from 1 to 1,000,000
+c1 create d 8192 count 2K | 2K | wanted here: N, a decimal number below 2^32
+c1 create d 8192 object 4096 unit 1K | 1K | bytes: 1024
+@lose c1 1 | c1 | N, a notice's number, which `scripts/lab show --locks` prints: a decimal number below 2^63
+@deliver one | one | N, a notice's number
+@expire c1 a disk | disk | ID, the image's number, 1 for the first that its site made: a decimal number below 2^32
 @poll c1 65 | 65 | SLOT is at most 64
 @poll c1 1 0 | 0 | TIMES is at least 1
 @poll c1 one | one | SLOT, a decimal number from 0 to 64
@@ -251,6 +258,52 @@ c1 create d 8192 object 1;c1 read d 0 1
     4: `object` is a power of two
 c1 create d 8192;c1 read d 0 0
     4 c1 ok;5 c1 error 22 BadRange
+    5: this has no bytes, and 1 is the least
+c1 create d 8192;c1 read d 8190 4
+    4 c1 ok;5 c1 error 22 BadRange
+    5: `d` has 8192 bytes, and this ends at 8194
+c1 create d 8192;c1 write d 8190 112233
+    4 c1 ok;5 c1 error 22 BadRange
+    5: `d` has 8192 bytes, and this ends at 8193
+c1 create d 8192;c1 snap create d@s;c1 read d@s 8190 4
+    4 c1 ok;5 c1 ok;6 c1 error 22 BadRange
+    6: `d` has 8192 bytes, and this ends at 8194
+c1 create d 8192;@settle 9;c1 resize d 16384;c2 read d 8190 4
+    4 c1 ok;7 c2 error 22 BadRange;6 c1 ok
+    7: line 6 gives `d` 16384 bytes, and had no reply yet: an `@settle 1000` before line 7 lets that be done
+c1 create d 8192;@settle 9;c1 resize d 8193;c2 read d 8190 4
+    4 c1 ok;7 c2 error 22 BadRange;6 c1 ok
+c1 create d 8192;@settle 9;c1 resize d 4096;@settle 9;c2 read d 4096 1
+    4 c1 ok;6 c1 ok;8 c2 error 22 BadRange
+c1 create d 8192;@settle 9;c1 rm d;@settle 9;c1 create d 4096;c1 read d 4096 1
+    4 c1 ok;6 c1 ok;8 c1 ok;9 c1 error 22 BadRange
+c1 create e 8192;c1 rename e d;c1 read d 8192 1
+    4 c1 ok;5 c1 ok;6 c1 error 22 BadRange
+c1 create d 8192;c3 create d 4096;c1 discard d 8191 2
+    4 c1 ok;5 c3 ok;6 c1 error 22 BadRange
+    6: `d` has 8192 bytes, and this ends at 8193
+c1 create d 8192;@settle 9;c1 snap create d@s;c2 read d@s 0 1
+    4 c1 ok;7 c2 error 2 NoSnap;6 c1 ok
+    7: line 6 takes `d@s`, and had no reply yet: an `@settle 1000` before line 7 lets it be taken
+c1 create d 8192;@settle 9;c1 snap create d@s;c2 snap rm d@s
+    4 c1 ok;7 c2 error 2 NoSnap;6 c1 ok
+    7: line 6 takes `d@s`
+c1 create d 8192;@settle 9;c1 snap create d@s;c2 read d@r 0 1
+    4 c1 ok;7 c2 error 2 NoSnap;6 c1 ok
+c1 create d 8192;@settle 9;c1 snap create d@s;c1 snap rm d@s;c1 read d@s 0 1
+    4 c1 ok;6 c1 ok;7 c1 ok;8 c1 error 2 NoSnap
+c1 create d 8192;@stop c1;c1 info d
+    4 c1 lost;6 c1 unsent
+    6: line 5 stopped c1: it goes on behind an `@restart c1`
+c1 create d 8192;@stop c1;@restart c1;c1 quiesce d;c1 write d 0 11;c1 info d
+    4 c1 lost;7 c1 ok;8 c1 unfinished;9 c1 unsent
+    8: the quiesce of line 7 holds it up
+c1 create d 8192;c1 write d 0 11;@settle 99;c2 write d 0 11;@lose 1;@lose 2
+    4 c1 ok;5 c1 ok;7 c2 unfinished waiting c1.0
+    7: c1.0 is asked for the lock by notices, and line 9 may have lost one
+c1 create d 8192;@stop c1;@stop c1;@restart c1;c1 write d 0 11;@settle 99;c2 write d 0 11;@lose 1
+    4 c1 lost;8 c1 ok;10 c2 unfinished waiting c1.1
+    10: c1.1 is asked for the lock by notices, and line 11 may have lost one
 c1 create d 8192;c1 quiesce d;c1 write d 0 11
     4 c1 ok;5 c1 ok;6 c1 unfinished
     6: the quiesce of line 5 holds it up, until a `resume`
@@ -264,6 +317,7 @@ c1 create d 8192;c1 quiesce d;c1 write d 0 11;@settle 99;& c1 resume d
     4 c1 ok;5 c1 ok;8 c1 ok;6 c1 ok
 c1 create d 8192;c1 quiesce d;@settle 99;c1 resume d;@settle 9;@stop c1;c1 resume d
     4 c1 ok;5 c1 ok;7 c1 ok;10 c1 unsent
+    10: line 9 stopped c1
 c1 create d 8192;c1 quiesce d;@settle 99;c2 write d 0 11
     4 c1 ok;5 c1 ok;7 c2 unfinished waiting c1.0
     7: line 5 quiesced it, and a `resume` of c1
@@ -402,6 +456,7 @@ class Wrapper(unittest.TestCase):
         rows = ((["rum"], b"did you mean `run`?"), (["hlep"], b"did you mean `help`?"))
         rows += ((["run", "--trase"], b"did you mean `--trace`?"),)
         rows += ((["run", "--strcit", "x"], b"did you mean `--strict`?"),)
+        rows += ((["run", "--locks", "x"], b"`--locks` is no option of `run`; it is one of `show`"),)
         rows += (([str(self.room / "script")], b"did you mean `scripts/lab run "), ([], b"lab: scripts/lab --help"))
         rows += ((["--strict", "run"], b"`--strict` stands behind `run`"), (["run", "--trace", "--trace"], b"twice"))
         rows += ((["gen", "--sed=1", "--clients", "1", "--commands", "1"], b"`--sed` is no option of `gen`; did you mean `--seed`?"),)
@@ -491,10 +546,20 @@ class Wrapper(unittest.TestCase):
 
     def test_show_asked_wrongly(self):
         self.program("exit 0")
-        for words in ("--trace --trace", "--all", "a b", "--locks a --trace b"):
+        rows = {
+            "--trace --trace": b"`--trace` stands twice",
+            "--strict": b"`--strict` is no option of `show`; it is one of `run`",
+            "--lokcs x": b"`--lokcs` is no option of `show`; did you mean `--locks`?",
+            "-x": b"`-x` is no option of `show`; scripts/lab --help has all",
+            "--": b"`--` is no option of `show`",
+            "a b": b"`show` takes one script, and here are 2: a, b",
+            "--locks a --trace b": b"here are 2: a, b",
+        }
+        for words, said in rows.items():
             ran = self.lab("show", *words.split())
             self.assertEqual((ran.returncode, ran.stdout), (1, b""), words)
-            self.assertIn(b"usage: scripts/lab show [--trace] [--locks] [FILE]", ran.stderr)
+            usage = b"\nlab: usage: scripts/lab show [--trace] [--locks] [FILE]\n"
+            self.assertTrue(ran.stderr.startswith(b"lab: " + said) and ran.stderr.endswith(usage), (words, ran.stderr))
 
     def test_show_of_standard_input(self):
         self.program("printf '2 c1 ok\\n'")
@@ -555,7 +620,7 @@ du, quiesce, resume, close or snap ..
         self.assertIn(b"`--clients` from 1 to 16", self.lab("gen", "--seed", "1", "--clients", "17").stderr)
 
     def test_help_and_version_need_no_program(self):
-        for words in ("-h", "--help", "help", "run --help", "--version", "version", "-V"):
+        for words in ("-h", "--help", "help", "help run", "run --help", "--version", "version", "-V"):
             ran = self.lab(*words.split())
             self.assertEqual((ran.returncode, ran.stderr), (0, b""), words)
             self.assertIn(b"rbd_lab", ran.stdout)

@@ -1,6 +1,9 @@
 """Who has each lock behind each line of a script, as text: `facts`."""
 from .words import Speaker, some
 
+# How many numbers of notices are shown.
+SHOWN = 3
+
 
 def facts(lines, steps):
     """Returns what each line changed of locks, watchers, notices and blocklists, as texts by the
@@ -35,12 +38,30 @@ def of_lock(key, lock, speaker):
     name = speaker.name(site, int(image))
     if not lock:
         return f"{name}: its header is gone, and with it the lock and all who watch"
-    asked = [f"{speaker.notices[it]['from']} ({number_of(it, speaker)})" for it in lock["asked"]]
+    asked = [f"{who} ({numbers_of(them, speaker)})" for who, them in askers(lock["asked"], speaker).items()]
     owner = f"{lock['owner']} has the lock" if lock["owner"] else "the lock is free"
     wanted = f", which is asked for by {some(asked)}" if asked else ""
     return f"{name}: {owner}{wanted}; watched by {some(lock['watchers'])}"
 
 
-def number_of(number, speaker):
-    """Returns a notice's number as a text, and that it is lost where it is."""
-    return f"notice {number}{', lost' if speaker.notices[number]['lost'] else ''}"
+def askers(numbers, speaker):
+    """Returns who asked by some notices, each with the numbers of its own."""
+    found = {}
+    for number in numbers:
+        found.setdefault(speaker.notices[number]["from"], []).append(number)
+    return found
+
+
+def numbers_of(numbers, speaker):
+    """Returns the numbers of notices as a text, of many the first one and the last, and which of them are
+    lost."""
+    lost = [it for it in numbers if speaker.notices[it]["lost"]]
+    said = f"notice{'s' * (len(numbers) > 1)} {in_short(numbers)}"
+    if lost == numbers:
+        return f"{said}, lost"
+    return f"{said}; lost: {in_short(lost)}" if lost else said
+
+
+def in_short(numbers):
+    """Returns ascending numbers as a text: of many the first one and the last."""
+    return some(numbers) if len(numbers) <= SHOWN else f"{numbers[0]}, .. and {numbers[-1]}"

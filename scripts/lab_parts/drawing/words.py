@@ -9,7 +9,7 @@ MOST_REPLY = 64
 
 def some(words):
     """Returns words as a text: `a, b and c`."""
-    *first, last = words or ["nobody"]
+    *first, last = [str(it) for it in words] or ["nobody"]
     return f"{', '.join(first)} and {last}" if first else last
 
 
