@@ -8,6 +8,8 @@ import signal
 import subprocess
 import sys
 import tempfile
+import time
+from itertools import islice
 from pathlib import Path
 from typing import NamedTuple
 
@@ -27,7 +29,8 @@ Plays a script on rbd_lab, on a fresh machine too: what is missing is built.
                                      plays a script that these numbers draw, and sums it up
   scripts/lab show [FILE]            prints each line of a script, or of standard input, with its
                                      reply under it; where replies came in another order than their
-                                     lines stand, `(reply 3)` is the third that came
+                                     lines stand, `(reply 3)` is the third that came; and under a
+                                     line that did nothing why, as an @poll of a free slot
     --trace                          prints under each line too what it made happen: the lines of
                                      the history, and behind an operation's that of its site's log
     --locks                          prints under each line too what it changed of the images' locks:
@@ -42,9 +45,10 @@ Plays a script on rbd_lab, on a fresh machine too: what is missing is built.
 All other words go to the program as they are. Standard output is the program's alone, and so is the
 exit status, but for 6 and 70. Standard error has what is meant for a person. It says which build
 ran: the proved one, or else one that was built without proof (scripts/program has both; a build
-takes a minute or two, once). It shows the lines of a script that don't fit, with marks under the
-words that are meant, and what may help there and with replies; on a terminal, of a run that takes
-long, how long it is.
+takes a minute or two, once, and more on a busy machine). It shows the lines of a script that don't
+fit, with marks under the words that are meant, and what may help there and with replies; which
+lines of a schedule did nothing, where that is sure, of a script that takes at most 2 seconds; on a
+terminal, of a run that takes long, how long it is.
 
 Not built yet: the program's word `threads`, which its usage line names; and in a script clones
 (clone, flatten, children, snap protect, snap unprotect), journals (create .. journal) and mirror.
@@ -67,6 +71,11 @@ SHOWN = 20
 KEPT_OF_LINE = 120
 # The words that are the wrapper's, and what asks for help alone.
 OURS = (["run"], ["show"], ["draw"], ["-h"], ["--help"])
+# A line that may do nothing: one of a schedule, but for rounds.
+MAY_BE_IDLE = re.compile(rb"^ *@(?!settle +[1-9])", re.M)
+# Lines that did nothing are looked for where a script took this many seconds at most, and its trace has
+# this many bytes.
+SHORT, MOST_TRACE = 2, 1 << 20
 # What no picture is drawn as.
 OTHER_PICTURES = (".png", ".jpg", ".jpeg", ".gif", ".webp", ".pdf")
 # What a user or a closed pipe does to a program is no fault of it.
@@ -175,6 +184,24 @@ class PassedOn:
         return b"".join(it + b"\n" for it in self.begins)
 
 
+class TooMuch(Exception):
+    """A program prints more than is looked at."""
+
+
+class Kept:
+    """Keeps what the program prints, up to a limit."""
+
+    def __init__(self, most):
+        self.parts, self.left = [], most
+
+    def take(self, more):
+        """Takes what was printed next. It raises where that is too much."""
+        self.left -= len(more)
+        if self.left < 0:
+            raise TooMuch
+        self.parts.append(more)
+
+
 def started(build, words, script, taken):
     """Runs the program on a script, gives each part of what it prints to `taken`, and returns its
     status."""
@@ -257,9 +284,13 @@ def passed_on(build, words, script):
 
 def run_one(build, words, script, strict):
     """Plays a script, says what may help, and returns the status."""
+    began = time.monotonic()
     status, output = passed_on(build, words, script)
     if status == BAD_LINE:
         explain(script, output)
+    if status == 0:
+        idle = idle_facts(build, script, began)
+        say(*islice((f"line {number}: {text}" for number, texts in idle.items() for text in texts), SHOWN))
     if status == 0 and advise(script, output) and strict:
         ends = BAD_REPLY.findall(output)
         refused = ends.count(b"error")
@@ -287,8 +318,9 @@ def run(words, strict, files):
     end(ours, ended)
 
 
-def folded(script, output):
-    """Returns the lines of a script, and what happened, step by step."""
+def folded(script, output, is_needed=True):
+    """Returns the lines of a script, and what happened, step by step. Where the trace isn't understood
+    this ends, or returns no lines where it isn't needed."""
     # (whoever only plays a script needs none of this)
     from .drawing.fold import NotOfThisScript, steps
     from .drawing.reading import script_of
@@ -296,33 +328,50 @@ def folded(script, output):
     try:
         return script_of(script), steps(script, output)
     except NotOfThisScript as error:
-        fail(f"the trace is not understood: {error}")
+        if is_needed:
+            fail(f"the trace is not understood: {error}")
+        return [], []
 
 
 def facts_of(script, output, options):
-    """Returns what stands under each line by these options of `show`, as texts by the line's number."""
-    lines, happened = folded(script, output)
-    found = {}
-    if "--trace" in options:
-        from .drawing import history
+    """Returns what stands under each line, as texts by the line's number: why it did nothing, and what
+    these options of `show` ask for."""
+    from .drawing import history, idle, locks
 
-        found = history.facts(output, happened)
-    if "--locks" in options:
-        from .drawing import locks
-
-        for number, texts in locks.facts(lines, happened).items():
+    lines, happened = folded(script, output, bool(options))
+    found = idle.facts(lines, happened)
+    asked = [history.facts(output, happened)] if "--trace" in options else []
+    asked += [locks.facts(lines, happened)] if "--locks" in options else []
+    for facts in asked:
+        for number, texts in facts.items():
             found.setdefault(number, []).extend(texts)
     return found
 
 
+def idle_facts(build, script, began):
+    """Returns why lines of a script did nothing, as texts by the line's number. It was played well, from
+    this moment on, and is played once more, with its trace; but not where that is long."""
+    if not MAY_BE_IDLE.search(script) or time.monotonic() - began > SHORT:
+        return {}
+    kept = Kept(MOST_TRACE)
+    try:
+        status = started(build, ["run", "--trace"], script, kept.take)
+    except TooMuch:
+        return {}
+    return facts_of(script, b"".join(kept.parts), ()) if status == 0 else {}
+
+
 def show(path, options):
-    """Prints a script, each line with its reply under it, and by options what it made happen and what it
-    changed of locks."""
+    """Prints a script, each line with its reply under it, why it did nothing where it did, and by options
+    what it made happen and what it changed of locks."""
     from .show import shown
 
     script, ours = script_or_end(path), build()
+    began = time.monotonic()
     status, output = played(ours, ["run", "--trace"] if options else ["run"], script)
-    facts = facts_of(script, output, options) if options and status == 0 else {}
+    facts = {}
+    if status == 0:
+        facts = facts_of(script, output, options) if options else idle_facts(ours, script, began)
     if status in (0, BAD_LINE):
         put(shown(script, output, status == 0, facts))
     if status == 0:

@@ -6,7 +6,9 @@
 Each row and example that is played to its end is: its whole trace has to be what its script leads
 to, and what was worked out has to be what the replies say: the bytes of each `read`, the names of
 `ls`, the size, snapshots and owner of `info`, the snapshots of `snap ls`, the objects of `du`. Who
-is answered `fenced` has to be in the blocklist, and nobody else. The traces of tests/lab/traces have
+is answered `fenced` has to be in the blocklist, and nobody else. Without a line that is said to have
+done nothing the trace is the same; and an `@until` that is said to have come to no such operation
+does what 4,096 polls do. The traces of tests/lab/traces have
 to be what the program prints. They are played on FILE, or on the program that is built without proof. The
 last line is 'N passed, M failed': scripts, and what doesn't agree.
 """
@@ -18,7 +20,7 @@ from pathlib import Path
 sys.dont_write_bytecode = True
 sys.path.insert(0, str(Path(__file__).resolve().parent))
 from test_drawing import TOP, example
-from lab_parts.drawing import fold, reading
+from lab_parts.drawing import fold, idle, reading
 from test_lab import module_of
 
 class Compared:
@@ -98,13 +100,39 @@ def program_asked(given):
     return ran.stdout.rstrip("\n") or sys.exit("fold_test: there is no program")
 
 
+def traced(program, script):
+    """Returns the trace of a script, or None where it isn't played."""
+    ran = subprocess.run([program, "run", "--trace"], input=script, capture_output=True)
+    return None if ran.returncode else ran.stdout
+
+
+def with_line(script, number, text):
+    """Returns a script with another text as one of its lines."""
+    lines = script.split(b"\n")
+    lines[number - 1] = text
+    return b"\n".join(lines)
+
+
+def idle_faults(program, script, output):
+    """Yields the lines that are said to have done nothing, or not what they wait for, and did."""
+    lines = reading.script_of(script)
+    words = {it.number: it.words for it in lines}
+    for number, (text,) in idle.facts(lines, fold.steps(script, output)).items():
+        is_until = words[number][0] == "@until"
+        instead = f"@poll {words[number][1]} {words[number][2]} 4096" if is_until else "#"
+        if traced(program, with_line(script, number, instead.encode())) != output:
+            yield f"line {number}: {text}"
+        if text.startswith("did nothing") and traced(program, with_line(script, number, b"#")) != output:
+            yield f"line {number}: {text}"
+
+
 def faults_of(program, script):
     """Returns what doesn't agree where a script is played, or None where it isn't."""
-    ran = subprocess.run([program, "run", "--trace"], input=script, capture_output=True)
-    if ran.returncode:
+    output = traced(program, script)
+    if output is None:
         return None
     try:
-        return list(Compared(script, ran.stdout).faults())
+        return [*Compared(script, output).faults(), *idle_faults(program, script, output)]
     except fold.NotOfThisScript as error:
         return [str(error)]
 
@@ -113,8 +141,7 @@ def kept_traces(program):
     """Yields the kept traces that aren't what the program prints."""
     for path in sorted((Path(__file__).parent / "traces").glob("*.trace")):
         script, trace = example(path.stem)
-        ran = subprocess.run([program, "run", "--trace"], input=script, capture_output=True)
-        if ran.stdout != trace:
+        if traced(program, script) != trace:
             yield f"{path.name} isn't what the program prints"
 
 

@@ -22,7 +22,7 @@ TOP = Path(__file__).resolve().parent.parent.parent
 sys.path[:0] = [str(TOP / "scripts"), str(TOP / "tests")]
 import striping
 from lab_parts import marks as lab_marks
-from lab_parts.drawing import fold, history, locks, marks, page, picture, reading, records, words
+from lab_parts.drawing import fold, history, idle, locks, marks, page, picture, reading, records, words
 
 TRACES = Path(__file__).parent / "traces"
 EXAMPLES = sorted(it.stem for it in (TOP / "examples").glob("*.script"))
@@ -257,6 +257,26 @@ a22 | owner | c2.0
 a25 | object 0 | 0: 1122
 a26 | by | end
 """,
+    "idle": """\
+a16 | by | 15
+a16 | asked | 1
+a17 | by | 17
+a17 | slot | 0
+a17 | owner | -
+a18 | owner | c2.0
+a19 | slot | 0
+a22 | object 0 | 0: 1122
+a23 | by | 23
+a26 | by | 23
+a26 | watched | c1.0 c2.0
+a27 | by | 26
+a27 | watched | c2.0
+a31 | by | 32
+a32 | by | 32
+a33 | by | 46
+a33 | slot | 1
+a33 | object 0 | 0: 1122
+""",
 }
 # Each notice: its number, from whom, to whom, what it says, the operation that posted it, and behind
 # which operation it was heard or lost.
@@ -271,7 +291,35 @@ NOTICES = {
         (1, "c1.1", "c2.0", "ask", "a33", "heard a33"),
         (2, "c2.0", "c1.1", "released", "a36", "heard a36"),
     ],
+    "idle": [
+        (1, "c2.0", "c1.0", "ask", "a16", "heard a16, lose a22"),
+        (2, "c1.0", "c2.0", "released", "a19", "heard a19"),
+    ],
 }
+# The lines of traces/idle.script that did nothing, or didn't come to what they wait for.
+IDLE = """\
+9 did nothing: nobody is in slot 2 of c2; line 7 is in slot 1
+10 did nothing: c1 has no lock to let go
+11 did nothing: c1 was never stopped
+12 did nothing: c1 runs
+13 did nothing: notice 1 isn't posted yet
+18 did nothing: c1.0 heard notice 1 before
+19 did nothing: no notice ever has the number 3; the last one is notice 2
+20 did nothing: it plays no round
+23 came to no data-write: line 22 came to its reply without one
+24 did nothing: image 1 of site a has no object 1
+25 did nothing: site a has no image 2
+27 did nothing: c1 doesn't watch image 1 of site a; watched by c2.0
+33 did nothing: line 31, which is in slot 1 of c2, waits
+34 did nothing, and came to no data-write: line 31, which is in slot 1 of c2, waits
+36 did nothing: c2 is stopped already
+37 did nothing: c2 is stopped
+38 did nothing, and came to no data-write: c2 is stopped
+39 did nothing: notice 2 is for c2.0, which is stopped
+41 did nothing: what was in slot 1 when c2.0 stopped wanted no operation
+42 did nothing: nobody was in slot 2 when c2.0 stopped; line 31 was in slot 1
+47 did nothing: what c1.0 had sent from slot 1 arrived before, and does so once
+"""
 LOCKS = {
     7: ["disk: c1.0 has the lock; watched by c1.0"],
     10: ["disk: c1.0 has the lock; watched by c1.0 and c2.0"],
@@ -408,6 +456,38 @@ class Fold(unittest.TestCase):
         self.assertEqual(sorted(fold.PLANS), sorted(built))
 
 
+class Idle(unittest.TestCase):
+    def facts(self, name):
+        """Returns what is told of a script's lines, as IDLE has it."""
+        found = idle.facts(reading.script_of(example(name)[0]), steps_of(name))
+        return "".join(f"{number} {text}\n" for number, texts in found.items() for text in texts)
+
+    def test_lines_that_did_nothing(self):
+        self.assertEqual(self.facts("idle"), IDLE)
+
+    def test_lines_that_did_something(self):
+        for name in [*EXAMPLES, "until-and-expire"]:
+            # (line 13 polls who was asked for no lock, since the notice is lost: the example is about that)
+            wanted = "13 did nothing: c1 has no lock to let go\n" if name == "lost-notice" else ""
+            self.assertEqual(self.facts(name), wanted, name)
+
+    def test_an_until_whose_request_may_want_its_word_is_not_told(self):
+        # Nobody polls the write any more, so no trace says that it wants its `data-write`.
+        script = b"client c1 a\nc1 create d 4096\n@settle 9\nc1 write d 0 11\n@until c1 1 data-write\n@stop c1\n"
+        log = "dir-add map-resize header-create dir-find header-get watch lock-take header-get map-set".split()
+        objects = {"dir": "rbd_directory", "map": "rbd_object_map.1"}
+        logged = [f"{word} {objects.get(word[:3], 'rbd_header.1')} done" for word in log]
+        looks = [f"look {2 if place <= 3 else 4} a{place}" for place in range(1, 10)]
+        history = ["start 2 c1.0", *looks[:3], "reply 2", "start 4 c1.0", *looks[3:], "stop c1", "lost 4"]
+        trace = [f"h {place} {it}" for place, it in enumerate(history, 1)]
+        trace += [f"o a{place} c1.0 {it}" for place, it in enumerate(logged, 1)]
+        trace = "\n".join([*trace, "2 c1 ok", "4 c1 lost"]).encode()
+        rows = {b"data-write": {}, b"data-zero": {5: ["came to no data-zero: line 4 is still in slot 1 of c1"]}}
+        for word, wanted in rows.items():
+            asked = script.replace(b"data-write", word)
+            self.assertEqual(idle.facts(reading.script_of(asked), fold.steps(asked, trace)), wanted)
+
+
 class Records(unittest.TestCase):
     def test_runs_are_bytes(self):
         given = random.Random(50)
@@ -514,6 +594,10 @@ class Drawing(unittest.TestCase):
         facts = locks.facts(reading.script_of(example("handover")[0]), steps_of("handover"))
         self.assertEqual({line: texts for line, texts in facts.items() if texts}, LOCKS)
 
+    def test_a_notice_that_was_heard_is_not_lost_any_more(self):
+        facts = locks.facts(reading.script_of(example("idle")[0]), steps_of("idle"))
+        self.assertEqual(facts[18], [])
+
     def test_who_asked_for_a_lock_is_named_once(self):
         speaker = words.Speaker([])
         senders = {1: "c2.0", 2: "c3.0", 3: "c2.0", 5: "c2.0", 6: "c2.0"}
@@ -616,6 +700,59 @@ class Wrapper(unittest.TestCase):
             self.assertIn(" 9  c2 write disk 1 22\n    => ok\n    -- h 15 start 9 c2.0\n", said)
             self.assertIn(TRACED, said)
             self.assertEqual("    -- c1.0 hears notice 1\n" in said, "--locks" in words)
+
+    def played_idly(self):
+        """Has the program print the run of traces/idle.script, and returns the script. Each of its runs
+        leaves a line in the file `runs`."""
+        script, trace = example("idle")
+        (self.room / "trace").write_bytes(trace)
+        (self.room / "output").write_bytes(re.sub(rb"(?m)^[ho] .*\n", b"", trace))
+        text = f"cat >/dev/null; echo $* >>{self.room}/runs; [ \"$*\" = 'run --trace' ] && exec cat {self.room}/trace"
+        self.program(f"{text}; exec cat {self.room}/output")
+        return script
+
+    def test_run_says_which_lines_did_nothing(self):
+        script = self.played_idly()
+        ran = self.lab("run", script=script)
+        self.assertEqual((ran.returncode, ran.stdout), (0, (self.room / "output").read_bytes()))
+        said = re.findall(r"^lab: line (\d+: .*)", ran.stderr.decode(), re.M)
+        self.assertEqual([it.replace(":", "", 1) for it in said], IDLE.splitlines()[:20])
+
+    def test_show_says_which_lines_did_nothing(self):
+        script = self.played_idly()
+        for words in (("show",), ("show", "--locks")):
+            ran = self.lab(*words, script=script)
+            self.assertEqual(ran.returncode, 0)
+            found = re.findall(r"^ *(\d+)  @.*\n    -- (.*)", ran.stdout.decode(), re.M)
+            told = [f"{number} {text}" for number, text in found if "did nothing" in text or "came to no" in text]
+            self.assertEqual(told, IDLE.splitlines())
+            self.assertNotIn(b"did nothing", ran.stderr)
+
+    def test_a_script_is_played_once_where_nothing_can_be_idle(self):
+        self.played_idly()
+        for script, runs in ((b"client c1 a\n@settle 1000\n#@poll c1 1\n", 1), (b"client c1 a\n @settle 0\n", 2)):
+            self.lab("run", script=script)
+            self.assertEqual((self.room / "runs").read_text().count("\n"), runs)
+            (self.room / "runs").unlink()
+
+    def test_what_is_long_is_not_looked_at(self):
+        script = self.played_idly()
+        main = self.room / "scripts/lab_parts/main.py"
+        text = main.read_text()
+        for said, runs in (("SHORT, MOST_TRACE = 0, 1 << 20", 1), ("SHORT, MOST_TRACE = 2, 1000", 2)):
+            main.write_text(text.replace("SHORT, MOST_TRACE = 2, 1 << 20", said))
+            ran = self.lab("run", script=script)
+            self.assertEqual((ran.returncode, ran.stdout), (0, (self.room / "output").read_bytes()), said)
+            self.assertNotIn(b"did nothing", ran.stderr)
+            self.assertEqual((self.room / "runs").read_text().count("\n"), runs, said)
+            (self.room / "runs").unlink()
+
+    def test_a_trace_that_is_not_understood_tells_of_no_line(self):
+        self.played_idly()
+        for words in (("run",), ("show",)):
+            ran = self.lab(*words, script=b"client c1 a\nclient c2 a\n@poll c1 1\nc1 ls\n")
+            self.assertEqual(ran.returncode, 0)
+            self.assertNotIn(b"nobody is in slot", ran.stdout + ran.stderr)
 
 
 if __name__ == "__main__":

@@ -553,7 +553,7 @@ class Wrapper(unittest.TestCase):
             "-x": b"`-x` is no option of `show`; scripts/lab --help has all",
             "--": b"`--` is no option of `show`",
             "a b": b"`show` takes one script, and here are 2: a, b",
-            "--locks a --trace b": b"here are 2: a, b",
+            "--locks a --trace b": b"`show` takes one script, and here are 2: a, b",
         }
         for words, said in rows.items():
             ran = self.lab("show", *words.split())

@@ -861,19 +861,28 @@ class Fold:
             times -= 1
 
     def poll_until(self, session, slot, word):
-        """Polls a slot until it wants an operation of this word."""
+        """Polls a slot until it wants an operation of this word. Returns whether it surely came to none."""
         for _ in range(MOST_POLLS):
             request = session.slots.get(slot)
             cause = f"house:{session.instance()}" if slot == 0 else str(request and request.line)
             if self.is_operation_next(cause) and self.next_word() == word:
-                return
+                return False
             if not self.poll(session, slot):
-                return
+                break
+        return word not in self.may_want(session, slot)
+
+    def may_want(self, session, slot):
+        """Returns the words of all operations that a slot may want now."""
+        if slot == 0:
+            # (which of the two it wants rests on what was answered)
+            return ("lock-drop", "notify") if session.is_running and session.house.wanted else ()
+        request = session.slots.get(slot)
+        return request.wanted if request else ()
 
     def play(self, line):
         """Plays a line."""
         self.by = self.reached = line.number
-        self.step("line", line=line.number if line.is_command() else None)
+        made = self.step("line", line=line.number if line.is_command() else None)
         word, rest = line.words[0], line.words[1:]
         session = self.sessions.get(rest[0]) if rest else None
         if line.is_command():
@@ -881,7 +890,7 @@ class Fold:
         elif word == "@poll":
             self.poll_times(session, int(rest[1]), int(rest[2]) if rest[2:] else 1)
         elif word == "@until":
-            self.poll_until(session, int(rest[1]), rest[2])
+            made.told["is missed"] = self.poll_until(session, int(rest[1]), rest[2])
         elif word == "@settle":
             self.settle(int(rest[0]))
         elif word in ("@deliver", "@lose"):

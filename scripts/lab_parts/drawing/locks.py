@@ -26,7 +26,7 @@ def of_step(step, speaker):
         yield f"notice {number} to {notice['to']}: {speaker.said(notice)}"
     if step.kind == "heard":
         yield f"{step.who} hears notice {step.told['notice']}"
-    if step.kind == "lose":
+    if step.kind == "lose" and not speaker.notices[step.told["notice"]]["heard"]:
         yield f"notice {step.told['notice']} to {step.who} is lost"
     if step.operation and step.operation.word == "block-add" and step.operation.is_done():
         yield f"{step.told['owner']} is fenced: site {step.operation.site()} refuses it from now on"
