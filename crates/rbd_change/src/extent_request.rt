@@ -91,7 +91,8 @@ impl<C: ExtentChange> ExtentRequest<C, C::AtObject> {
         ensures rest { rest_of_extent C.refuses C.noted C.does C.AtObject.rest C.AtObject.number self.new
             ≡ rest_of_extent C.refuses C.noted C.does C.AtObject.rest C.AtObject.number self.old }
         ensures ready { OnOk result
-            (IsReady C.refuses C.noted C.does C.AtObject.rest C.AtObject.number C.AtObject.is_ready self.new answer.now) }
+            (IsReady C.refuses C.noted C.does C.AtObject.rest C.AtObject.number C.AtObject.is_ready
+            self.new answer.now) }
     {
         let Some(image) = self.under_lock() else {
             return Ok(());
@@ -126,7 +127,8 @@ impl<C: ExtentChange> ExtentRequest<C, C::AtObject> {
     /// Goes on with its way to its look under the lock, and from there.
     fn approach(&mut self, fed: &Fed) -> Flow
         requires at { IsApproaching self.old.stage }
-        requires can { CanBeFed (rest_of_extent C.refuses C.noted C.does C.AtObject.rest C.AtObject.number self.old) fed.now }
+        requires can { CanBeFed
+            (rest_of_extent C.refuses C.noted C.does C.AtObject.rest C.AtObject.number self.old) fed.now }
         requires ready { IsReadyFor
             (IsReady C.refuses C.noted C.does C.AtObject.rest C.AtObject.number C.AtObject.is_ready self.old) fed.now }
         ensures { GoesOn Goto
@@ -170,7 +172,8 @@ impl<C: ExtentChange> ExtentRequest<C, C::AtObject> {
 }
 
 impl<C: ExtentChange> Machine for ExtentRequest<C, C::AtObject> {
-    ghost stands = { λ r. without_labels (rest_of_extent C.refuses C.noted C.does C.AtObject.rest C.AtObject.number r) };
+    ghost stands = { λ r.
+        without_labels (rest_of_extent C.refuses C.noted C.does C.AtObject.rest C.AtObject.number r) };
 
     ghost is_ready = { IsReady C.refuses C.noted C.does C.AtObject.rest C.AtObject.number C.AtObject.is_ready };
 

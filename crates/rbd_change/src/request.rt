@@ -82,7 +82,8 @@ impl<C: Change> ChangeRequest<C, C::Steps> {
             (fed_with.Answer answer.now) }
         ensures rest { rest_of_change C.refuses C.noted C.does C.Steps.rest self.new
             ≡ rest_of_change C.refuses C.noted C.does C.Steps.rest self.old }
-        ensures ready { OnOk result (IsReady C.refuses C.noted C.does C.Steps.rest C.Steps.is_ready self.new answer.now) }
+        ensures ready { OnOk result
+            (IsReady C.refuses C.noted C.does C.Steps.rest C.Steps.is_ready self.new answer.now) }
     {
         let Some(image) = self.under_lock() else {
             return Ok(());
@@ -119,7 +120,8 @@ impl<C: Change> ChangeRequest<C, C::Steps> {
         requires at { IsApproaching self.old.stage }
         requires can { CanBeFed (rest_of_change C.refuses C.noted C.does C.Steps.rest self.old) fed.now }
         requires ready { IsReadyFor (IsReady C.refuses C.noted C.does C.Steps.rest C.Steps.is_ready self.old) fed.now }
-        ensures { GoesOn Goto (plan_after (rest_of_change C.refuses C.noted C.does C.Steps.rest self.old) fed.now) result
+        ensures { GoesOn Goto
+            (plan_after (rest_of_change C.refuses C.noted C.does C.Steps.rest self.old) fed.now) result
             (without_labels (rest_of_change C.refuses C.noted C.does C.Steps.rest self.new)) }
     {
         let Stage::Approaching(way) = &mut self.stage else {

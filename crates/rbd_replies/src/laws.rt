@@ -99,8 +99,8 @@ pub fn what_is_refused_on_its_way_did_nothing()
         → effects_of (placed_of line (Did o (Some reply) ∷ run)) ≡ [] }
 {}
 
-/// A line's command has done all of its operations at the home of the session that began it: so at
-/// each of its places the flat site is that site's.
+/// A command that has its reply has done all of its operations at the home of the session that began
+/// it: so at each of its places the flat site is that site's.
 pub fn replies_are_of_their_home()
     ensures done { (homes : ℕ → Site) (run : List Happening) (o : Operation) (line : ℕ) (reply : Reply) (asked : Asked)
         → IsRight homes (Did o (Some reply) ∷ run) → replies_to line (Did o (Some reply)) ≡ true

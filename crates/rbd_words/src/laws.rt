@@ -6,8 +6,8 @@ ghost use Rattle.rbd_words.specs.Words.{asked_for_by};
 ghost use Rattle.rbd_words.specs.declared.asked.Asked.TheVariants.{Generate};
 ghost use Rattle.rbd_words.specs.declared.load.Load.{Load};
 
-/// A load is asked for by its three options, in each order, with each value as the next word or
-/// behind `=`.
+/// A load in its range is asked for by its three options, in each order, with each value as the next
+/// word or behind `=`.
 pub fn loads_are_spelled()
     ensures { (load : Load) (words : List (List ℕ)) → IsLoad load → SpellsLoad load words
         → asked_for_by (codes "gen" ∷ words) ≡ Some (Generate load) }
