@@ -208,11 +208,17 @@ def started(build, words, script, taken):
     with tempfile.TemporaryFile() as given:
         given.write(script)
         given.seek(0)
+        came = []
+        for number in (signal.SIGTERM, signal.SIGHUP):
+            # (one that comes while the program starts is kept for it)
+            signal.signal(number, lambda number, _: came.append(number))
         with subprocess.Popen([build.program, *words], stdin=given, stdout=subprocess.PIPE) as ran:
             try:
                 for number in (signal.SIGTERM, signal.SIGHUP):
                     # What stops this stops the program, and then this ends as that did.
                     signal.signal(number, lambda number, _: ran.send_signal(number))
+                for number in came:
+                    ran.send_signal(number)
                 if os.isatty(2):
                     from .progress import until_it_prints
 
