@@ -115,7 +115,14 @@ fn paint_series(alloc: Global, site: &mut FlatSite, series: Series) -> Result<()
     let mut at = Extents::with_capacity(alloc, 1)?;
     at.push(series)?;
     let bytes = Bytes::from_slice(alloc, &[1, 2, 3, 4, 5, 6, 7, 8])?;
-    take(site, Effect::Piece { image: DISK, at, bytes })
+    take(
+        site,
+        Effect::Piece {
+            image: DISK,
+            at,
+            bytes,
+        },
+    )
 }
 
 /// Two bytes at 0, 3 and 6, and at 9, which is past the end. Then one at 7, and one past all
