@@ -19,7 +19,8 @@ use Rattle.rbd_kinds.specs.declared.map_op.MapOp.{MapOp}
 use Rattle.rbd_kinds.specs.declared.map_op.MapOp.TheVariants as states
 use Rattle.rbd_kinds.specs.declared.operation.Op.{Op}
 use Rattle.rbd_kinds.specs.declared.operation.Op.TheVariants as op
-use Rattle.rbd_machine.specs.Knowledge.{Knowledge, Own, ImagePlace, afresh, first_told, header_told, is_at, is_drawn, is_fence_of, is_fenced_by, is_gone, learned, learned_of_directory, learned_of_header, learned_of_listing, learned_of_map, learned_of_object, looked_by, looked_under_lock, maps_of, objects_known_of, only_there, own_of, removed_header, same_site, unmapped, unmarked, with_drawn, with_fence, without_drawn, without_fence}
+use Rattle.rbd_machine.specs.Ancestors.{HeaderSeen, ObjectTold, seen_by, told_by}
+use Rattle.rbd_machine.specs.Knowledge.{Knowledge, Own, ImagePlace, afresh, first_told, header_told, is_at, is_drawn, is_fence_of, is_fenced_by, is_gone, learned, learned_of_directory, learned_of_header, learned_of_listing, learned_of_map, learned_of_object, learned_own, looked_by, looked_under_lock, maps_of, objects_known_of, only_there, own_of, removed_header, same_site, unmapped, unmarked, with_drawn, with_fence, without_drawn, without_fence}
 use Rattle.rbd_machine.specs.Permits.{Permits, PermitsOnHeader, OwnsBy, OwnsAlone, MayMake, MaySize, MayTakeSnap, MayRemove}
 use Rattle.rbd_kinds.specs.Header.{snap_named}
 use Rattle.rbd_kinds.specs.Instances.{same_instance}
@@ -47,7 +48,7 @@ use Rattle.rbd_interference.proofs.Each.{IsKnownAs, IsThereAs, IsTrueOfImage, al
 use Rattle.rbd_interference.proofs.Fenced.{where_free, is_put_up, stays_put_up}
 use Rattle.rbd_interference.proofs.Headers.{own_known, owned_there, not_waiting, unknown_of_none}
 use Rattle.rbd_interference.proofs.Kept.{kept_by}
-use Rattle.rbd_interference.proofs.Less.{afresh_less, left_there, less_true, nothing_of, unfenced_less}
+use Rattle.rbd_interference.proofs.Less.{afresh_less, left_there, less_true, nothing_of, telling_less, unfenced_less}
 use Rattle.rbd_interference.proofs.MapsBehind.{nothing_mapped}
 use Rattle.rbd_interference.proofs.MapsLearned.{at_no_other, map_taught, told_of_others}
 use Rattle.rbd_interference.proofs.ObjectsLearned.{object_taught}
@@ -537,34 +538,59 @@ object_of_fence k site image number (object.Empty context) = refl
 object_of_fence k site image number (object.Remove context) = refl
 object_of_fence k site image number (object.CopyUp bytes) = refl
 
+own_of_fence : (k : Knowledge) (site : SiteId) (o : Op) → learned_own k site o answer.Fenced ≡ k
+own_of_fence k site (op.Directory (directory.Add name)) = refl
+own_of_fence k site (op.Directory o) = refl
+own_of_fence k site (op.Header image header.Get) = refl
+own_of_fence k site (op.Header image (header.Create view)) = refl
+own_of_fence k site (op.Header image (header.SetSize to)) = refl
+own_of_fence k site (op.Header image header.Remove) = refl
+own_of_fence k site (op.Header image (header.SnapAdd name)) = refl
+own_of_fence k site (op.Header image (header.SnapRemove snap)) = refl
+own_of_fence k site (op.Header image (header.LockBreak owner)) = refl
+own_of_fence k site (op.Header image o) = refl
+own_of_fence k site (op.BlockAdd i) = refl
+own_of_fence k site (op.Map image o) = map_of_fence k site image o
+own_of_fence k site (op.Data image number o) = object_of_fence k site image number o
+own_of_fence k site o = refl
+
+-- it tells nothing of other images either
+seen_of_fence : (seen : List HeaderSeen) (site : SiteId) (o : Op) → seen_by seen site o answer.Fenced ≡ seen
+seen_of_fence seen site (op.Header image header.Get) = refl
+seen_of_fence seen site (op.Header image o) = refl
+seen_of_fence seen site o = refl
+
+told_of_fence : (seen : List HeaderSeen) (told : List ObjectTold) (site : SiteId) (o : Op) → told_by seen told site o answer.Fenced ≡ told
+told_of_fence seen told site (op.Data image number (object.Read (Some snap) parts)) = refl
+told_of_fence seen told site (op.Data image number (object.Read None parts)) = refl
+told_of_fence seen told site (op.Data image number o) = refl
+told_of_fence seen told site o = refl
+
 pub learned_of_fence : (k : Knowledge) (site : SiteId) (o : Op) → learned k site o answer.Fenced ≡ k
-learned_of_fence k site (op.Directory (directory.Add name)) = refl
-learned_of_fence k site (op.Directory o) = refl
-learned_of_fence k site (op.Header image header.Get) = refl
-learned_of_fence k site (op.Header image (header.Create view)) = refl
-learned_of_fence k site (op.Header image (header.SetSize to)) = refl
-learned_of_fence k site (op.Header image header.Remove) = refl
-learned_of_fence k site (op.Header image (header.SnapAdd name)) = refl
-learned_of_fence k site (op.Header image (header.SnapRemove snap)) = refl
-learned_of_fence k site (op.Header image (header.LockBreak owner)) = refl
-learned_of_fence k site (op.Header image o) = refl
-learned_of_fence k site (op.BlockAdd i) = refl
-learned_of_fence k site (op.Map image o) = map_of_fence k site image o
-learned_of_fence k site (op.Data image number o) = object_of_fence k site image number o
-learned_of_fence k site o = refl
+learned_of_fence k site o =
+    ap (λ j. record j { seen = seen_by k.seen site o answer.Fenced; told = told_by k.seen k.told site o answer.Fenced }) (own_of_fence k site o)
+    ∙ ap (λ seen. record k { seen = seen; told = told_by k.seen k.told site o answer.Fenced }) (seen_of_fence k.seen site o)
+    ∙ ap (λ told. record k { told = told }) (told_of_fence k.seen k.told site o)
+
+own_taught : (site : SiteId) (r : Records) (f : Flat) (k : Knowledge) (me : Instance) (o : Op) (most : ℕ) → StandsFor [] r f → AreInForm r most → AreMapped r → IsTrueAt site r me k → Permits k site o
+    → IsTrueAt site (after r me o) me (learned_own k site o (answer_to r me o))
+own_taught site r f k me (op.Directory o) most stands form mapped t permits =
+    where_either (λ a s. IsTrueAt site s me (learned_own k site (op.Directory o) a)) r me (op.Directory o)
+    (subst (IsTrueAt site r me) (sym (own_of_fence k site (op.Directory o))) t) (directory_learned site r f me k stands mapped t o)
+own_taught site r f k me (op.BlockAdd i) most stands form mapped t permits =
+    where_free (λ a s. IsTrueAt site s me (learned_of_listing k site i a)) r me (op.BlockAdd i) t (λ free. listed_true site r me k i t free)
+own_taught site r f k me (op.Header image o) most stands form mapped t permits = header_learned site r f me k stands mapped t image o permits
+own_taught site r f k me (op.Data image number o) most stands form mapped t permits =
+    where_free (λ a s. IsTrueAt site s me (learned_of_object k site image number o a)) r me (op.Data image number o) (subst (IsTrueAt site r me) (sym (object_of_fence k site image number o)) t)
+    (λ free. object_taught site r me k most form t free image number o permits)
+own_taught site r f k me (op.Map image o) most stands form mapped t permits =
+    where_free (λ a s. IsTrueAt site s me (learned_of_map k site image o a)) r me (op.Map image o) (subst (IsTrueAt site r me) (sym (map_of_fence k site image o)) t)
+    (λ free. map_taught site r me k most form mapped t free image o permits)
+own_taught site r f k me _ most stands form mapped t permits = elim permits [ ]
 
 pub own_learned : (site : SiteId) (r : Records) (f : Flat) (k : Knowledge) (me : Instance) (o : Op) (most : ℕ) → StandsFor [] r f → AreInForm r most → AreMapped r → IsTrueAt site r me k → Permits k site o
     → IsTrueAt site (after r me o) me (learned k site o (answer_to r me o))
-own_learned site r f k me (op.Directory o) most stands form mapped t permits =
-    where_either (λ a s. IsTrueAt site s me (learned k site (op.Directory o) a)) r me (op.Directory o)
-    (subst (IsTrueAt site r me) (sym (learned_of_fence k site (op.Directory o))) t) (directory_learned site r f me k stands mapped t o)
-own_learned site r f k me (op.BlockAdd i) most stands form mapped t permits =
-    where_free (λ a s. IsTrueAt site s me (learned_of_listing k site i a)) r me (op.BlockAdd i) t (λ free. listed_true site r me k i t free)
-own_learned site r f k me (op.Header image o) most stands form mapped t permits = header_learned site r f me k stands mapped t image o permits
-own_learned site r f k me (op.Data image number o) most stands form mapped t permits =
-    where_free (λ a s. IsTrueAt site s me (learned_of_object k site image number o a)) r me (op.Data image number o) (subst (IsTrueAt site r me) (sym (object_of_fence k site image number o)) t)
-    (λ free. object_taught site r me k most form t free image number o permits)
-own_learned site r f k me (op.Map image o) most stands form mapped t permits =
-    where_free (λ a s. IsTrueAt site s me (learned_of_map k site image o a)) r me (op.Map image o) (subst (IsTrueAt site r me) (sym (map_of_fence k site image o)) t)
-    (λ free. map_taught site r me k most form mapped t free image o permits)
-own_learned site r f k me _ most stands form mapped t permits = elim permits [ ]
+own_learned site r f k me o most stands form mapped t permits =
+    let a = answer_to r me o in
+    less_true site (learned k site o a) (learned_own k site o a) (telling_less site (learned_own k site o a) (seen_by k.seen site o a) (told_by k.seen k.told site o a)) (after r me o) me
+    (own_taught site r f k me o most stands form mapped t permits)

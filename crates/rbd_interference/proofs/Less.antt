@@ -10,6 +10,7 @@ use Rattle.rbd_kinds.specs.declared.id.SiteId.{SiteId}
 use Rattle.rbd_kinds.specs.declared.layout.Layout.{Layout}
 use Rattle.rbd_kinds.proofs.Images.{same_site_is}
 use Rattle.rbd_object.specs.Mapped.{Mapped}
+use Rattle.rbd_machine.specs.Ancestors.{HeaderSeen, ObjectTold}
 use Rattle.rbd_machine.specs.Knowledge.{Fence, ImageMaps, Knowledge, MapsKnown, ObjectsKnown, Own, afresh, owns_when_held, is_absent, is_at, is_drawn, is_fence_of, is_fenced_by, is_gone, is_raised, owns_without, maps_of, objects_known_of, own_of, known_after_wait, same_site, unfenced, unmapped, unmarked, untouched, without_fence}
 use Rattle.rbd_machine.specs.Wait.{Wait}
 use Rattle.rbd_machine.specs.Wait as wait
@@ -53,6 +54,17 @@ as_maps new old same = subst (AreMapsLess new) same (same_maps new)
 
 pub less_itself : (site : SiteId) (k : Knowledge) → IsLess site k k
 less_itself site k = record {
+  owns = λ image some. refl;
+  drawn = λ image drawn. drawn;
+  fenced = λ i known. known;
+  maps = λ image. same_maps (maps_of k.maps site image);
+  objects = λ image. inl refl;
+  gone = λ image gone. gone;
+}
+
+-- whatever was told of other images, what is the request's own is the same
+pub telling_less : (site : SiteId) (k : Knowledge) (seen : List HeaderSeen) (told : List ObjectTold) → IsLess site (record k { seen = seen; told = told }) k
+telling_less site k seen told = record {
   owns = λ image some. refl;
   drawn = λ image drawn. drawn;
   fenced = λ i known. known;

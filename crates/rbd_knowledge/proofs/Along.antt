@@ -28,7 +28,7 @@ use Rattle.rbd_kinds.specs.declared.operation.Op.TheVariants as op
 use Rattle.rbd_header.specs.Header.{with_size, with_snap, without_snap}
 use Rattle.rbd_queue.specs.Line.{is_past}
 use Rattle.rbd_queue.proofs.Fair.{stays_past}
-use Rattle.rbd_machine.specs.Knowledge.{ImageMaps, ImageObjects, Knowledge, Own, learned_of_map, learned_of_object, looked_by, looked_under_lock, own_of, is_at, told_of, with_header, header_told, first_told, learned, learned_of_directory, learned_of_header, learned_of_listing, known_after_wait, owns_when_held, owns_without}
+use Rattle.rbd_machine.specs.Knowledge.{ImageMaps, ImageObjects, Knowledge, Own, learned_of_map, learned_of_object, looked_by, looked_under_lock, own_of, is_at, told_of, with_header, header_told, first_told, learned, learned_of_directory, learned_of_header, learned_of_listing, learned_own, known_after_wait, owns_when_held, owns_without}
 use Rattle.rbd_machine.specs.Wait.{Wait}
 use Rattle.rbd_machine.specs.Wait as wait
 use Rattle.rbd_interference.specs.Truth.{header_of_own}
@@ -291,13 +291,16 @@ module _ (e : Option Extent) (k : Knowledge) (c : Course) (t : IsTied k c) where
   map_tied s i _ _ = t
 
   -- no turn is had before the look under the lock
+  own_tied : (s : SiteId) (o : Op) (a : Answer) → ((i : ℕ) → looks_under_lock_at s i c.place ≡ true → c.turn ≡ None) → IsTied (learned_own k s o a) (answered e c s o a)
+  own_tied s (op.Directory o) a quiet = directory_tied s o a
+  own_tied s (op.Header i o) a quiet = header_tied s i o a (quiet i)
+  own_tied s (op.Data i n o) a quiet = object_tied s i n o a
+  own_tied s (op.BlockAdd i) a quiet = listing_tied s i a
+  own_tied s (op.Map i o) a quiet = map_tied s i o a
+  own_tied s _ a quiet = t
+
   pub answered_tied : (s : SiteId) (o : Op) (a : Answer) → ((i : ℕ) → looks_under_lock_at s i c.place ≡ true → c.turn ≡ None) → IsTied (learned k s o a) (answered e c s o a)
-  answered_tied s (op.Directory o) a quiet = directory_tied s o a
-  answered_tied s (op.Header i o) a quiet = header_tied s i o a (quiet i)
-  answered_tied s (op.Data i n o) a quiet = object_tied s i n o a
-  answered_tied s (op.BlockAdd i) a quiet = listing_tied s i a
-  answered_tied s (op.Map i o) a quiet = map_tied s i o a
-  answered_tied s _ a quiet = t
+  answered_tied s o a quiet = let own = own_tied s o a quiet in record { owns = own.owns; alone = own.alone; turn = own.turn }
 
 -- ---- waits
 

@@ -1,6 +1,6 @@
 -- Who knows at least as much stays so, and may do as much.
 use Rattle.std.proofs.Common.{◌≡◌, ◌⊎◌, inl, inr, ℕ, zero, suc, ◌==◌, eqb, cond, not, Bool, true, false, List, [], ◌∷◌, filter, length, ◌*◌, slice_set, Option, Some, None, is_some, option_map, refl, sym, ap, ◌∙◌, subst, arith}
-use Rattle.std.specs.Prelude.{Any, IsSome}
+use Rattle.std.specs.Prelude.{Any, IsSome, ◌&&◌, nat_le}
 use Rattle.std.proofs.lemmas.Bool.{true≢false, and_parts, eqb-true}
 use Rattle.rbd_kinds.specs.declared.answer.Answer.{Answer}
 use Rattle.rbd_kinds.specs.declared.answer.Answer.TheVariants as answer
@@ -22,8 +22,9 @@ use Rattle.rbd_kinds.specs.declared.operation.Op.TheVariants as op
 use Rattle.rbd_kinds.specs.Striping.{object_of}
 use Rattle.rbd_kinds.proofs.Images.{same_site_is}
 use Rattle.rbd_map.specs.States.{states_of}
+use Rattle.rbd_machine.specs.Ancestors.{HeaderSeen, IsAmong, ObjectTold, is_dated, seen_by, told_by, told_when}
 use Rattle.rbd_machine.specs.AtLeast.{AreMapsAtLeast, AreObjectsAtLeast, IsToldToo, KnowsAtLeast}
-use Rattle.rbd_machine.specs.Knowledge.{Blank, Fence, ImageMaps, ImagePlace, Knowledge, MapsKnown, Mark, ObjectsKnown, Own, afresh, blanked, first_told, forgotten, header_told, is_absent, is_at, is_drawn, is_fenced_by, is_mark, is_raised, known_after_wait, learned, learned_of_directory, learned_of_header, learned_of_listing, learned_of_map, learned_of_object, looked_behind, looked_by, looked_under_lock, maps_of, maps_told, marks_after, objects_known_of, only_there, own_of, owns_when_held, owns_without, removed, removed_header, same_site, states_set, unfenced, unmapped, unmarked, with_maps, with_objects, without_drawn, without_fence}
+use Rattle.rbd_machine.specs.Knowledge.{Blank, Fence, ImageMaps, ImagePlace, Knowledge, MapsKnown, Mark, ObjectsKnown, Own, afresh, blanked, first_told, forgotten, header_told, is_absent, is_at, is_drawn, is_fenced_by, is_mark, is_raised, known_after_wait, learned, learned_of_directory, learned_of_header, learned_of_listing, learned_of_map, learned_of_object, learned_own, looked_behind, looked_by, looked_under_lock, maps_of, maps_told, marks_after, objects_known_of, only_there, own_of, owns_when_held, owns_without, removed, removed_header, same_site, states_set, unfenced, unmapped, unmarked, with_maps, with_objects, without_drawn, without_fence}
 use Rattle.rbd_machine.specs.Label.{Label, IsFit}
 use Rattle.rbd_machine.specs.Lawful.{IsLawful}
 use Rattle.rbd_machine.specs.Permits.{HasTurn, IsInParts, IsLeftOver, IsMappedFor, IsZeroByChange, IsZeroByState, MayMake, MaySize, MayTakeSnap, OwnsAlone, OwnsBy, Permits, PermitsOnDirectory, PermitsOnHeader, PermitsOnMap, PermitsOnObject}
@@ -48,9 +49,9 @@ told_some : {T : Type 0} (more less : Option T) → IsToldToo more less → IsSo
 told_some more None too some = absurd (true≢false (sym some))
 told_some more (Some x) too some = ap is_some too
 
-told_by : {T : Type 0} (f : T → T) (more less : Option T) → IsToldToo more less → IsToldToo (option_map f more) (option_map f less)
-told_by f more None too = tt
-told_by f more (Some x) too = ap (option_map f) too
+told_mapped : {T : Type 0} (f : T → T) (more less : Option T) → IsToldToo more less → IsToldToo (option_map f more) (option_map f less)
+told_mapped f more None too = tt
+told_mapped f more (Some x) too = ap (option_map f) too
 
 -- ---- of maps
 
@@ -344,6 +345,8 @@ knows_itself k = record {
   maps = λ site image. maps_themselves (maps_of k.maps site image);
   objects = λ site image. objects_themselves (objects_known_of k.objects site image);
   gone = λ site image gone. gone;
+  seen = λ s among. among;
+  told = λ t among. among;
 }
 
 pub knows_as : (k other : Knowledge) → k ≡ other → KnowsAtLeast k other
@@ -360,6 +363,77 @@ knows_onward a b c first then_less = record {
   objects = λ site image.
       objects_onward (objects_known_of a.objects site image) (objects_known_of b.objects site image) (objects_known_of c.objects site image) (first.objects site image) (then_less.objects site image);
   gone = λ site image gone. first.gone site image (then_less.gone site image gone);
+  seen = λ s among. first.seen s (then_less.seen s among);
+  told = λ t among. first.told t (then_less.told t among);
+}
+
+-- ---- what was told of any image
+
+-- a test that the one's list meets the other's meets too
+among_more : {T : Type 0} (x : T) (more less : List T) → ((y : T) → IsAmong y less → IsAmong y more) → (y : T) → IsAmong y (x ∷ less) → IsAmong y (x ∷ more)
+among_more x more less l y (inl here) = inl here
+among_more x more less l y (inr there) = inr (l y there)
+
+seen_more : (more less : List HeaderSeen) → ((s : HeaderSeen) → IsAmong s less → IsAmong s more) → (site : SiteId) (o : Op) (a : Answer) (s : HeaderSeen) → IsAmong s (seen_by less site o a) → IsAmong s (seen_by more site o a)
+seen_more more less l site (op.Header image header.Get) (answer.Header h) = among_more (record { site = site; image = image; header = h }) more less l
+seen_more more less l site _ _ = l
+
+-- a header by which a snapshot has its date
+abbrev dates : SiteId → (image snap : ℕ) → HeaderSeen → Bool
+dates site image snap s = is_at site image s.site s.image && nat_le snap s.header.snap_seq
+
+dated_by : (seen : List HeaderSeen) (site : SiteId) (image snap : ℕ) (s : HeaderSeen) → IsAmong s seen → dates site image snap s ≡ true → is_dated seen site image snap ≡ true
+dated_by [] site image snap s among is = absurd among
+dated_by (x ∷ seen) site image snap s (inl here) is = ap (λ b. cond b true (is_dated seen site image snap)) (ap (dates site image snap) here ∙ is)
+dated_by (x ∷ seen) site image snap s (inr there) is = by (dates site image snap x) (dated_by seen site image snap s there is)
+  where
+    by : (b : Bool) → is_dated seen site image snap ≡ true → cond b true (is_dated seen site image snap) ≡ true
+    by true later = refl
+    by false later = later
+
+date_of : (seen : List HeaderSeen) (site : SiteId) (image snap : ℕ) → is_dated seen site image snap ≡ true → (s : HeaderSeen) × IsAmong s seen × (dates site image snap s ≡ true)
+date_of [] site image snap is = absurd (true≢false (sym is))
+date_of (x ∷ seen) site image snap is = by (dates site image snap x) refl is (date_of seen site image snap)
+  where
+    by : (b : Bool) → dates site image snap x ≡ b → cond b true (is_dated seen site image snap) ≡ true
+        → (is_dated seen site image snap ≡ true → (s : HeaderSeen) × IsAmong s seen × (dates site image snap s ≡ true)) → (s : HeaderSeen) × IsAmong s (x ∷ seen) × (dates site image snap s ≡ true)
+    by true at is later = (x, inl refl, at)
+    by false at is later = let (s, among, dated) = later is in (s, inr among, dated)
+
+dated_more : (more less : List HeaderSeen) → ((s : HeaderSeen) → IsAmong s less → IsAmong s more) → (site : SiteId) (image snap : ℕ) → is_dated less site image snap ≡ true → is_dated more site image snap ≡ true
+dated_more more less l site image snap is = let (s, among, dated) = date_of less site image snap is in dated_by more site image snap s (l s among) dated
+
+module _ (more less : List ObjectTold) (l : (t : ObjectTold) → IsAmong t less → IsAmong t more) (x : ObjectTold) where
+  when_more : (dated before : Bool) → (before ≡ true → dated ≡ true) → (t : ObjectTold) → IsAmong t (told_when before x less) → IsAmong t (told_when dated x more)
+  when_more true true goes t among = among_more x more less l t among
+  when_more true false goes t among = inr (l t among)
+  when_more false true goes t among = absurd (true≢false (sym (goes refl)))
+  when_more false false goes t among = l t among
+
+lists_told : (more_seen less_seen : List HeaderSeen) → ((s : HeaderSeen) → IsAmong s less_seen → IsAmong s more_seen) → (more less : List ObjectTold) → ((t : ObjectTold) → IsAmong t less → IsAmong t more)
+    → (site : SiteId) (o : Op) (a : Answer) (t : ObjectTold) → IsAmong t (told_by less_seen less site o a) → IsAmong t (told_by more_seen more site o a)
+lists_told more_seen less_seen seen more less l site (op.Data image number (object.Read (Some snap) parts)) (answer.Bytes bytes) =
+    when_more more less l (record { site = site; image = image; snap = snap; object = number; parts = parts; bytes = Some bytes })
+    (is_dated more_seen site image snap) (is_dated less_seen site image snap) (dated_more more_seen less_seen seen site image snap)
+lists_told more_seen less_seen seen more less l site (op.Data image number (object.Read (Some snap) parts)) answer.Absent =
+    when_more more less l (record { site = site; image = image; snap = snap; object = number; parts = parts; bytes = None })
+    (is_dated more_seen site image snap) (is_dated less_seen site image snap) (dated_more more_seen less_seen seen site image snap)
+lists_told more_seen less_seen seen more less l site _ _ = l
+
+-- the same, with these lists
+telling : (more less : Knowledge) → KnowsAtLeast more less → (a b : List HeaderSeen) → ((s : HeaderSeen) → IsAmong s b → IsAmong s a) → (c d : List ObjectTold) → ((t : ObjectTold) → IsAmong t d → IsAmong t c)
+    → KnowsAtLeast (record more { seen = a; told = c }) (record less { seen = b; told = d })
+telling more less l a b seen c d told = record {
+  alone = l.alone;
+  owns = l.owns;
+  turn = l.turn;
+  fenced = l.fenced;
+  drawn = l.drawn;
+  maps = l.maps;
+  objects = l.objects;
+  gone = l.gone;
+  seen = seen;
+  told = told;
 }
 
 -- ---- what it learns
@@ -378,6 +452,8 @@ module _ (more less : Knowledge) (l : KnowsAtLeast more less) (site : SiteId) wh
         (goes (maps_of more.maps site image) (maps_of less.maps site image) (l.maps site image)) (l.maps there place);
     objects = l.objects;
     gone = l.gone;
+    seen = l.seen;
+    told = l.told;
   }
 
   map_more : (image : ℕ) (o : MapOp) (a : Answer) → KnowsAtLeast (learned_of_map more site image o a) (learned_of_map less site image o a)
@@ -395,7 +471,7 @@ module _ (more less : Knowledge) (l : KnowsAtLeast more less) (site : SiteId) wh
       (λ m n at. record { raised = marks_more view object state m.raised n.raised at.raised; states = set view m n at; count = at.count; put = tt })
     where
       set : (view : Option ℕ) (m n : MapsKnown) → AreMapsAtLeast m n → IsToldToo (states_set view object state m.states) (states_set view object state n.states)
-      set None m n at = told_by (λ s. slice_set s object state) m.states n.states at.states
+      set None m n at = told_mapped (λ s. slice_set s object state) m.states n.states at.states
       set (Some snap) m n at = at.states
   map_more image (states.Remove view) answer.Done = with_maps_more image (λ m. unmapped) (λ m n at. maps_themselves unmapped)
   map_more image _ _ = l
@@ -411,6 +487,8 @@ module _ (more less : Knowledge) (l : KnowsAtLeast more less) (site : SiteId) wh
     maps = l.maps;
     objects = λ there place. by there place (is_at there place site image);
     gone = l.gone;
+    seen = l.seen;
+    told = l.told;
   }
     where
       by : (there : SiteId) (place : ℕ) (b : Bool)
@@ -440,6 +518,8 @@ module _ (more less : Knowledge) (l : KnowsAtLeast more less) (site : SiteId) wh
     maps = λ there place. maps_more unmapped unmapped more.maps less.maps site image there place (maps_themselves unmapped) (l.maps there place);
     objects = l.objects;
     gone = l.gone;
+    seen = l.seen;
+    told = l.told;
   }
   directory_more _ _ = l
 
@@ -453,6 +533,8 @@ module _ (more less : Knowledge) (l : KnowsAtLeast more less) (site : SiteId) wh
     maps = l.maps;
     objects = l.objects;
     gone = l.gone;
+    seen = l.seen;
+    told = l.told;
   }
   listing_more i _ = l
 
@@ -467,6 +549,8 @@ module _ (more less : Knowledge) (l : KnowsAtLeast more less) (site : SiteId) wh
     maps = l.maps;
     objects = l.objects;
     gone = l.gone;
+    seen = l.seen;
+    told = l.told;
   }
 
   told_more : (image : ℕ) (change : Option HeaderView → Option HeaderView) → KnowsAtLeast (header_told site image change more) (header_told site image change less)
@@ -479,6 +563,8 @@ module _ (more less : Knowledge) (l : KnowsAtLeast more less) (site : SiteId) wh
     maps = l.maps;
     objects = l.objects;
     gone = l.gone;
+    seen = l.seen;
+    told = l.told;
   }
     where
       map_told : List Own → List Own
@@ -494,6 +580,8 @@ module _ (more less : Knowledge) (l : KnowsAtLeast more less) (site : SiteId) wh
     maps = l.maps;
     objects = l.objects;
     gone = l.gone;
+    seen = l.seen;
+    told = l.told;
   }
 
   removed_header_more : (image : ℕ) → KnowsAtLeast (removed_header site image more) (removed_header site image less)
@@ -506,6 +594,8 @@ module _ (more less : Knowledge) (l : KnowsAtLeast more less) (site : SiteId) wh
     maps = λ there place. maps_more only_there only_there more.maps less.maps site image there place (maps_themselves only_there) (l.maps there place);
     objects = l.objects;
     gone = λ there place. drawn_cons site there image place more.gone less.gone (l.gone there place) (is_at there place site image);
+    seen = l.seen;
+    told = l.told;
   }
 
   afresh_more : (image : ℕ) → KnowsAtLeast (afresh site image more) (afresh site image less)
@@ -519,6 +609,8 @@ module _ (more less : Knowledge) (l : KnowsAtLeast more less) (site : SiteId) wh
         maps_more unmapped unmapped (unmarked more.maps) (unmarked less.maps) site image there place (maps_themselves unmapped) (unmarked_more more.maps less.maps there place (l.maps there place));
     objects = λ there place. objects_themselves (objects_known_of [] there place);
     gone = l.gone;
+    seen = l.seen;
+    told = l.told;
   }
 
   looked_more : (image : ℕ) → KnowsAtLeast (looked_behind site image more) (looked_behind site image less)
@@ -546,13 +638,18 @@ module _ (more less : Knowledge) (l : KnowsAtLeast more less) (site : SiteId) wh
   header_more image (header.LockBreak owner) answer.Changed = unfenced_more more less l site owner
   header_more image _ _ = l
 
+  own_more : (o : Op) (a : Answer) → KnowsAtLeast (learned_own more site o a) (learned_own less site o a)
+  own_more (op.Directory o) a = directory_more more less l site o a
+  own_more (op.Header image o) a = header_more image o a
+  own_more (op.Data image number o) a = object_more more less l site image number o a
+  own_more (op.BlockAdd i) a = listing_more more less l site i a
+  own_more (op.Map image o) a = map_more more less l site image o a
+  own_more _ a = l
+
   pub learned_more : (o : Op) (a : Answer) → KnowsAtLeast (learned more site o a) (learned less site o a)
-  learned_more (op.Directory o) a = directory_more more less l site o a
-  learned_more (op.Header image o) a = header_more image o a
-  learned_more (op.Data image number o) a = object_more more less l site image number o a
-  learned_more (op.BlockAdd i) a = listing_more more less l site i a
-  learned_more (op.Map image o) a = map_more more less l site image o a
-  learned_more _ a = l
+  learned_more o a = telling (learned_own more site o a) (learned_own less site o a) (own_more o a)
+      (seen_by more.seen site o a) (seen_by less.seen site o a) (seen_more more.seen less.seen l.seen site o a)
+      (told_by more.seen more.told site o a) (told_by less.seen less.told site o a) (lists_told more.seen less.seen l.seen more.told less.told l.told site o a)
 
 -- ---- what it waits for
 
@@ -572,6 +669,8 @@ module _ (more less : Knowledge) (l : KnowsAtLeast more less) where
     maps = λ site image. unmarked_more more.maps less.maps site image (l.maps site image);
     objects = λ site image. objects_themselves (objects_known_of [] site image);
     gone = l.gone;
+    seen = l.seen;
+    told = l.told;
   }
 
   pub waited_more : (w : Wait) → KnowsAtLeast (known_after_wait more w) (known_after_wait less w)
@@ -584,6 +683,8 @@ module _ (more less : Knowledge) (l : KnowsAtLeast more less) where
     maps = l.maps;
     objects = l.objects;
     gone = l.gone;
+    seen = l.seen;
+    told = l.told;
   }
   waited_more (wait.Hold site image) = record {
     alone = l.alone;
@@ -594,6 +695,8 @@ module _ (more less : Knowledge) (l : KnowsAtLeast more less) where
     maps = l.maps;
     objects = λ there place. objects_themselves (objects_known_of [] there place);
     gone = l.gone;
+    seen = l.seen;
+    told = l.told;
   }
   waited_more (wait.Turn object) = turned_more (Some object)
   waited_more (wait.Applied site image) = turned_more None
@@ -606,6 +709,8 @@ module _ (more less : Knowledge) (l : KnowsAtLeast more less) where
     maps = l.maps;
     objects = l.objects;
     gone = l.gone;
+    seen = l.seen;
+    told = l.told;
   }
 
 -- ---- what it may do
@@ -763,6 +868,87 @@ module _ (more less : Knowledge) (l : KnowsAtLeast more less) (site : SiteId) wh
   permits_more (op.BlockAdd i) may = tt
   permits_more (op.Map image o) may = may_on_map image o may
   permits_more _ may = elim may [ ]
+
+-- ---- what of it isn't needed
+
+when_stays : (told : List ObjectTold) (x : ObjectTold) (dated : Bool) (t : ObjectTold) → IsAmong t told → IsAmong t (told_when dated x told)
+when_stays told x true t among = inr among
+when_stays told x false t among = among
+
+seen_stays : (seen : List HeaderSeen) (site : SiteId) (o : Op) (a : Answer) (s : HeaderSeen) → IsAmong s seen → IsAmong s (seen_by seen site o a)
+seen_stays seen site (op.Header image header.Get) (answer.Header h) s among = inr among
+seen_stays seen site _ _ s among = among
+
+told_stays : (seen : List HeaderSeen) (told : List ObjectTold) (site : SiteId) (o : Op) (a : Answer) (t : ObjectTold) → IsAmong t told → IsAmong t (told_by seen told site o a)
+told_stays seen told site (op.Data image number (object.Read (Some snap) parts)) (answer.Bytes bytes) t among = when_stays told _ (is_dated seen site image snap) t among
+told_stays seen told site (op.Data image number (object.Read (Some snap) parts)) answer.Absent t among = when_stays told _ (is_dated seen site image snap) t among
+told_stays seen told site _ _ t among = among
+
+-- what is known of the request's own is no header and no snapshot of another's
+abbrev ToldAsBefore : Knowledge → Knowledge → Type 0
+ToldAsBefore k own = (own.seen ≡ k.seen) × (own.told ≡ k.told)
+
+looked_as_before : (k : Knowledge) (site : SiteId) (image : ℕ) → ToldAsBefore k (looked_behind site image k)
+looked_as_before k site image = by (own_of k.owns site image)
+  where
+    of : (header : Option HeaderView) → ToldAsBefore k (looked_by header site image k)
+    of None = (refl, refl)
+    of (Some h) = (refl, refl)
+
+    by : (o : Option Own) → ToldAsBefore k (looked_under_lock o site image k)
+    by None = (refl, refl)
+    by (Some o) = of o.header
+
+map_as_before : (k : Knowledge) (site : SiteId) (image : ℕ) (o : MapOp) (a : Answer) → ToldAsBefore k (learned_of_map k site image o a)
+map_as_before k site image (states.Resize count) answer.Done = (refl, refl)
+map_as_before k site image (states.Get None) (answer.Bits bits) = (refl, refl)
+map_as_before k site image (states.Put (Some snap) bits) answer.Done = (refl, refl)
+map_as_before k site image (states.Set view object state) answer.Done = (refl, refl)
+map_as_before k site image (states.Remove view) answer.Done = (refl, refl)
+map_as_before k site image _ _ = (refl, refl)
+
+object_as_before : (k : Knowledge) (site : SiteId) (image number : ℕ) (o : DataOp) (a : Answer) → ToldAsBefore k (learned_of_object k site image number o a)
+object_as_before k site image number (object.Write context must parts bytes) answer.Done = (refl, refl)
+object_as_before k site image number (object.WriteFull context bytes) answer.Done = (refl, refl)
+object_as_before k site image number (object.CopyUp bytes) answer.Done = (refl, refl)
+object_as_before k site image number (object.Zero context must parts) answer.Done = (refl, refl)
+object_as_before k site image number (object.Empty context) answer.Done = (refl, refl)
+object_as_before k site image number (object.Remove context) answer.Done = (refl, refl)
+object_as_before k site image number _ _ = (refl, refl)
+
+directory_as_before : (k : Knowledge) (site : SiteId) (o : DirectoryOp) (a : Answer) → ToldAsBefore k (learned_of_directory k site o a)
+directory_as_before k site (directory.Add name) (answer.Id image) = (refl, refl)
+directory_as_before k site _ _ = (refl, refl)
+
+listing_as_before : (k : Knowledge) (site : SiteId) (i : Instance) (a : Answer) → ToldAsBefore k (learned_of_listing k site i a)
+listing_as_before k site i answer.Done = (refl, refl)
+listing_as_before k site i _ = (refl, refl)
+
+header_as_before : (k : Knowledge) (site : SiteId) (image : ℕ) (o : HeaderOp) (a : Answer) → ToldAsBefore k (learned_of_header k site image o a)
+header_as_before k site image header.Get (answer.Header h) = looked_as_before k site image
+header_as_before k site image (header.Create view) answer.Done = (refl, refl)
+header_as_before k site image (header.SetSize to) answer.Done = (refl, refl)
+header_as_before k site image header.Remove answer.Done = (refl, refl)
+header_as_before k site image (header.SnapAdd name) (answer.Snap snap) = (refl, refl)
+header_as_before k site image (header.SnapRemove snap) answer.Done = (refl, refl)
+header_as_before k site image (header.LockBreak owner) answer.Done = (refl, refl)
+header_as_before k site image (header.LockBreak owner) answer.Changed = (refl, refl)
+header_as_before k site image _ _ = (refl, refl)
+
+own_as_before : (k : Knowledge) (site : SiteId) (o : Op) (a : Answer) → ToldAsBefore k (learned_own k site o a)
+own_as_before k site (op.Directory o) a = directory_as_before k site o a
+own_as_before k site (op.Header image o) a = header_as_before k site image o a
+own_as_before k site (op.Data image number o) a = object_as_before k site image number o a
+own_as_before k site (op.BlockAdd i) a = listing_as_before k site i a
+own_as_before k site (op.Map image o) a = map_as_before k site image o a
+own_as_before k site _ a = (refl, refl)
+
+pub learned_at_least : (k : Knowledge) (site : SiteId) (o : Op) (a : Answer) → KnowsAtLeast (learned k site o a) (learned_own k site o a)
+learned_at_least k site o a =
+    let before = own_as_before k site o a in
+    telling (learned_own k site o a) (learned_own k site o a) (knows_itself (learned_own k site o a))
+    (seen_by k.seen site o a) (learned_own k site o a).seen (λ s among. seen_stays k.seen site o a s (subst (IsAmong s) before.0 among))
+    (told_by k.seen k.told site o a) (learned_own k site o a).told (λ t among. told_stays k.seen k.told site o a t (subst (IsAmong t) before.1 among))
 
 -- ---- plans
 

@@ -19,7 +19,7 @@ use Rattle.rbd_commands.specs.declared.refusal.Refusal.{Refusal}
 use Rattle.rbd_kinds.specs.Form.{IsHeaderInForm}
 use Rattle.rbd_kinds.proofs.Images.{at_itself}
 use Rattle.rbd_machine.specs.Answers.{CanGive, CanBeFed}
-use Rattle.rbd_machine.specs.Knowledge.{Knowledge, Own, nothing_known, is_at, is_gone, own_of, header_told, first_told, owns_without, looked_under_lock, learned, known_after_wait, maps_told, unmapped, ImageMaps, MapsKnown, maps_of}
+use Rattle.rbd_machine.specs.Knowledge.{Knowledge, Own, nothing_known, is_at, is_gone, own_of, header_told, first_told, owns_without, looked_under_lock, learned, learned_own, known_after_wait, maps_told, unmapped, ImageMaps, MapsKnown, maps_of}
 use Rattle.rbd_machine.specs.Label.{Label, IsFit}
 use Rattle.rbd_machine.specs.Lawful.{CanTell, IsLawful, known_after}
 use Rattle.rbd_machine.specs.Permits.{IsLeftOver, OwnsBy}
@@ -27,7 +27,7 @@ use Rattle.rbd_machine.specs.Plan.{Plan, Ask, Await, Note, Return, Goto, past_la
 use Rattle.rbd_machine.specs.Standalone.{IsFedStandalone, IsStandalone, TellsStandalone}
 use Rattle.rbd_machine.specs.Steps.{or_else, unless, not_there, on_id, on_header, on_done, change_plan, looked, holding, owned, joining}
 use Rattle.rbd_machine.specs.Wait as wait
-use Rattle.rbd_machine.proofs.AtLeast.{lawful_by_more}
+use Rattle.rbd_machine.proofs.AtLeast.{lawful_by_more, learned_at_least}
 
 -- ---- places
 
@@ -53,12 +53,12 @@ abbrev pub unlooked : (alone : Bool) → SiteId → (image : ℕ) → Own
 unlooked alone s image = record { site = s; image = image; alone = alone; header = None }
 
 abbrev pub under_lock_known : (alone : Bool) → (turn : Option ℕ) → SiteId → (image : ℕ) → HeaderView → Knowledge
-under_lock_known alone turn s image h = record { alone = alone; owns = own_at alone s image h ∷ []; turn = turn; drawn = []; fenced = []; maps = maps_told s image unmapped []; objects = []; gone = [] }
+under_lock_known alone turn s image h = record { alone = alone; owns = own_at alone s image h ∷ []; turn = turn; drawn = []; fenced = []; maps = maps_told s image unmapped []; objects = []; gone = []; seen = []; told = [] }
 
 abbrev pub holding_known : (alone : Bool) → SiteId → (image : ℕ) → Knowledge
-holding_known alone s image = record { alone = alone; owns = unlooked alone s image ∷ []; turn = None; drawn = []; fenced = []; maps = []; objects = []; gone = [] }
+holding_known alone s image = record { alone = alone; owns = unlooked alone s image ∷ []; turn = None; drawn = []; fenced = []; maps = []; objects = []; gone = []; seen = []; told = [] }
 
-own_told : (alone : Bool) (s : SiteId) (image : ℕ) (h : HeaderView) → under_lock_known alone None s image h ≡ learned (holding_known alone s image) s (op.Header image header.Get) (answer.Header h)
+own_told : (alone : Bool) (s : SiteId) (image : ℕ) (h : HeaderView) → under_lock_known alone None s image h ≡ learned_own (holding_known alone s image) s (op.Header image header.Get) (answer.Header h)
 own_told alone s image h =
     ap (λ b. record {
       alone = alone;
@@ -69,6 +69,8 @@ own_told alone s image h =
       maps = maps_told s image unmapped [];
       objects = [];
       gone = [];
+      seen = [];
+      told = [];
     }) (sym (at_itself s image)) ∙ ap (λ b. header_told s image (first_told h) (looked_under_lock (cond b (Some (unlooked alone s image)) None) s image (holding_known alone s image))) (sym (at_itself s image))
 
 pub own_is_found : (alone : Bool) (turn : Option ℕ) (s : SiteId) (image : ℕ) (h : HeaderView)
@@ -97,6 +99,14 @@ module _ (at : Label → Knowledge) where
   lawful_on_header s image known next lawful (answer.Header h) can = lawful h can.form can.standalone
   lawful_on_header s image known next lawful a can = lawful_not_there (known a) a
 
+  -- a look of which nothing is needed but what it tells of an own image
+  pub lawful_look : (s : SiteId) (image : ℕ) (k : Knowledge) (next : HeaderView → Plan)
+      → ((h : HeaderView) → IsHeaderInForm h → IsStandalone h → IsLawful at (learned_own k s (op.Header image header.Get) (answer.Header h)) (next h))
+      → (a : Answer) → CanTell (op.Header image header.Get) a → IsLawful at (learned k s (op.Header image header.Get) a) (on_header next a)
+  lawful_look s image k next lawful a can =
+      lawful_by_more at (on_header next a) (learned k s (op.Header image header.Get) a) (learned_own k s (op.Header image header.Get) a) (learned_at_least k s (op.Header image header.Get) a)
+      (lawful_on_header s image (learned_own k s (op.Header image header.Get)) next lawful a can)
+
   pub lawful_on_done : (known : Answer → Knowledge) (next : Plan) → IsLawful at (known answer.Done) next → (a : Answer) → IsLawful at (known a) (on_done next a)
   lawful_on_done known next lawful answer.Done = lawful
   lawful_on_done known next lawful a = lawful_not_there (known a) a
@@ -113,11 +123,11 @@ module _ (at : Label → Knowledge) where
     λ found can.
         lawful_on_id (learned nothing_known s (op.Directory (directory.Find name))) (joining s sharing refuses act) (λ image. (
           tt,
-          lawful_on_header s image (learned (known_after_wait nothing_known (wait.Join s image sharing)) s (op.Header image header.Get)) (looked s refuses act image) (λ h form standalone.
+          lawful_look s image (known_after_wait nothing_known (wait.Join s image sharing)) (looked s refuses act image) (λ h form standalone.
               lawful_unless (record nothing_known { alone = is_alone sharing }) (refuses h) (holding s refuses act image) (λ may_wait. (
                 tt,
-                lawful_on_header s image (learned (holding_known (is_alone sharing) s image) s (op.Header image header.Get)) (owned refuses act image) (λ own form standalone.
-                    lawful_unless (learned (holding_known (is_alone sharing) s image) s (op.Header image header.Get) (answer.Header own)) (refuses own) (act image own) (λ may.
+                lawful_look s image (holding_known (is_alone sharing) s image) (owned refuses act image) (λ own form standalone.
+                    lawful_unless (learned_own (holding_known (is_alone sharing) s image) s (op.Header image header.Get) (answer.Header own)) (refuses own) (act image own) (λ may.
                     subst (λ k. IsLawful at k (act image own)) (own_told (is_alone sharing) s image own) (acts image own form may))),
               ))),
         )) found,

@@ -22,6 +22,7 @@ use Rattle.rbd_kinds.specs.declared.layout.Part.{Part}
 use Rattle.rbd_kinds.specs.Instances.{same_instance}
 use Rattle.rbd_header.specs.Header.{with_size, with_snap, without_snap}
 use Rattle.rbd_map.specs.States.{states_of}
+use Rattle.rbd_machine.specs.Ancestors.{HeaderSeen, ObjectTold, seen_by, told_by}
 use Rattle.rbd_machine.specs.Wait.{Wait}
 use Rattle.rbd_machine.specs.Wait as wait
 
@@ -95,10 +96,25 @@ pub record Knowledge : Type 0 where
   pub objects : List ImageObjects
   -- images whose header the request removed
   pub gone : List ImagePlace
+  -- headers that it was told, of any image, the latest first
+  pub seen : List HeaderSeen
+  -- what it read of snapshots, the latest first
+  pub told : List ObjectTold
 
 abbrev pub nothing_known : Knowledge
 nothing_known =
-    record { alone = false; owns = []; turn = None; drawn = []; fenced = []; maps = []; objects = []; gone = [] }
+    record {
+      alone = false;
+      owns = [];
+      turn = None;
+      drawn = [];
+      fenced = [];
+      maps = [];
+      objects = [];
+      gone = [];
+      seen = [];
+      told = [];
+    }
 
 -- ---- where
 
@@ -323,14 +339,20 @@ learned_of_header k site image (header.LockBreak owner) answer.Done = without_fe
 learned_of_header k site image (header.LockBreak owner) answer.Changed = without_fence site owner k
 learned_of_header k site image _ _ = k
 
--- what is known after an operation and its answer
+-- what is known of ids, locks and images that are the request's own
+abbrev pub learned_own : Knowledge → SiteId → Op → Answer → Knowledge
+learned_own k site (op.Directory o) a = learned_of_directory k site o a
+learned_own k site (op.Header image o) a = learned_of_header k site image o a
+learned_own k site (op.Data image number o) a = learned_of_object k site image number o a
+learned_own k site (op.BlockAdd instance) a = learned_of_listing k site instance a
+learned_own k site (op.Map image o) a = learned_of_map k site image o a
+learned_own k site _ a = k
+
+-- What is known after an operation and its answer: beside what is the request's own, each header
+-- that was told, and what was read of snapshots.
 abbrev pub learned : Knowledge → SiteId → Op → Answer → Knowledge
-learned k site (op.Directory o) a = learned_of_directory k site o a
-learned k site (op.Header image o) a = learned_of_header k site image o a
-learned k site (op.Data image number o) a = learned_of_object k site image number o a
-learned k site (op.BlockAdd instance) a = learned_of_listing k site instance a
-learned k site (op.Map image o) a = learned_of_map k site image o a
-learned k site _ a = k
+learned k site o a =
+    record (learned_own k site o a) { seen = seen_by k.seen site o a; told = told_by k.seen k.told site o a }
 
 -- ---- what a wait teaches
 

@@ -17,13 +17,13 @@ use Rattle.rbd_header.specs.Header.{with_size}
 use Rattle.rbd_layout.specs.Pieces.{pieces_of}
 use Rattle.rbd_layout.specs.declared.types.Piece.{Piece}
 use Rattle.rbd_layout.proofs.Listed.{pieces_listed}
-use Rattle.rbd_machine.specs.Knowledge.{Knowledge, nothing_known}
+use Rattle.rbd_machine.specs.Knowledge.{Knowledge, learned, nothing_known}
 use Rattle.rbd_machine.specs.Label.{Label}
 use Rattle.rbd_machine.specs.Lawful.{CanTell, IsLawful, IsLawfulRequest}
 use Rattle.rbd_machine.specs.Objects.{data_read}
 use Rattle.rbd_machine.specs.Plan.{Plan, without_labels}
 use Rattle.rbd_machine.specs.Steps.{applied}
-use Rattle.rbd_machine.proofs.AtLeast.{jump_lawful}
+use Rattle.rbd_machine.proofs.AtLeast.{jump_lawful, lawful_by_more, learned_at_least}
 use Rattle.rbd_machine.proofs.Lawful.{lawful_change, lawful_not_there, own_is_found, under_lock_known}
 use Rattle.rbd_meaning.specs.Rollbacks.{at_size, rollback_refuses}
 use Rattle.rbd_pieces.specs.Gather.{gather, on_bytes}
@@ -54,7 +54,12 @@ module _ (at : Label → Knowledge) (site : SiteId) (image : ℕ) (snap : ℕ) (
   -- bytes that are read are as many as the piece has
   lawful_restore : (p : Piece) (k : Knowledge) (next : Plan)
       → ((bytes : List ℕ) → length bytes ≤ parts_len p.parts → IsLawful at k (full_piece site image seen p bytes next)) → IsLawful at k (restore site image seen snap p next)
-  lawful_restore p k next lawful = (tt, on)
+  lawful_restore p k next lawful = (
+    tt,
+    λ a can.
+        lawful_by_more at (on_bytes p.parts (λ bytes. gather site image (Some snap) [] bytes (λ read. full_piece site image seen p read next)) a) (learned k site (data_read image (Some snap) p) a) k
+        (learned_at_least k site (data_read image (Some snap) p) a) (on a can),
+  )
     where
       on : (a : Answer) → CanTell (data_read image (Some snap) p) a → IsLawful at k (on_bytes p.parts (λ bytes. gather site image (Some snap) [] bytes (λ read. full_piece site image seen p read next)) a)
       on (answer.Bytes bytes) can = lawful bytes (let long : length bytes ≡ parts_len p.parts = can.form in omega (arith, long))
