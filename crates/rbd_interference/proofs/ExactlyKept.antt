@@ -242,7 +242,7 @@ module _ (site : SiteId) (r : Records) (f : Flat) (k : Knowledge) (you : Instanc
         context_is = subst (IsContextOf h) (ap context_of (own_header condition owns h is) ∙ sym under) (reversed_context h)
 
         raised_is : HasState (maps_of k.maps site image) number → map_state_in (r.maps image None) number ≢ 0
-        raised_is has = (t.mapped free image (ap is_some (own_known k site image condition owns))).raised number has
+        raised_is has = (t.mapped free image (ap is_some (own_known k site image condition owns))).raised None number has
 
         numbered_is : (n : ℕ) (s : SnapView) → snap_in h.snaps n ≡ Some s → n ≤ h.snap_seq
         numbered_is n s at = ((there h is).stands.numbered.snap n s at).1

@@ -29,7 +29,7 @@ abbrev pub IsOwnOf : (new old : Option Own) → Type 0
 IsOwnOf new old = IsSome (header_of_own new) → new ≡ old
 
 pub record AreMapsLess (new old : MapsKnown) : Type 0 where
-  pub raised : (object : ℕ) → is_raised None object new.raised ≡ true → is_raised None object old.raised ≡ true
+  pub raised : (view : Option ℕ) (object : ℕ) → is_raised view object new.raised ≡ true → is_raised view object old.raised ≡ true
   pub states : (states : List ℕ) → new.states ≡ Some states → old.states ≡ Some states
   pub count : (count : ℕ) → new.count ≡ Some count → old.count ≡ Some count
   pub put : (snap : ℕ) → new.put ≡ Some snap → old.put ≡ Some snap
@@ -47,7 +47,7 @@ pub record IsLess (site : SiteId) (new old : Knowledge) : Type 0 where
   pub gone : (image : ℕ) → is_gone new.gone site image ≡ true → is_gone old.gone site image ≡ true
 
 pub same_maps : (m : MapsKnown) → AreMapsLess m m
-same_maps m = record { raised = λ object marked. marked; states = λ states told. told; count = λ count known. known; put = λ snap known. known }
+same_maps m = record { raised = λ view object marked. marked; states = λ states told. told; count = λ count known. known; put = λ snap known. known }
 
 pub as_maps : (new old : MapsKnown) → new ≡ old → AreMapsLess new old
 as_maps new old same = subst (AreMapsLess new) same (same_maps new)
@@ -84,7 +84,7 @@ count_less (Some count) old map less t = subst (λ c. IsCountTrue c map) (less c
 
 maps_less : (alone : Bool) (maps : Maps) (new old : MapsKnown) → AreMapsLess new old → AreMapsTrue alone maps old → AreMapsTrue alone maps new
 maps_less alone maps new old less t = record {
-  raised = λ object marked. t.raised object (less.raised object marked);
+  raised = λ view object marked. t.raised view object (less.raised view object marked);
   states = λ a states told. t.states a states (less.states states told);
   count = λ a. count_less new.count old.count (maps None) less.count (t.count a);
   put = λ a snap is. t.put a snap (less.put snap is);
@@ -109,7 +109,7 @@ module _ (site : SiteId) (new old : Knowledge) (less : IsLess site new old) wher
   some_before image some = ap is_some (known_before image some) ∙ some
 
   pub knew_of : (image object : ℕ) → KnowsOf new site image object → KnowsOf old site image object
-  knew_of image object (inl raised) = inl ((less.maps image).raised object raised)
+  knew_of image object (inl raised) = inl ((less.maps image).raised None object raised)
   knew_of image object (inr gone) = inr (absent_less (objects_known_of new.objects site image) (objects_known_of old.objects site image) (less.objects image) object gone)
 
   was_without : (image : ℕ) → KnowsNoHeader new site image → KnowsNoHeader old site image
@@ -186,7 +186,7 @@ less_then site a b c first then_less = record {
   drawn = λ image drawn. then_less.drawn image (first.drawn image drawn);
   fenced = λ i known. then_less.fenced i (first.fenced i known);
   maps = λ image. record {
-    raised = λ object marked. (then_less.maps image).raised object ((first.maps image).raised object marked);
+    raised = λ view object marked. (then_less.maps image).raised view object ((first.maps image).raised view object marked);
     states = λ states told. (then_less.maps image).states states ((first.maps image).states states told);
     count = λ count known. (then_less.maps image).count count ((first.maps image).count count known);
     put = λ snap known. (then_less.maps image).put snap ((first.maps image).put snap known);
@@ -264,13 +264,13 @@ held_own site there image place k =
     own_held (λ o. IsOwnOf o (own_of k.owns site image)) site there image place k (λ some. absurd (true≢false (sym some))) (λ some. absurd (true≢false (sym some))) (λ some. refl)
 
 bare_maps : (m : MapsKnown) → AreMapsLess (record m { raised = [] }) m
-bare_maps m = record { raised = λ object marked. absurd (true≢false (sym marked)); states = λ states told. told; count = λ count known. known; put = λ snap known. known }
+bare_maps m = record { raised = λ view object marked. absurd (true≢false (sym marked)); states = λ states told. told; count = λ count known. known; put = λ snap known. known }
 
 unmarked_maps : (maps : List ImageMaps) (site : SiteId) (image : ℕ) → AreMapsLess (maps_of (unmarked maps) site image) (maps_of maps site image)
 unmarked_maps maps site image = subst (λ m. AreMapsLess m (maps_of maps site image)) (sym (maps_unmarked maps site image)) (bare_maps (maps_of maps site image))
 
 pub unmapped_less : (m : MapsKnown) → AreMapsLess unmapped m
-unmapped_less m = record { raised = λ object marked. absurd (true≢false (sym marked)); states = λ states told. cc; count = λ count known. cc; put = λ snap known. cc }
+unmapped_less m = record { raised = λ view object marked. absurd (true≢false (sym marked)); states = λ states told. cc; count = λ count known. cc; put = λ snap known. cc }
 
 nothing_marked : (maps : List ImageMaps) (site : SiteId) (image object : ℕ) → is_raised None object (maps_of (unmarked maps) site image).raised ≡ true → ⊥
 nothing_marked maps site image object marked = true≢false (sym marked ∙ ap (λ m. is_raised None object m.raised) (maps_unmarked maps site image))

@@ -187,7 +187,7 @@ module _ (site : SiteId) (r : Records) (f : Flat) (k : Knowledge) (you : Instanc
         subst (IsContextOf h) (ap context_of (same ∙ there.same) ∙ sym at) (reversed_context h)
 
     raised_own : (condition : (alone : Bool) → HeaderView → Type 0) → OwnsBy k site image condition → (number : ℕ) → HasState (maps_of k.maps site image) number → IsRaised (r.maps image None) number
-    raised_own condition owns number raised = raised_map (r.maps image None) number ((t.mapped free image (ap is_some (own_known k site image condition owns))).raised number raised)
+    raised_own condition owns number raised = raised_map (r.maps image None) number ((t.mapped free image (ap is_some (own_known k site image condition owns))).raised None number raised)
 
     -- who removed the header finds none
     never_left : IsLeftOver k site image → (h : HeaderView) → r.headers image ≡ Some h → ⊥

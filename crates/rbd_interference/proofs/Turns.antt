@@ -23,6 +23,7 @@ use Rattle.rbd_machine.specs.Knowledge.{Knowledge, MapsKnown, ObjectsKnown, Own,
 use Rattle.rbd_machine.specs.Permits.{Permits, PermitsOnMap, PermitsOnObject, HasTurn, MaySet, OwnsBy}
 use Rattle.rbd_machine.specs.Wait.{Wait}
 use Rattle.rbd_machine.specs.Wait as wait
+use Rattle.rbd_machine.proofs.AtLeast.{marks_of_others}
 use Rattle.rbd_interference.specs.Truth.{header_of_own, is_alone_on, is_own_alone, known_header}
 use Rattle.rbd_interference.specs.Turns.{KnowsInTurn, KnowsOf}
 use Rattle.rbd_interference.proofs.Less.{IsLess, knew_of, left_own, nothing_afresh, nothing_known_of, place_of, waited_less}
@@ -109,7 +110,7 @@ module _ (k : Knowledge) (was : KnowsInTurn k) (site : SiteId) (image : ℕ) whe
   map_in_turn : (o : MapOp) (a : Answer) → PermitsOnMap k site image o → KnowsInTurn (learned_of_map k site image o a)
   map_in_turn (states.Resize count) answer.Done permits = maps_in_turn _ raised_before
   map_in_turn (states.Get None) (answer.Bits bits) permits = maps_in_turn _ raised_before
-  map_in_turn (states.Put (Some snap) bits) answer.Done permits = maps_in_turn _ raised_before
+  map_in_turn (states.Put (Some snap) bits) answer.Done permits = maps_in_turn _ (λ shared object raised. raised_before shared object (sym (marks_of_others None (Some snap) object (maps_of k.maps site image).raised) ∙ raised))
   map_in_turn (states.Set None object state) answer.Done permits = maps_in_turn _ (set_in_turn object state permits)
   map_in_turn (states.Set (Some snap) object state) a permits = elim permits [ ]
   map_in_turn (states.Remove view) answer.Done permits = maps_in_turn unmapped (λ shared object raised. absurd (true≢false (sym raised)))

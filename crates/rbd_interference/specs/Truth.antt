@@ -88,11 +88,12 @@ abbrev pub IsCountTrue : Option ℕ → (map : Option (List ℕ)) → Type 0
 IsCountTrue None map = Unit {0}
 IsCountTrue (Some count) map = HasAtLeast count map
 
--- What is known of an image's maps is true: an object's state in the head's map that was raised
--- isn't 0. A request that is alone on the image knows the head's states as they are, how long its
--- map is at least, and that a map which it put still has them.
+-- What is known of an image's maps is true: an object's state that was raised, in the map of the
+-- head or of a snapshot, isn't 0. A request that is alone on the image knows the head's states as
+-- they are, how long its map is at least, and that a map which it put still has them.
 pub record AreMapsTrue (alone : Bool) (maps : Maps) (m : MapsKnown) : Type 0 where
-  pub raised : (object : ℕ) → is_raised None object m.raised ≡ true → map_state_in (maps None) object ≢ 0
+  pub raised : (view : Option ℕ) (object : ℕ) → is_raised view object m.raised ≡ true
+      → map_state_in (maps view) object ≢ 0
   pub states : alone ≡ true → (states : List ℕ) → m.states ≡ Some states → AreStatesOf states (maps None)
   pub count : alone ≡ true → IsCountTrue m.count (maps None)
   pub put : alone ≡ true → (snap : ℕ) → m.put ≡ Some snap → IsPutAs (maps (Some snap)) (maps None)

@@ -24,7 +24,7 @@ use Rattle.rbd_kinds.proofs.Images.{same_site_is}
 use Rattle.rbd_map.specs.States.{states_of}
 use Rattle.rbd_machine.specs.Ancestors.{HeaderSeen, IsAmong, ObjectTold, is_dated, seen_by, told_by, told_when}
 use Rattle.rbd_machine.specs.AtLeast.{AreMapsAtLeast, AreObjectsAtLeast, IsToldToo, KnowsAtLeast}
-use Rattle.rbd_machine.specs.Knowledge.{Blank, Fence, ImageMaps, ImagePlace, Knowledge, MapsKnown, Mark, ObjectsKnown, Own, afresh, blanked, first_told, forgotten, header_told, is_absent, is_at, is_drawn, is_fenced_by, is_mark, is_raised, known_after_wait, learned, learned_of_directory, learned_of_header, learned_of_listing, learned_of_map, learned_of_object, learned_own, looked_behind, looked_by, looked_under_lock, maps_of, maps_told, marks_after, objects_known_of, only_there, own_of, owns_when_held, owns_without, removed, removed_header, same_site, states_set, unfenced, unmapped, unmarked, with_maps, with_objects, without_drawn, without_fence}
+use Rattle.rbd_machine.specs.Knowledge.{Blank, Fence, ImageMaps, ImagePlace, Knowledge, MapsKnown, Mark, ObjectsKnown, Own, afresh, blanked, first_told, forgotten, header_told, is_absent, is_at, is_drawn, is_fenced_by, is_mark, is_raised, is_view, known_after_wait, learned, learned_of_directory, learned_of_header, learned_of_listing, learned_of_map, learned_of_object, learned_own, looked_behind, looked_by, looked_under_lock, maps_of, maps_told, marks_after, marks_apart, objects_known_of, only_there, own_of, owns_when_held, owns_without, removed, removed_header, same_site, states_set, unfenced, unmapped, unmarked, with_maps, with_objects, without_drawn, without_fence}
 use Rattle.rbd_machine.specs.Label.{Label, IsFit}
 use Rattle.rbd_machine.specs.Lawful.{IsLawful}
 use Rattle.rbd_machine.specs.Permits.{HasTurn, IsInParts, IsLeftOver, IsMappedFor, IsZeroByChange, IsZeroByState, MayMake, MaySize, MayTakeSnap, OwnsAlone, OwnsBy, Permits, PermitsOnDirectory, PermitsOnHeader, PermitsOnMap, PermitsOnObject}
@@ -161,6 +161,53 @@ marks_more other number state more less l view object = by (state == 0)
         marks_left view other object number more
         ∙ left (is_mark other number (record { view = view; object = object })) (sym (marks_left view other object number less) ∙ is)
     by false is = new (is_mark view object at) is
+
+-- a mark is of one view
+view_of_mark : (view of : Option ℕ) (object : ℕ) (m : Mark) → is_mark view object m ≡ true → is_view m.view of ≡ is_view view of
+view_of_mark None of object m is = by m.view is
+  where
+    by : (v : Option ℕ) → is_mark None object (record { view = v; object = m.object }) ≡ true → is_view v of ≡ is_view None of
+    by None is = refl
+    by (Some t) is = absurd (true≢false (sym is))
+view_of_mark (Some s) of object m is = by m.view is
+  where
+    by : (v : Option ℕ) → is_mark (Some s) object (record { view = v; object = m.object }) ≡ true → is_view v of ≡ is_view (Some s) of
+    by None is = absurd (true≢false (sym is))
+    by (Some t) is = ap (λ n. is_view (Some n) of) (eqb-true t s (and_parts (eqb t s) (eqb m.object object) is).0)
+
+-- the marks that are left once those of one view went
+pub marks_of_others : (view of : Option ℕ) (object : ℕ) (raised : List Mark) → is_raised view object (marks_apart of raised) ≡ cond (is_view view of) false (is_raised view object raised)
+marks_of_others view of object [] = by (is_view view of)
+  where
+    by : (b : Bool) → false ≡ cond b false false
+    by true = refl
+    by false = refl
+marks_of_others view of object (m ∷ raised) = by (is_view m.view of) refl (is_mark view object m) refl (marks_of_others view of object raised)
+  where
+    rest : List Mark
+    rest = marks_apart of raised
+
+    here : Bool
+    here = is_view view of
+
+    by : (a : Bool) → is_view m.view of ≡ a → (b : Bool) → is_mark view object m ≡ b → is_raised view object rest ≡ cond here false (is_raised view object raised)
+        → is_raised view object (cond (not a) (m ∷ rest) rest) ≡ cond here false (cond b true (is_raised view object raised))
+    by true goes true is more =
+        let it : here ≡ true = sym (view_of_mark view of object m is) ∙ goes in
+        more ∙ ap (λ b. cond b false (is_raised view object raised)) it ∙ sym (ap (λ b. cond b false true) it)
+    by true goes false is more = more
+    by false stays true is more =
+        let it : here ≡ false = sym (view_of_mark view of object m is) ∙ stays in
+        ap (λ b. cond b true (is_raised view object rest)) is ∙ sym (ap (λ b. cond b false true) it)
+    by false stays false is more = ap (λ b. cond b true (is_raised view object rest)) is ∙ more
+
+apart_more : (of : Option ℕ) (more less : List Mark) → ((view : Option ℕ) (object : ℕ) → is_raised view object less ≡ true → is_raised view object more ≡ true)
+    → (view : Option ℕ) (object : ℕ) → is_raised view object (marks_apart of less) ≡ true → is_raised view object (marks_apart of more) ≡ true
+apart_more of more less l view object is = marks_of_others view of object more ∙ by (is_view view of) (sym (marks_of_others view of object less) ∙ is)
+  where
+    by : (b : Bool) → cond b false (is_raised view object less) ≡ true → cond b false (is_raised view object more) ≡ true
+    by true is = is
+    by false is = l view object is
 
 -- ---- of objects
 
@@ -460,7 +507,9 @@ module _ (more less : Knowledge) (l : KnowsAtLeast more less) (site : SiteId) wh
   map_more image (states.Resize count) answer.Done =
       with_maps_more image (λ m. record { raised = m.raised; states = None; count = Some count; put = None }) (λ m n at. record { raised = at.raised; states = tt; count = refl; put = tt })
   map_more image (states.Get None) (answer.Bits bits) = with_maps_more image (λ m. record m { states = Some (states_of bits (4 * length bits)) }) (λ m n at. record { raised = at.raised; states = refl; count = at.count; put = at.put })
-  map_more image (states.Put (Some snap) bits) answer.Done = with_maps_more image (λ m. record m { put = Some snap }) (λ m n at. record { raised = at.raised; states = at.states; count = at.count; put = refl })
+  map_more image (states.Put (Some snap) bits) answer.Done =
+      with_maps_more image (λ m. record m { raised = marks_apart (Some snap) m.raised; put = Some snap })
+      (λ m n at. record { raised = apart_more (Some snap) m.raised n.raised at.raised; states = at.states; count = at.count; put = refl })
   map_more image (states.Set view object state) answer.Done =
       with_maps_more image (λ m. record {
         raised = marks_after view object state m.raised;

@@ -224,13 +224,13 @@ without_fence site i k = record k { fenced = unfenced site i k.fenced }
 abbrev pub with_maps : SiteId → (image : ℕ) → (MapsKnown → MapsKnown) → Knowledge → Knowledge
 with_maps site image change k = record k { maps = maps_told site image (change (maps_of k.maps site image)) k.maps }
 
+abbrev pub is_view : (one other : Option ℕ) → Bool
+is_view None None = true
+is_view (Some t) (Some s) = t == s
+is_view _ _ = false
+
 abbrev pub is_mark : Option ℕ → (object : ℕ) → Mark → Bool
-is_mark view object m = same_view m.view view && (m.object == object)
-  where
-    same_view : Option ℕ → Option ℕ → Bool
-    same_view None None = true
-    same_view (Some t) (Some s) = t == s
-    same_view _ _ = false
+is_mark view object m = is_view m.view view && (m.object == object)
 
 abbrev pub is_raised : Option ℕ → (object : ℕ) → List Mark → Bool
 is_raised view object [] = false
@@ -242,19 +242,24 @@ marks_after view object state raised =
     if state == 0 then filter (λ m. not (is_mark view object m)) raised
     else record { view = view; object = object } ∷ raised
 
+-- the marks of other views than one whose map was replaced
+abbrev pub marks_apart : (view : Option ℕ) → List Mark → List Mark
+marks_apart view raised = filter (λ m. not (is_view m.view view)) raised
+
 abbrev pub states_set : Option ℕ → (object state : ℕ) → Option (List ℕ) → Option (List ℕ)
 states_set None object state known = option_map (λ states. slice_set states object state) known
 states_set (Some snap) object state known = known
 
 -- The states of the head are told in bits, four objects a byte. A map that was lengthened has other
--- zeros behind its states, and one whose states changed isn't a snapshot's any more.
+-- zeros behind its states, and one whose states changed isn't a snapshot's any more. A snapshot's
+-- map that was put has none of the states that were set there before.
 abbrev pub learned_of_map : Knowledge → SiteId → (image : ℕ) → MapOp → Answer → Knowledge
 learned_of_map k site image (states.Resize count) answer.Done =
     with_maps site image (λ m. record { raised = m.raised; states = None; count = Some count; put = None }) k
 learned_of_map k site image (states.Get None) (answer.Bits bits) =
     with_maps site image (λ m. record m { states = Some (states_of bits (4 * length bits)) }) k
 learned_of_map k site image (states.Put (Some snap) bits) answer.Done =
-    with_maps site image (λ m. record m { put = Some snap }) k
+    with_maps site image (λ m. record m { raised = marks_apart (Some snap) m.raised; put = Some snap }) k
 learned_of_map k site image (states.Set view object state) answer.Done =
     with_maps site image (λ m. record {
       raised = marks_after view object state m.raised;
