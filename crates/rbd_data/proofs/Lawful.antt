@@ -56,7 +56,7 @@ long_enough (p ∷ parts) from bytes =
 
 module _ (known_at : Label → Knowledge) where
   -- from anything known by which it owns the image
-  lawful_pieces : (pieces : List Piece) (k : Knowledge) (site : SiteId) (image : ℕ) (h : HeaderView) (at : ℕ) (bytes : List ℕ) → OwnsByHeader k site image false h → All (IsPieceOf h) pieces
+  lawful_pieces : (pieces : List Piece) (k : Knowledge) (site : SiteId) (image : ℕ) (h : HeaderView) (at : ℕ) (bytes : List ℕ) → OwnsByHeader k site image sharing.Shared h → All (IsPieceOf h) pieces
       → IsLawful known_at k (write_pieces site image h at bytes pieces (applied site image))
   lawful_pieces [] k site image h at bytes owns below = tt
   lawful_pieces (p ∷ pieces) k site image h at bytes owns below =
@@ -65,9 +65,9 @@ module _ (known_at : Label → Knowledge) where
       let put = bytes_for p.parts at bytes in
       let is = All-head (IsPieceOf h) p pieces below in
       lawful_write known_at turned site image h p put (write_pieces site image h at bytes pieces (applied site image))
-      (may_raise site image h p is false turned owns refl 0 (omega arith))
+      (may_raise site image h p is sharing.Shared turned owns refl 0 (omega arith))
       (record {
-        alone = false;
+        sharing = sharing.Shared;
         header = h;
         is = owns;
         meets = record { under = refl; within = is.parts; long = long_enough p.parts at bytes; at_turn = refl; raised = raised_last turned site image p.object };
@@ -77,7 +77,7 @@ module _ (known_at : Label → Knowledge) where
   lawful_write_request : (site : SiteId) (name : List ℕ) (at : ℕ) (bytes : List ℕ) → IsLawful known_at nothing_known (write site name at bytes)
   lawful_write_request site name at bytes =
       lawful_change known_at site name sharing.Shared (write_refuses (extent_at at bytes)) (put_plan site at bytes) (λ image h form may.
-      lawful_pieces (pieces_of h.layout (extent_at at bytes)) (under_lock_known false None site image h) site image h at bytes (own_is_found false None site image h)
+      lawful_pieces (pieces_of h.layout (extent_at at bytes)) (under_lock_known sharing.Shared None site image h) site image h at bytes (own_is_found sharing.Shared None site image h)
       (pieces_below h (extent_at at bytes) form.layout (within_size (extent_at at bytes) h.size (or_else_none (non_primary h.role) (out_of_range (extent_at at bytes) h.size) may))))
 
   pub lawful_write_plan : (site : SiteId) (c : Command) → IsLawful known_at nothing_known (write_plan site c)

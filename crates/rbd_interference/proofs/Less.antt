@@ -233,7 +233,7 @@ own_left P site there image place owns none was = by (is_at site image there pla
 
 -- who waits at a place has looked at nothing there
 abbrev waiting : Knowledge → SiteId → (place : ℕ) → Own
-waiting k there place = record { site = there; image = place; alone = k.alone; header = None }
+waiting k there place = record { site = there; image = place; sharing = k.sharing; header = None }
 
 pub own_held : (P : Option Own → Type 0) (site there : SiteId) (image place : ℕ) (k : Knowledge) → P (Some (waiting k there place)) → P None → P (own_of k.owns site image)
     → P (own_of (owns_when_held k there place) site image)
@@ -291,7 +291,7 @@ turned site k turn = record {
 }
 
 pub waited_less : (site : SiteId) (k : Knowledge) (w : Wait) → IsLess site (known_after_wait k w) k
-waited_less site k (wait.Join there image alone) = record {
+waited_less site k (wait.Join there image sharing) = record {
   owns = λ image some. refl;
   drawn = λ image drawn. drawn;
   fenced = λ i known. known;
@@ -321,7 +321,7 @@ waited_less site k (wait.Leave there place) = record {
 pub waits_learned : (site : SiteId) (r : Records) (me : Instance) (k : Knowledge) → IsTrueAt site r me k → (w : Wait) → IsTrueAt site r me (known_after_wait k w)
 waits_learned site r me k t w = less_true site (known_after_wait k w) k (waited_less site k w) r me t
 
--- at the first look behind the lock
+-- at the look under the lock
 marked_afresh : (site : SiteId) (k : Knowledge) (image object : ℕ) (b : Bool) → is_raised None object (cond b unmapped (maps_of (unmarked k.maps) site image)).raised ≡ true → ⊥
 marked_afresh site k image object true is = true≢false (sym is)
 marked_afresh site k image object false is = nothing_marked k.maps site image object is

@@ -1,5 +1,5 @@
 -- What is known of object maps stays true under what is permitted to others.
-use Rattle.std.proofs.Common.{◌≡◌, ◌≢◌, inl, inr, ℕ, Bool, true, Some, None, sym, ap, ◌∙◌, subst, true≢false, Option}
+use Rattle.std.proofs.Common.{◌≡◌, ◌≢◌, inl, inr, ℕ, true, Some, None, sym, ap, ◌∙◌, subst, true≢false, Option}
 use Rattle.std.specs.Prelude.{IsFalse, IsSome, is_some}
 use Rattle.rbd_kinds.specs.declared.header.HeaderView.{HeaderView}
 use Rattle.rbd_kinds.specs.declared.id.Instance.{Instance}
@@ -8,6 +8,9 @@ use Rattle.rbd_kinds.specs.declared.map_op.MapOp.{MapOp}
 use Rattle.rbd_kinds.specs.declared.map_op.MapOp.TheVariants as states
 use Rattle.rbd_kinds.specs.declared.operation.Op.{Op}
 use Rattle.rbd_kinds.specs.declared.operation.Op.TheVariants as op
+use Rattle.rbd_kinds.specs.declared.sharing.Sharing.{Sharing}
+use Rattle.rbd_kinds.specs.declared.sharing.Sharing.TheVariants.{Alone}
+use Rattle.rbd_kinds.specs.Sharing.{is_alone}
 use Rattle.rbd_machine.specs.Knowledge.{Knowledge, is_drawn, is_gone, maps_of, objects_known_of, is_raised}
 use Rattle.rbd_machine.specs.Permits.{Permits, PermitsOnMap, IsLeftOver, MayLengthen, MaySet, OwnsBy}
 use Rattle.rbd_site.specs.Records.{Records}
@@ -29,15 +32,15 @@ module _ (site : SiteId) (r : Records) (k j : Knowledge) (me you : Instance) (t 
 
   module _ (free : IsFalse (is_fenced r me)) (served : IsFalse (is_fenced r you)) (image : ℕ) where
     -- where another owns it too, neither is alone
-    pub both_shared : (condition : (alone : Bool) → HeaderView → Type 0) → OwnsBy j site image condition → IsSome (known_header k site image) → GoBesideOthers site image k j
+    pub both_shared : (condition : Sharing → HeaderView → Type 0) → OwnsBy j site image condition → IsSome (known_header k site image) → GoBesideOthers site image k j
     both_shared condition owns known = beside.shared (free, served) image known (ap is_some (own_known j site image condition owns))
 
-    never_alone : (condition : HeaderView → Type 0) → OwnsBy j site image (λ alone h. (alone ≡ true) × condition h) → IsSome (known_header k site image) → ⊥
+    never_alone : (condition : HeaderView → Type 0) → OwnsBy j site image (λ sharing h. (sharing ≡ Alone) × condition h) → IsSome (known_header k site image) → ⊥
     never_alone condition owns known =
-        true≢false (sym owns.meets.0 ∙ sym (ap is_own_alone owns.is) ∙ (both_shared (λ alone h. (alone ≡ true) × condition h) owns known).other)
+        true≢false (sym (ap is_alone owns.meets.0) ∙ sym (ap is_own_alone owns.is) ∙ (both_shared (λ sharing h. (sharing ≡ Alone) × condition h) owns known).other)
 
     -- What another may change is none of what is known.
-    pub known_apart : (condition : (alone : Bool) → HeaderView → Type 0) → OwnsBy j site image condition → (object : ℕ) → LeavesObject site image object r you me j k
+    pub known_apart : (condition : Sharing → HeaderView → Type 0) → OwnsBy j site image condition → (object : ℕ) → LeavesObject site image object r you me j k
         → IsSome (known_header k site image) → (n : ℕ) → KnowsOf k site image n → n ≢ object
     known_apart condition owns object may known n knows same =
         may (served, free) (ap is_some (own_known j site image condition owns)) known (subst (KnowsOf k site image) same knows)
@@ -102,7 +105,7 @@ module _ (site : SiteId) (r : Records) (k j : Knowledge) (me you : Instance) (t 
     no_header (inl drawn) = (t.drawn image drawn).header
     no_header (inr gone) = (t.gone image gone).header
 
-    never_owned : (condition : (alone : Bool) → HeaderView → Type 0) → OwnsBy j site image condition → KnowsNoHeader k site image → ⊥
+    never_owned : (condition : Sharing → HeaderView → Type 0) → OwnsBy j site image condition → KnowsNoHeader k site image → ⊥
     never_owned condition owns without = not_waiting site r you j image condition u served owns (no_header without)
 
     -- the other didn't draw the id, nor remove the header

@@ -18,6 +18,8 @@ use Rattle.rbd_kinds.specs.declared.map_op.MapOp.{MapOp}
 use Rattle.rbd_kinds.specs.declared.map_op.MapOp.TheVariants as states
 use Rattle.rbd_kinds.specs.declared.operation.Op.{Op}
 use Rattle.rbd_kinds.specs.declared.operation.Op.TheVariants as op
+use Rattle.rbd_kinds.specs.declared.sharing.Sharing.TheVariants.{Alone}
+use Rattle.rbd_kinds.specs.Sharing.{is_alone}
 use Rattle.rbd_header.specs.Header.{with_size, with_snap, without_snap}
 use Rattle.rbd_machine.specs.Ancestors.{seen_by, told_by}
 use Rattle.rbd_machine.specs.Knowledge.{Fence, ImageMaps, ImageObjects, Knowledge, Own, afresh, first_told, header_told, is_at, is_drawn, is_gone, learned, learned_of_directory, learned_of_header, learned_of_listing, learned_of_map, learned_of_object, learned_own, owns_without, looked_behind, looked_by, looked_under_lock, maps_told, only_there, own_of, known_after_wait, removed_header, same_site, unfenced, with_drawn, without_drawn}
@@ -188,7 +190,7 @@ module _ (site : SiteId) (r : Records) (me you : Instance) (k j : Knowledge) (be
       by None is = beside
       by (Some h) is = gone_beside u image h is
 
--- a look at the header: the first behind the lock, or one more
+-- a look at the header: the one under the lock, or one more
 looked_beside : (site : SiteId) (r : Records) (me you : Instance) (k j : Knowledge) → AreBeside site r me you k j → (image : ℕ) (h : HeaderView) → SharesLock site image r me you k j
     → AreBeside site r me you (header_told site image (first_told h) (looked_behind site image k)) j
 looked_beside site r me you k j beside image h may = by (own_of k.owns site image) refl
@@ -306,8 +308,8 @@ alone_knows site r me you k j image condition free beside owns = by (known_heade
     by : (there : Option HeaderView) → known_header j site image ≡ there → there ≡ None
     by None is = refl
     by (Some h) is =
-        absurd (true≢false (sym owns.meets.0 ∙ sym (ap is_own_alone owns.is)
-        ∙ (beside.shared free image (ap is_some (own_known k site image (λ alone h. (alone ≡ true) × condition h) owns)) (ap is_some is)).one))
+        absurd (true≢false (sym (ap is_alone owns.meets.0) ∙ sym (ap is_own_alone owns.is)
+        ∙ (beside.shared free image (ap is_some (own_known k site image (λ sharing h. (sharing ≡ Alone) × condition h) owns)) (ap is_some is)).one))
 
 -- ---- each beside the other
 

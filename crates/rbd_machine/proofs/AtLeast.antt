@@ -19,6 +19,9 @@ use Rattle.rbd_kinds.specs.declared.map_op.MapOp.{MapOp}
 use Rattle.rbd_kinds.specs.declared.map_op.MapOp.TheVariants as states
 use Rattle.rbd_kinds.specs.declared.operation.Op.{Op}
 use Rattle.rbd_kinds.specs.declared.operation.Op.TheVariants as op
+use Rattle.rbd_kinds.specs.declared.sharing.Sharing.{Sharing}
+use Rattle.rbd_kinds.specs.declared.sharing.Sharing.TheVariants.{Alone}
+use Rattle.rbd_kinds.specs.Sharing.{is_alone}
 use Rattle.rbd_kinds.specs.Striping.{object_of}
 use Rattle.rbd_kinds.proofs.Images.{same_site_is}
 use Rattle.rbd_map.specs.States.{states_of}
@@ -384,7 +387,7 @@ drawn_cons s t image i more less l false is = l is
 
 pub knows_itself : (k : Knowledge) → KnowsAtLeast k k
 knows_itself k = record {
-  alone = refl;
+  sharing = refl;
   owns = refl;
   turn = refl;
   fenced = refl;
@@ -401,7 +404,7 @@ knows_as k other same = subst (KnowsAtLeast k) same (knows_itself k)
 
 pub knows_onward : (a b c : Knowledge) → KnowsAtLeast a b → KnowsAtLeast b c → KnowsAtLeast a c
 knows_onward a b c first then_less = record {
-  alone = first.alone ∙ then_less.alone;
+  sharing = first.sharing ∙ then_less.sharing;
   owns = first.owns ∙ then_less.owns;
   turn = first.turn ∙ then_less.turn;
   fenced = first.fenced ∙ then_less.fenced;
@@ -471,7 +474,7 @@ lists_told more_seen less_seen seen more less l site _ _ = l
 telling : (more less : Knowledge) → KnowsAtLeast more less → (a b : List HeaderSeen) → ((s : HeaderSeen) → IsAmong s b → IsAmong s a) → (c d : List ObjectTold) → ((t : ObjectTold) → IsAmong t d → IsAmong t c)
     → KnowsAtLeast (record more { seen = a; told = c }) (record less { seen = b; told = d })
 telling more less l a b seen c d told = record {
-  alone = l.alone;
+  sharing = l.sharing;
   owns = l.owns;
   turn = l.turn;
   fenced = l.fenced;
@@ -489,7 +492,7 @@ module _ (more less : Knowledge) (l : KnowsAtLeast more less) (site : SiteId) wh
   with_maps_more : (image : ℕ) (change : MapsKnown → MapsKnown) → ((m n : MapsKnown) → AreMapsAtLeast m n → AreMapsAtLeast (change m) (change n))
       → KnowsAtLeast (with_maps site image change more) (with_maps site image change less)
   with_maps_more image change goes = record {
-    alone = l.alone;
+    sharing = l.sharing;
     owns = l.owns;
     turn = l.turn;
     fenced = l.fenced;
@@ -528,7 +531,7 @@ module _ (more less : Knowledge) (l : KnowsAtLeast more less) (site : SiteId) wh
   with_objects_more : (image : ℕ) (change : ObjectsKnown → ObjectsKnown) → ((o p : ObjectsKnown) → AreObjectsAtLeast o p → AreObjectsAtLeast (change o) (change p))
       → KnowsAtLeast (with_objects site image change more) (with_objects site image change less)
   with_objects_more image change goes = record {
-    alone = l.alone;
+    sharing = l.sharing;
     owns = l.owns;
     turn = l.turn;
     fenced = l.fenced;
@@ -559,7 +562,7 @@ module _ (more less : Knowledge) (l : KnowsAtLeast more less) (site : SiteId) wh
 
   directory_more : (o : DirectoryOp) (a : Answer) → KnowsAtLeast (learned_of_directory more site o a) (learned_of_directory less site o a)
   directory_more (directory.Add name) (answer.Id image) = record {
-    alone = l.alone;
+    sharing = l.sharing;
     owns = l.owns;
     turn = l.turn;
     fenced = l.fenced;
@@ -574,7 +577,7 @@ module _ (more less : Knowledge) (l : KnowsAtLeast more less) (site : SiteId) wh
 
   listing_more : (i : Instance) (a : Answer) → KnowsAtLeast (learned_of_listing more site i a) (learned_of_listing less site i a)
   listing_more i answer.Done = record {
-    alone = l.alone;
+    sharing = l.sharing;
     owns = l.owns;
     turn = l.turn;
     fenced = ap (λ (fenced : List Fence). record { site = site; instance = i } ∷ fenced) l.fenced;
@@ -590,7 +593,7 @@ module _ (more less : Knowledge) (l : KnowsAtLeast more less) (site : SiteId) wh
   -- a fence that was used
   unfenced_more : (owner : Instance) → KnowsAtLeast (without_fence site owner more) (without_fence site owner less)
   unfenced_more owner = record {
-    alone = l.alone;
+    sharing = l.sharing;
     owns = l.owns;
     turn = l.turn;
     fenced = ap (unfenced site owner) l.fenced;
@@ -604,7 +607,7 @@ module _ (more less : Knowledge) (l : KnowsAtLeast more less) (site : SiteId) wh
 
   told_more : (image : ℕ) (change : Option HeaderView → Option HeaderView) → KnowsAtLeast (header_told site image change more) (header_told site image change less)
   told_more image change = record {
-    alone = l.alone;
+    sharing = l.sharing;
     owns = ap (λ owns. map_told owns) l.owns;
     turn = l.turn;
     fenced = l.fenced;
@@ -621,7 +624,7 @@ module _ (more less : Knowledge) (l : KnowsAtLeast more less) (site : SiteId) wh
 
   made_more : (image : ℕ) → KnowsAtLeast (without_drawn site image more) (without_drawn site image less)
   made_more image = record {
-    alone = l.alone;
+    sharing = l.sharing;
     owns = l.owns;
     turn = l.turn;
     fenced = l.fenced;
@@ -635,7 +638,7 @@ module _ (more less : Knowledge) (l : KnowsAtLeast more less) (site : SiteId) wh
 
   removed_header_more : (image : ℕ) → KnowsAtLeast (removed_header site image more) (removed_header site image less)
   removed_header_more image = record {
-    alone = l.alone;
+    sharing = l.sharing;
     owns = ap (owns_without site image) l.owns;
     turn = l.turn;
     fenced = l.fenced;
@@ -649,7 +652,7 @@ module _ (more less : Knowledge) (l : KnowsAtLeast more less) (site : SiteId) wh
 
   afresh_more : (image : ℕ) → KnowsAtLeast (afresh site image more) (afresh site image less)
   afresh_more image = record {
-    alone = l.alone;
+    sharing = l.sharing;
     owns = l.owns;
     turn = refl;
     fenced = l.fenced;
@@ -705,12 +708,12 @@ module _ (more less : Knowledge) (l : KnowsAtLeast more less) (site : SiteId) wh
 module _ (more less : Knowledge) (l : KnowsAtLeast more less) where
   held_more : (site : SiteId) (image : ℕ) → owns_when_held more site image ≡ owns_when_held less site image
   held_more site image =
-      ap (λ alone. record { site = site; image = image; alone = alone; header = None } ∷ owns_without site image more.owns) l.alone
-      ∙ ap (λ owns. record { site = site; image = image; alone = less.alone; header = None } ∷ owns_without site image owns) l.owns
+      ap (λ sharing. record { site = site; image = image; sharing = sharing; header = None } ∷ owns_without site image more.owns) l.sharing
+      ∙ ap (λ owns. record { site = site; image = image; sharing = less.sharing; header = None } ∷ owns_without site image owns) l.owns
 
   turned_more : (turn : Option ℕ) → KnowsAtLeast (record more { turn = turn; maps = unmarked more.maps; objects = [] }) (record less { turn = turn; maps = unmarked less.maps; objects = [] })
   turned_more turn = record {
-    alone = l.alone;
+    sharing = l.sharing;
     owns = l.owns;
     turn = refl;
     fenced = l.fenced;
@@ -724,7 +727,7 @@ module _ (more less : Knowledge) (l : KnowsAtLeast more less) where
 
   pub waited_more : (w : Wait) → KnowsAtLeast (known_after_wait more w) (known_after_wait less w)
   waited_more (wait.Join site image sharing) = record {
-    alone = refl;
+    sharing = refl;
     owns = l.owns;
     turn = l.turn;
     fenced = l.fenced;
@@ -736,7 +739,7 @@ module _ (more less : Knowledge) (l : KnowsAtLeast more less) where
     told = l.told;
   }
   waited_more (wait.Hold site image) = record {
-    alone = l.alone;
+    sharing = l.sharing;
     owns = held_more site image;
     turn = l.turn;
     fenced = l.fenced;
@@ -750,7 +753,7 @@ module _ (more less : Knowledge) (l : KnowsAtLeast more less) where
   waited_more (wait.Turn object) = turned_more (Some object)
   waited_more (wait.Applied site image) = turned_more None
   waited_more (wait.Leave site image) = record {
-    alone = l.alone;
+    sharing = l.sharing;
     owns = ap (owns_without site image) l.owns;
     turn = l.turn;
     fenced = l.fenced;
@@ -765,17 +768,17 @@ module _ (more less : Knowledge) (l : KnowsAtLeast more less) where
 -- ---- what it may do
 
 module _ (more less : Knowledge) (l : KnowsAtLeast more less) (site : SiteId) where
-  owns_more : (image : ℕ) (needs has : (alone : Bool) → HeaderView → Type 0) → ((alone : Bool) (h : HeaderView) → has alone h → needs alone h) → OwnsBy less site image has → OwnsBy more site image needs
+  owns_more : (image : ℕ) (needs has : Sharing → HeaderView → Type 0) → ((sharing : Sharing) (h : HeaderView) → has sharing h → needs sharing h) → OwnsBy less site image has → OwnsBy more site image needs
   owns_more image needs has goes owns = record {
-    alone = owns.alone;
+    sharing = owns.sharing;
     header = owns.header;
     is = ap (λ owns. own_of owns site image) l.owns ∙ owns.is;
-    meets = goes owns.alone owns.header owns.meets;
+    meets = goes owns.sharing owns.header owns.meets;
   }
 
   alone_more : (image : ℕ) (needs has : HeaderView → Type 0) → ((h : HeaderView) → has h → needs h) → OwnsAlone less site image has → OwnsAlone more site image needs
   alone_more image needs has goes owns =
-      owns_more image (λ alone h. (alone ≡ true) × needs h) (λ alone h. (alone ≡ true) × has h) (λ alone h may. (may.0, goes h may.1)) owns
+      owns_more image (λ sharing h. (sharing ≡ Alone) × needs h) (λ sharing h. (sharing ≡ Alone) × has h) (λ sharing h may. (may.0, goes h may.1)) owns
 
   turn_more : (alone : Bool) (number : ℕ) → HasTurn alone less.turn number → HasTurn alone more.turn number
   turn_more alone number has = subst (λ turn. HasTurn alone turn number) (sym l.turn) has
@@ -852,35 +855,35 @@ module _ (more less : Knowledge) (l : KnowsAtLeast more less) (site : SiteId) wh
   may_on_object : (image number : ℕ) (o : DataOp) → PermitsOnObject less site image number o → PermitsOnObject more site image number o
   may_on_object image number (object.Read snap parts) may = tt
   may_on_object image number (object.Write context must parts bytes) may =
-      owns_more image _ _ (λ alone h has. record {
+      owns_more image _ _ (λ sharing h has. record {
         under = has.under;
         within = has.within;
         long = has.long;
-        at_turn = turn_more alone number has.at_turn;
+        at_turn = turn_more (is_alone sharing) number has.at_turn;
         raised = raised_more image number has.raised;
       }) may
   may_on_object image number (object.Zero context must parts) may =
-      owns_more image _ _ (λ alone h has. record { under = has.under; within = has.within; at_turn = turn_more alone number has.at_turn }) may
+      owns_more image _ _ (λ sharing h has. record { under = has.under; within = has.within; at_turn = turn_more (is_alone sharing) number has.at_turn }) may
   may_on_object image number (object.Empty context) may =
-      owns_more image _ _ (λ alone h has. record {
+      owns_more image _ _ (λ sharing h has. record {
         under = has.under;
         within = has.within;
-        at_turn = turn_more alone number has.at_turn;
+        at_turn = turn_more (is_alone sharing) number has.at_turn;
         raised = raised_more image number has.raised;
       }) may
   may_on_object image number (object.Remove context) (inl over) = inl (left_more image over)
   may_on_object image number (object.Remove context) (inr may) =
-      inr (owns_more image _ _ (λ alone h has. record {
+      inr (owns_more image _ _ (λ sharing h has. record {
         under = has.under;
         within = has.within;
-        at_turn = turn_more alone number has.at_turn;
+        at_turn = turn_more (is_alone sharing) number has.at_turn;
         outside = has.outside;
       }) may)
   may_on_object image number (object.WriteFull context bytes) may =
-      owns_more image _ _ (λ alone h has. record {
+      owns_more image _ _ (λ sharing h has. record {
         under = has.under;
         within = has.within;
-        at_turn = turn_more alone number has.at_turn;
+        at_turn = turn_more (is_alone sharing) number has.at_turn;
         raised = raised_more image number has.raised;
         long = has.long;
         clear = has.clear;
@@ -898,9 +901,9 @@ module _ (more less : Knowledge) (l : KnowsAtLeast more less) (site : SiteId) wh
         hold = has.hold;
       }) may
   may_on_map image (states.Set None object state) may =
-      owns_more image _ _ (λ alone h has. record {
+      owns_more image _ _ (λ sharing h has. record {
         within = has.within;
-        at_turn = turn_more alone object has.at_turn;
+        at_turn = turn_more (is_alone sharing) object has.at_turn;
         is_state = has.is_state;
         lowers = λ zero. (l.objects site image).absent object (has.lowers zero);
       }) may

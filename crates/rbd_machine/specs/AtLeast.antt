@@ -29,7 +29,7 @@ pub record AreObjectsAtLeast (more less : ObjectsKnown) : Type 0 where
 -- The one knows all that the other knows. Of headers that it relies on, of its turn and of its
 -- fences it knows just the same: these it uses up.
 pub record KnowsAtLeast (more less : Knowledge) : Type 0 where
-  pub alone : more.alone ≡ less.alone
+  pub sharing : more.sharing ≡ less.sharing
   pub owns : more.owns ≡ less.owns
   pub turn : more.turn ≡ less.turn
   pub fenced : more.fenced ≡ less.fenced

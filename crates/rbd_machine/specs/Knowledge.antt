@@ -1,7 +1,6 @@
 -- What a request knows: what its operations were answered, and what it waited for. It names no
 -- site's state.
 use Rattle.std.specs.Prelude.{ℕ, ◌*◌, ◌==◌, ◌&&◌, Bool, true, false, not, if◌then◌else◌, List, [], ◌∷◌, length, map, filter, slice_set, Option, Some, None, option_map}
-use Rattle.rbd_kinds.specs.Sharing.{is_alone}
 use Rattle.rbd_kinds.specs.declared.answer.Answer.{Answer}
 use Rattle.rbd_kinds.specs.declared.answer.Answer.TheVariants as answer
 use Rattle.rbd_kinds.specs.declared.data_op.DataOp.{DataOp}
@@ -17,6 +16,8 @@ use Rattle.rbd_kinds.specs.declared.map_op.MapOp.{MapOp}
 use Rattle.rbd_kinds.specs.declared.map_op.MapOp.TheVariants as states
 use Rattle.rbd_kinds.specs.declared.operation.Op.{Op}
 use Rattle.rbd_kinds.specs.declared.operation.Op.TheVariants as op
+use Rattle.rbd_kinds.specs.declared.sharing.Sharing.{Sharing}
+use Rattle.rbd_kinds.specs.declared.sharing.Sharing.TheVariants.{Shared}
 pub use Rattle.rbd_kinds.specs.Images.{is_at, same_site}
 use Rattle.rbd_kinds.specs.declared.layout.Part.{Part}
 use Rattle.rbd_kinds.specs.Instances.{same_instance}
@@ -31,12 +32,12 @@ pub record ImagePlace : Type 0 where
   pub site : SiteId
   pub image : ℕ
 
--- An image whose lock the request waited for, whether the request is alone on it, and its header:
--- what the first look behind told, with the request's own changes since.
+-- An image whose lock the request waited for, beside which others the request goes on it, and its
+-- header: what the look under it told, with the request's own changes since.
 pub record Own : Type 0 where
   pub site : SiteId
   pub image : ℕ
-  pub alone : Bool
+  pub sharing : Sharing
   pub header : Option HeaderView
 
 -- An object at a view, the head (None) or a snapshot, whose state isn't 0: this request set it.
@@ -81,8 +82,8 @@ pub record Fence : Type 0 where
   pub instance : Instance
 
 pub record Knowledge : Type 0 where
-  -- whether the request joined its line alone
-  pub alone : Bool
+  -- beside which others the request goes on the image whose line it joined
+  pub sharing : Sharing
   pub owns : List Own
   -- the object at which the request has its turn
   pub turn : Option ℕ
@@ -104,7 +105,7 @@ pub record Knowledge : Type 0 where
 abbrev pub nothing_known : Knowledge
 nothing_known =
     record {
-      alone = false;
+      sharing = Shared;
       owns = [];
       turn = None;
       drawn = [];
@@ -171,7 +172,7 @@ unmark m = record m { known = record m.known { raised = [] } }
 abbrev pub unmarked : List ImageMaps → List ImageMaps
 unmarked = map unmark
 
--- At its first look behind the lock the request forgets what it was told of the image's maps
+-- At its look under the lock the request forgets what it was told of the image's maps
 -- before, what it knew of objects by its own changes, and what it waited for.
 abbrev pub afresh : SiteId → (image : ℕ) → Knowledge → Knowledge
 afresh site image k = record k { turn = None; maps = maps_told site image unmapped (unmarked k.maps); objects = [] }
@@ -187,7 +188,7 @@ looked_under_lock (Some o) site image k = looked_by o.header site image k
 abbrev pub looked_behind : SiteId → (image : ℕ) → Knowledge → Knowledge
 looked_behind site image k = looked_under_lock (own_of k.owns site image) site image k
 
--- The first look behind the lock tells the header. Later ones tell nothing new.
+-- The look under the lock tells the header. Later ones tell nothing new.
 abbrev pub first_told : HeaderView → Option HeaderView → Option HeaderView
 first_told h None = Some h
 first_told h (Some own) = Some own
@@ -363,14 +364,14 @@ learned k site o a =
 
 -- A request forgets, when it has the lock, what it knew of the image before.
 abbrev pub owns_when_held : Knowledge → SiteId → (image : ℕ) → List Own
-owns_when_held k site image = record { site = site; image = image; alone = k.alone; header = None }
+owns_when_held k site image = record { site = site; image = image; sharing = k.sharing; header = None }
     ∷ owns_without site image k.owns
 
 -- What is known once the request may go on. A turn lasts up to the next one, or up to the end of
 -- the request's event. What the request knows of an object by its own changes lasts as long, since
 -- another request may lower a state, or change the object, in its own turn.
 abbrev pub known_after_wait : Knowledge → Wait → Knowledge
-known_after_wait k (wait.Join site image sharing) = record k { alone = is_alone sharing }
+known_after_wait k (wait.Join site image sharing) = record k { sharing = sharing }
 known_after_wait k (wait.Hold site image) = record k { owns = owns_when_held k site image; objects = [] }
 known_after_wait k (wait.Turn object) = record k { turn = Some object; maps = unmarked k.maps; objects = [] }
 known_after_wait k (wait.Applied site image) = record k { turn = None; maps = unmarked k.maps; objects = [] }
