@@ -568,11 +568,14 @@ told_of_fence seen told site (op.Data image number (object.Read None parts)) = r
 told_of_fence seen told site (op.Data image number o) = refl
 told_of_fence seen told site o = refl
 
+abbrev with_told : List HeaderSeen → List ObjectTold → Knowledge → Knowledge
+with_told seen told k = record k { seen = seen; told = told }
+
 pub learned_of_fence : (k : Knowledge) (site : SiteId) (o : Op) → learned k site o answer.Fenced ≡ k
 learned_of_fence k site o =
-    ap (λ j. record j { seen = seen_by k.seen site o answer.Fenced; told = told_by k.seen k.told site o answer.Fenced }) (own_of_fence k site o)
-    ∙ ap (λ seen. record k { seen = seen; told = told_by k.seen k.told site o answer.Fenced }) (seen_of_fence k.seen site o)
-    ∙ ap (λ told. record k { told = told }) (told_of_fence k.seen k.told site o)
+    ap (with_told (seen_by k.seen site o answer.Fenced) (told_by k.seen k.told site o answer.Fenced)) (own_of_fence k site o)
+    ∙ ap (λ seen. with_told seen (told_by k.seen k.told site o answer.Fenced) k) (seen_of_fence k.seen site o)
+    ∙ ap (λ told. with_told k.seen told k) (told_of_fence k.seen k.told site o)
 
 own_taught : (site : SiteId) (r : Records) (f : Flat) (k : Knowledge) (me : Instance) (o : Op) (most : ℕ) → StandsFor [] r f → AreInForm r most → AreMapped r → IsTrueAt site r me k → Permits k site o
     → IsTrueAt site (after r me o) me (learned_own k site o (answer_to r me o))

@@ -105,7 +105,7 @@ module _ (site : SiteId) (r : Records) (me : Instance) (k : Knowledge) (most : �
       (λ without. long)
     where
       longer : (view : Option ℕ) (n : ℕ) → map_state_in (r.maps image view) n ≢ 0 → map_state_in (maps_behind (r.maps image) (states.Resize count) view) n ≢ 0
-      longer None n raised zeroed = raised (sym (lengthened_state (r.maps image None) count n) ∙ zeroed)
+      longer None n raised = λ zeroed. raised (sym (lengthened_state (r.maps image None) count n) ∙ zeroed)
       longer (Some t) n raised = raised
 
       long : HasAtLeast count (Some (lengthened count (unwrap_or (r.maps image None) [])))
@@ -192,15 +192,15 @@ module _ (site : SiteId) (r : Records) (me : Instance) (k : Knowledge) (most : �
       by (inl drawn) = not_waiting site r me k image _ t free owns (t.drawn image drawn).header
       by (inr gone) = not_waiting site r me k image _ t free owns (t.gone image gone).header
 
-      at : (view : Option ℕ) → AreMapsTrue (is_alone_on k site image) (r.maps image) known_of_it → (n : ℕ) → is_raised view n (marks_after None object state known_of_it.raised) ≡ true
-          → map_state_in (with_view (r.maps image) None (Some (set there object state)) view) n ≢ 0
-      at None was n e = raised was n (was_marked object state n known_of_it.raised e)
-      at (Some snap) was n e = was.raised (Some snap) n (marked_apart object state snap n known_of_it.raised e)
-
       raised : AreMapsTrue (is_alone_on k site image) (r.maps image) known_of_it → (n : ℕ) → IsMarked object state n known_of_it.raised → get_or (set there object state) n 0 ≢ 0
       raised was n (IsNew same raises) = λ zeroed. raised_now there object state within raises (ap (λ i. get_or (set there object state) i 0) same ∙ zeroed)
       raised was n (WasThere before (inl raises)) = raised_still there object state n within raises (λ zeroed. was.raised None n before (ap (λ map. map_state_in map n) is ∙ zeroed))
       raised was n (WasThere before (inr other)) = set_elsewhere (Some there) object state n other (λ zeroed. was.raised None n before (ap (λ map. map_state_in map n) is ∙ zeroed))
+
+      at : (view : Option ℕ) → AreMapsTrue (is_alone_on k site image) (r.maps image) known_of_it → (n : ℕ) → is_raised view n (marks_after None object state known_of_it.raised) ≡ true
+          → map_state_in (with_view (r.maps image) None (Some (set there object state)) view) n ≢ 0
+      at None was n e = raised was n (was_marked object state n known_of_it.raised e)
+      at (Some snap) was n e = was.raised (Some snap) n (marked_apart object state snap n known_of_it.raised e)
 
       changed : AreMapsTrue (is_alone_on k site image) (r.maps image) known_of_it → is_alone_on k site image ≡ true → (known : Option (List ℕ)) → known_of_it.states ≡ known
           → (told : List ℕ) → option_map (λ s. set s object state) known ≡ Some told → AreStatesOf told (Some (set there object state))
