@@ -43,7 +43,7 @@ use Rattle.rbd_catalog.specs.OrderlyParts.{orderly_full, orderly_gather, orderly
 -- its course behind its note
 abbrev past_note : SiteId → (image : ℕ) → Course
 past_note site image = record {
-  place = Some (place_at true site image stage.Past);
+  place = Some (place_at sharing.Alone site image stage.Past);
   turn = None;
   due = [];
   objects = [];
@@ -63,7 +63,8 @@ module _ (site : SiteId) (snap : List ℕ) (image : ℕ) (h : HeaderView) where
   orderly_on_gone answer.Absent = (at_itself site image, tt)
   orderly_on_gone a = orderly_not_there None begins_in_no_line (past_note site image) a
 
-  orderly_take : IsOrderly None begins_in_no_line true (own_course None true site image h) (take site snap image h)
+  orderly_take : IsOrderly None begins_in_no_line true (own_course None sharing.Alone site image h)
+      (take site snap image h)
   orderly_take = (
     at_itself site image,
     (
@@ -79,7 +80,8 @@ module _ (site : SiteId) (snap : List ℕ) (image : ℕ) (h : HeaderView) where
   )
 
   orderly_remove_listed : (listed : Option SnapView)
-      → IsOrderly None begins_in_no_line true (own_course None true site image h) (remove_listed site snap image listed)
+      → IsOrderly None begins_in_no_line true (own_course None sharing.Alone site image h)
+      (remove_listed site snap image listed)
   orderly_remove_listed None = tt
   orderly_remove_listed (Some listed) = (
     at_itself site image,
@@ -102,7 +104,7 @@ orderly_snap site _ = tt
 -- ---- resize
 
 orderly_set_size : (site : SiteId) (to image : ℕ) (h : HeaderView)
-    → IsOrderly None begins_in_no_line true (own_course None true site image h) (set_size site to image h)
+    → IsOrderly None begins_in_no_line true (own_course None sharing.Alone site image h) (set_size site to image h)
 orderly_set_size site to image h = (
   at_itself site image,
   orderly_resize None (past_note site image) refl site image h to (applied site image) (at_itself site image, tt)
@@ -129,7 +131,7 @@ module _ (site : SiteId) (image : ℕ) where
       (λ bytes. orderly_full None (past_note site image) refl site image h p bytes later (orderly_pieces pieces h snap))
 
   orderly_listed : (snap : List ℕ) (h : HeaderView) (listed : Option SnapView)
-      → IsOrderly None begins_in_no_line true (own_course None true site image h)
+      → IsOrderly None begins_in_no_line true (own_course None sharing.Alone site image h)
       (roll_back_listed site snap image h listed)
   orderly_listed snap h None = tt
   orderly_listed snap h (Some listed) =
@@ -191,33 +193,33 @@ module _ (c : Course) (none : c.due ≡ []) (site : SiteId) where
 
 module _ (site : SiteId) (session image : ℕ) where
   -- a look before the lock is nobody's own
-  first_told : (h : HeaderView) → answered None (course_at true site image stage.Joined) site
-      (op.Header image header.Get) (answer.Header h) ≡ course_at true site image stage.Joined
-  first_told h = ap (λ b. cond (b && false) (course_past_look None h (course_at true site image stage.Joined))
-      (course_at true site image stage.Joined)) (at_itself site image)
+  first_told : (h : HeaderView) → answered None (course_at sharing.Alone site image stage.Joined) site
+      (op.Header image header.Get) (answer.Header h) ≡ course_at sharing.Alone site image stage.Joined
+  first_told h = ap (λ b. cond (b && false) (course_past_look None h (course_at sharing.Alone site image stage.Joined))
+      (course_at sharing.Alone site image stage.Joined)) (at_itself site image)
 
-  own_told : (h : HeaderView) → answered None (course_at true site image stage.Waiting) site
-      (op.Header image header.Get) (answer.Header h) ≡ own_course None true site image h
-  own_told h = ap (λ b. cond (b && true) (course_past_look None h (course_at true site image stage.Waiting))
-      (course_at true site image stage.Waiting)) (at_itself site image)
+  own_told : (h : HeaderView) → answered None (course_at sharing.Alone site image stage.Waiting) site
+      (op.Header image header.Get) (answer.Header h) ≡ own_course None sharing.Alone site image h
+  own_told h = ap (λ b. cond (b && true) (course_past_look None h (course_at sharing.Alone site image stage.Waiting))
+      (course_at sharing.Alone site image stage.Waiting)) (at_itself site image)
 
-  orderly_holding : IsOrderly None begins_in_no_line true (course_at true site image stage.Joined)
+  orderly_holding : IsOrderly None begins_in_no_line true (course_at sharing.Alone site image stage.Joined)
       (holding_it site session image)
   orderly_holding = (
     (at_itself site image, refl),
     (
       refl,
       orderly_on_header None begins_in_no_line image
-          (answered None (course_at true site image stage.Waiting) site (op.Header image header.Get))
+          (answered None (course_at sharing.Alone site image stage.Waiting) site (op.Header image header.Get))
           (owned image_removal_refuses (remove_owned site session) image)
           (λ own form.
           subst (λ c. IsOrderly None begins_in_no_line true c
           (owned image_removal_refuses (remove_owned site session) image own)) (sym (own_told own))
-          (orderly_unless None begins_in_no_line (own_course None true site image own) (image_removal_refuses own)
-          (remove_owned site session image own) (λ may.
-          orderly_unwatched (own_course None true site image own) refl site session image
+          (orderly_unless None begins_in_no_line (own_course None sharing.Alone site image own)
+          (image_removal_refuses own) (remove_owned site session image own) (λ may.
+          orderly_unwatched (own_course None sharing.Alone site image own) refl site session image
           (of_remove.removal_plan site image own (Return reply.Done))
-          (orderly_removal (own_course None true site image own) refl site image own)))),
+          (orderly_removal (own_course None sharing.Alone site image own) refl site image own)))),
     ),
   )
 
@@ -227,12 +229,12 @@ module _ (site : SiteId) (session image : ℕ) where
     (
       refl,
       orderly_on_header None begins_in_no_line image
-          (answered None (course_at true site image stage.Joined) site (op.Header image header.Get))
+          (answered None (course_at sharing.Alone site image stage.Joined) site (op.Header image header.Get))
           (looked_at_it site session image) (λ h form.
           subst (λ c. IsOrderly None begins_in_no_line true c (looked_at_it site session image h)) (sym (first_told h))
-          (orderly_unless None begins_in_no_line (course_at true site image stage.Joined) (image_removal_refuses h)
-          (unless_watched site session image (holding_it site session image)) (λ may_wait.
-          orderly_unwatched (course_at true site image stage.Joined) refl site session image
+          (orderly_unless None begins_in_no_line (course_at sharing.Alone site image stage.Joined)
+          (image_removal_refuses h) (unless_watched site session image (holding_it site session image)) (λ may_wait.
+          orderly_unwatched (course_at sharing.Alone site image stage.Joined) refl site session image
           (holding_it site session image) orderly_holding))),
     ),
   )

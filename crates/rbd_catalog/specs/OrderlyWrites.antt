@@ -77,11 +77,11 @@ orderly_pieces e (piece ∷ pieces) site image h from bytes fresh p turn objects
 orderly_put : (site : SiteId) (from : ℕ) (bytes : List ℕ) (image : ℕ) (h : HeaderView)
     → write_refuses (extent_at from bytes) h ≡ None
     → IsOrderly (Some (extent_at from bytes)) begins_in_no_line true
-    (own_course (Some (extent_at from bytes)) false site image h) (put_plan site from bytes image h)
+    (own_course (Some (extent_at from bytes)) sharing.Shared site image h) (put_plan site from bytes image h)
 orderly_put site from bytes image h may = (
   at_itself site image,
   orderly_pieces (Some (extent_at from bytes)) (pieces_of h.layout (extent_at from bytes)) site image h from bytes true
-      (place_at false site image stage.Past) None
+      (place_at sharing.Shared site image stage.Past) None
       (objects_within h (extent_at from bytes)) (at_itself site image) (objects_are (extent_at from bytes) h may),
 )
 
@@ -125,6 +125,7 @@ orderly_discard site name e =
     orderly_change (Some e) begins_in_no_line site name sharing.Discard (write_refuses e) (zero site e)
     (λ image h form may. (
       at_itself site image,
-      orderly_zeros (Some e) (pieces_of h.layout e) site image h true (place_at false site image stage.Past) None
-          (objects_within h e) (at_itself site image) (objects_are e h may),
+      orderly_zeros (Some e) (pieces_of h.layout e) site image h true
+          (place_at sharing.Discard site image stage.Past) None (objects_within h e)
+          (at_itself site image) (objects_are e h may),
     ))

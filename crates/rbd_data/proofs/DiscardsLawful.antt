@@ -1,5 +1,5 @@
 -- The plan does what it may.
-use Rattle.std.proofs.Common.{ℕ, List, [], ◌∷◌, All, false, None, refl}
+use Rattle.std.proofs.Common.{ℕ, List, [], ◌∷◌, All, None, refl}
 use Rattle.std.proofs.lemmas.List.Elements.{All-head, All-tail}
 use Rattle.rbd_commands.specs.declared.command.Command.{Command}
 use Rattle.rbd_commands.specs.declared.command.Command.TheVariants as command
@@ -29,20 +29,20 @@ use Rattle.rbd_data.specs.Discard.{discard, discard_plan, zero, zero_in_turns}
 
 module _ (known_at : Label → Knowledge) where
   -- from anything known by which it owns the image
-  lawful_pieces : (pieces : List Piece) (k : Knowledge) (site : SiteId) (image : ℕ) (h : HeaderView) → OwnsByHeader k site image false h → All (IsPieceOf h) pieces
+  lawful_pieces : (pieces : List Piece) (k : Knowledge) (site : SiteId) (image : ℕ) (h : HeaderView) → OwnsByHeader k site image sharing.Discard h → All (IsPieceOf h) pieces
       → IsLawful known_at k (zero_in_turns site image h pieces (applied site image))
   lawful_pieces [] k site image h owns below = tt
   lawful_pieces (p ∷ pieces) k site image h owns below =
       let turned = known_after_wait k (wait.Turn p.object) in
-      lawful_zero known_at turned site image h p (zero_in_turns site image h pieces (applied site image)) (record { alone = false; owns = owns; turn = refl })
+      lawful_zero known_at turned site image h p (zero_in_turns site image h pieces (applied site image)) (record { sharing = sharing.Discard; owns = owns; turn = refl })
       (All-head (IsPieceOf h) p pieces below)
-      (lawful_pieces pieces (known_behind turned (zeroed_steps site image h p)) site image h (zero_owns site image h h false p turned owns)
+      (lawful_pieces pieces (known_behind turned (zeroed_steps site image h p)) site image h (zero_owns site image h h sharing.Discard p turned owns)
       (All-tail (IsPieceOf h) p pieces below))
 
   lawful_discard : (site : SiteId) (name : List ℕ) (e : Extent) → IsLawful known_at nothing_known (discard site name e)
   lawful_discard site name e =
       lawful_change known_at site name sharing.Discard (write_refuses e) (zero site e) (λ image h form may.
-      lawful_pieces (pieces_of h.layout e) (under_lock_known false None site image h) site image h (own_is_found false None site image h)
+      lawful_pieces (pieces_of h.layout e) (under_lock_known sharing.Discard None site image h) site image h (own_is_found sharing.Discard None site image h)
       (pieces_below h e form.layout (within_size e h.size (or_else_none (non_primary h.role) (out_of_range e h.size) may))))
 
   lawful_plan : (site : SiteId) (c : Command) → IsLawful known_at nothing_known (discard_plan site c)

@@ -23,7 +23,7 @@ use Rattle.rbd_parts.specs.Parts.{bytes_for, parts_of, shifted}
 use Rattle.rbd_parts.proofs.ContentsLemmas.{length-window}
 use Rattle.rbd_header.specs.Header.{context_of, view_of}
 use Rattle.rbd_header.specs.declared.view.View.{View}
-use Rattle.rbd_machine.specs.Knowledge.{Knowledge, nothing_known, learned, known_after_wait}
+use Rattle.rbd_machine.specs.Knowledge.{Knowledge, nothing_known, learned, learned_own, known_after_wait}
 use Rattle.rbd_machine.specs.Label.{Label}
 use Rattle.rbd_machine.specs.Label as label
 use Rattle.rbd_machine.specs.Lawful.{IsLawful, IsLawfulRequest}
@@ -31,8 +31,8 @@ use Rattle.rbd_machine.specs.Objects.{data_write, map_exists}
 use Rattle.rbd_machine.specs.Plan.{Return, Goto, Standing}
 use Rattle.rbd_machine.specs.Steps.{applied, non_primary}
 use Rattle.rbd_machine.specs.Wait as wait
-use Rattle.rbd_machine.proofs.AtLeast.{jump_lawful}
-use Rattle.rbd_machine.proofs.Lawful.{under_lock_known, own_is_found, or_else_none, lawful_not_there, lawful_on_id, lawful_on_header, lawful_unless, lawful_change}
+use Rattle.rbd_machine.proofs.AtLeast.{jump_lawful, lawful_by_more, learned_at_least}
+use Rattle.rbd_machine.proofs.Lawful.{under_lock_known, own_is_found, or_else_none, lawful_not_there, lawful_look, lawful_on_id, lawful_unless, lawful_change}
 use Rattle.rbd_meaning.specs.Range.{extent_at, out_of_range}
 use Rattle.rbd_meaning.specs.Writes.{write_refuses}
 use Rattle.rbd_pieces.proofs.Lawful.{lawful_write, lawful_gather}
@@ -56,7 +56,7 @@ long_enough (p ∷ parts) from bytes =
 
 module _ (known_at : Label → Knowledge) where
   -- from anything known by which it owns the image
-  lawful_pieces : (pieces : List Piece) (k : Knowledge) (site : SiteId) (image : ℕ) (h : HeaderView) (at : ℕ) (bytes : List ℕ) → OwnsByHeader k site image false h → All (IsPieceOf h) pieces
+  lawful_pieces : (pieces : List Piece) (k : Knowledge) (site : SiteId) (image : ℕ) (h : HeaderView) (at : ℕ) (bytes : List ℕ) → OwnsByHeader k site image sharing.Shared h → All (IsPieceOf h) pieces
       → IsLawful known_at k (write_pieces site image h at bytes pieces (applied site image))
   lawful_pieces [] k site image h at bytes owns below = tt
   lawful_pieces (p ∷ pieces) k site image h at bytes owns below =
@@ -65,9 +65,9 @@ module _ (known_at : Label → Knowledge) where
       let put = bytes_for p.parts at bytes in
       let is = All-head (IsPieceOf h) p pieces below in
       lawful_write known_at turned site image h p put (write_pieces site image h at bytes pieces (applied site image))
-      (may_raise site image h p is false turned owns refl 0 (omega arith))
+      (may_raise site image h p is sharing.Shared turned owns refl 0 (omega arith))
       (record {
-        alone = false;
+        sharing = sharing.Shared;
         header = h;
         is = owns;
         meets = record { under = refl; within = is.parts; long = long_enough p.parts at bytes; at_turn = refl; raised = raised_last turned site image p.object };
@@ -77,7 +77,7 @@ module _ (known_at : Label → Knowledge) where
   lawful_write_request : (site : SiteId) (name : List ℕ) (at : ℕ) (bytes : List ℕ) → IsLawful known_at nothing_known (write site name at bytes)
   lawful_write_request site name at bytes =
       lawful_change known_at site name sharing.Shared (write_refuses (extent_at at bytes)) (put_plan site at bytes) (λ image h form may.
-      lawful_pieces (pieces_of h.layout (extent_at at bytes)) (under_lock_known false None site image h) site image h at bytes (own_is_found false None site image h)
+      lawful_pieces (pieces_of h.layout (extent_at at bytes)) (under_lock_known sharing.Shared None site image h) site image h at bytes (own_is_found sharing.Shared None site image h)
       (pieces_below h (extent_at at bytes) form.layout (within_size (extent_at at bytes) h.size (or_else_none (non_primary h.role) (out_of_range (extent_at at bytes) h.size) may))))
 
   pub lawful_write_plan : (site : SiteId) (c : Command) → IsLawful known_at nothing_known (write_plan site c)
@@ -90,28 +90,32 @@ module _ (known_at : Label → Knowledge) where
 abbrev pub nothing_at : Label → Knowledge
 nothing_at label = nothing_known
 
-lawful_closing : (site : SiteId) (image : ℕ) (seen : Seen) (read : List ℕ) (a : Answer) → IsLawful nothing_at (learned nothing_known site (op.Header image header.Get) a) (on_closing seen read a)
+lawful_closing : (site : SiteId) (image : ℕ) (seen : Seen) (read : List ℕ) (a : Answer) → IsLawful nothing_at (learned_own nothing_known site (op.Header image header.Get) a) (on_closing seen read a)
 lawful_closing site image seen read (answer.Header h) = go (eqb h.generation seen.generation)
   where
     go : (b : Bool) → IsLawful nothing_at nothing_known (cond b (Return (reply.Bytes (shown_bytes seen read))) (Goto label.Begin))
     go true = tt
     go false = jump_lawful nothing_at label.Begin tt
 lawful_closing site image seen read answer.Absent = jump_lawful nothing_at label.Begin tt
-lawful_closing site image seen read a = lawful_not_there nothing_at (learned nothing_known site (op.Header image header.Get) a) a
+lawful_closing site image seen read a = lawful_not_there nothing_at (learned_own nothing_known site (op.Header image header.Get) a) a
 
 lawful_viewing : (site : SiteId) (image : ℕ) (h : HeaderView) (e : Extent) (view : Option View) → IsLawful nothing_at nothing_known (viewing site image h e view)
 lawful_viewing site image h e None = tt
 lawful_viewing site image h e (Some view) =
     lawful_unless nothing_at nothing_known (out_of_range e view.size) (gathering site image h e view) (λ fits.
-    lawful_gather nothing_at nothing_known (pieces_of h.layout e) site image view.snap [] (closing site image (seen_at h e)) (λ read.
-    (tt, λ a can. lawful_closing site image (seen_at h e) read a)))
+    lawful_gather nothing_at nothing_known (pieces_of h.layout e) site image view.snap [] (closing site image (seen_at h e)) (λ read. (
+      tt,
+      λ a can.
+          lawful_by_more nothing_at (on_closing (seen_at h e) read a) (learned nothing_known site (op.Header image header.Get) a) (learned_own nothing_known site (op.Header image header.Get) a)
+          (learned_at_least nothing_known site (op.Header image header.Get) a) (lawful_closing site image (seen_at h e) read a),
+    )))
 
 pub lawful_pass : (site : SiteId) (name : List ℕ) (snap : Option (List ℕ)) (e : Extent) → IsLawful nothing_at nothing_known (pass site name snap e)
 lawful_pass site name snap e = (
   tt,
   λ found can. lawful_on_id nothing_at (learned nothing_known site (op.Directory (directory.Find name))) (looking site snap e) (λ image. (
     tt,
-    lawful_on_header nothing_at site image (learned nothing_known site (op.Header image header.Get)) (read_by_header site snap e image) (λ h form standalone.
+    lawful_look nothing_at site image nothing_known (read_by_header site snap e image) (λ h form standalone.
         lawful_viewing site image h e (view_of h snap)),
   )) found,
 )

@@ -26,7 +26,7 @@ use Rattle.rbd_machine.specs.Lawful.{CanTell, IsLawful, IsLawfulRequest}
 use Rattle.rbd_machine.specs.Plan.{Plan, Return, without_labels}
 use Rattle.rbd_machine.specs.Steps.{on_bits}
 use Rattle.rbd_machine.proofs.AtLeast.{jump_lawful}
-use Rattle.rbd_machine.proofs.Lawful.{lawful_not_there, lawful_on_id, lawful_on_header, lawful_on_done, told_first}
+use Rattle.rbd_machine.proofs.Lawful.{lawful_not_there, lawful_look, lawful_on_id, lawful_on_done, told_first}
 use Rattle.rbd_meaning.specs.Count.{object_count}
 use Rattle.rbd_meaning.specs.Listings.{shown_snaps, used_among}
 use Rattle.rbd_pieces.proofs.Resized.{few_objects}
@@ -115,7 +115,7 @@ module _ (at : Label → Knowledge) where
   lawful_show_header site name shown = (
     tt,
     λ found can. lawful_on_id at (learned nothing_known site (op.Directory (directory.Find name))) (showing site shown) (λ image.
-        (tt, lawful_on_header at site image (learned nothing_known site (op.Header image header.Get)) (λ h. Return (shown h)) (λ h form standalone. tt))) found,
+        (tt, lawful_look at site image nothing_known (λ h. Return (shown h)) (λ h form standalone. tt))) found,
   )
 
   -- ---- du, rename
@@ -134,8 +134,8 @@ module _ (at : Label → Knowledge) where
     tt,
     λ found can. lawful_on_id at (learned nothing_known site (op.Directory (directory.Find name))) (measuring site) (λ image. (
       tt,
-      lawful_on_header at site image (learned nothing_known site (op.Header image header.Get)) (λ h. counting site image (object_count h.layout h.size)) (λ h form standalone.
-          lawful_counting site image (learned nothing_known site (op.Header image header.Get) (answer.Header h)) (object_count h.layout h.size)),
+      lawful_look at site image nothing_known (λ h. counting site image (object_count h.layout h.size)) (λ h form standalone.
+          lawful_counting site image nothing_known (object_count h.layout h.size)),
     )) found,
   )
 

@@ -17,7 +17,7 @@ use Rattle.rbd_kinds.specs.declared.operation.Op.{Op}
 use Rattle.rbd_kinds.specs.declared.operation.Op.TheVariants as op
 use Rattle.rbd_kinds.specs.declared.reply.Reply.TheVariants as reply
 use Rattle.rbd_kinds.proofs.Images.{at_itself}
-use Rattle.rbd_machine.specs.Knowledge.{Knowledge, MapsKnown, first_told, header_told, learned, looked_under_lock, maps_of, nothing_known, own_of, known_after_wait}
+use Rattle.rbd_machine.specs.Knowledge.{Knowledge, MapsKnown, first_told, header_told, learned, learned_own, looked_under_lock, maps_of, nothing_known, own_of, known_after_wait}
 use Rattle.rbd_machine.specs.Label.{Label}
 use Rattle.rbd_machine.specs.Lawful.{IsLawful}
 use Rattle.rbd_machine.specs.Permits.{IsLeftOver, Permits}
@@ -26,7 +26,7 @@ use Rattle.rbd_machine.specs.Standalone.{IsStandalone}
 use Rattle.rbd_machine.specs.Steps.{on_bits, owned, own}
 use Rattle.rbd_machine.specs.Wait as wait
 use Rattle.rbd_machine.proofs.Gone.{gone_is_known, map_is_there}
-use Rattle.rbd_machine.proofs.Lawful.{holding_known, lawful_not_there, lawful_on_header, lawful_on_id, lawful_unless, left_here, own_at, unlooked}
+use Rattle.rbd_machine.proofs.Lawful.{holding_known, lawful_look, lawful_not_there, lawful_on_id, lawful_unless, left_here, own_at, unlooked}
 use Rattle.rbd_meaning.specs.Removals.{first_link, image_removal_refuses, link_of, may_be_gone, parent_in, removal, removing_journal, removing_map_of, removing_object, unlinking, used_objects, watchers_refuse}
 use Rattle.rbd_meaning.proofs.Allowed.{no_snapshots_listed}
 use Rattle.rbd_image.specs.Remove.{holding_it, joining_its_line, looked_at_it, on_gone, on_watchers, removal_plan, remove_each, remove_image, remove_owned, remove_plan, unless_watched}
@@ -92,15 +92,15 @@ module _ (at : Label → Knowledge) (site : SiteId) (image : ℕ) (next : Plan) 
       mapped = subst (λ (m : MapsKnown). IsSome m.count) (sym (map_is_there k site image)) refl;
     }
 
-    lawful_header : (k : Knowledge) → own_of k.owns site image ≡ Some (own_at true site image h) → IsLawful at k (remove_each site (op.Header image header.Remove ∷ contents) next)
+    lawful_header : (k : Knowledge) → own_of k.owns site image ≡ Some (own_at sharing.Alone site image h) → IsLawful at k (remove_each site (op.Header image header.Remove ∷ contents) next)
     lawful_header k owns =
-        lawful_gone (op.Header image header.Remove) k (remove_each site contents next) (record { alone = true; header = h; is = owns; meets = (refl, none) })
+        lawful_gone (op.Header image header.Remove) k (remove_each site contents next) (record { sharing = sharing.Alone; header = h; is = owns; meets = (refl, none) })
         (lawful_objects h.snaps (used_objects bits) (learned k site (op.Header image header.Remove) answer.Done) (is_bare k)) (λ gone. cc)
 
-    lawful_all : (k : Knowledge) → own_of k.owns site image ≡ Some (own_at true site image h) → IsLawful at k (remove_each site (op.Directory (directory.Remove image) ∷ op.Header image header.Remove ∷ contents) next)
+    lawful_all : (k : Knowledge) → own_of k.owns site image ≡ Some (own_at sharing.Alone site image h) → IsLawful at k (remove_each site (op.Directory (directory.Remove image) ∷ op.Header image header.Remove ∷ contents) next)
     lawful_all k owns =
         lawful_gone (op.Directory (directory.Remove image)) k (remove_each site (op.Header image header.Remove ∷ contents) next)
-        (record { alone = true; header = h; is = owns; meets = (refl, tt) }) (lawful_header k owns) (λ gone. lawful_header k owns)
+        (record { sharing = sharing.Alone; header = h; is = owns; meets = (refl, tt) }) (lawful_header k owns) (λ gone. lawful_header k owns)
 
     -- an image without a parent and a journal has nothing else
     nothing_else : link_of h ≡ None → h.journal ≡ false → op.Directory (directory.Remove image) ∷ op.Header image header.Remove ∷ contents ≡ removal image h bits
@@ -110,7 +110,7 @@ module _ (at : Label → Knowledge) (site : SiteId) (image : ℕ) (next : Plan) 
         ∙ ap (λ has. op.Directory (directory.Remove image) ∷ op.Header image header.Remove ∷ (map (removing_object image) (used_objects bits)
         ++ (op.Map image (states.Remove None) ∷ (map (removing_map_of image) h.snaps ++ removing_journal image has)))) quiet)
 
-  pub lawful_remove : (k : Knowledge) (h : HeaderView) → own_of k.owns site image ≡ Some (own_at true site image h) → h.snaps ≡ [] → link_of h ≡ None → h.journal ≡ false → IsLawful at k (removal_plan site image h next)
+  pub lawful_remove : (k : Knowledge) (h : HeaderView) → own_of k.owns site image ≡ Some (own_at sharing.Alone site image h) → h.snaps ≡ [] → link_of h ≡ None → h.journal ≡ false → IsLawful at k (removal_plan site image h next)
   lawful_remove k h owns none unlinked quiet = (tt, λ a can. on a)
     where
       on : (a : Answer) → IsLawful at (learned k site (op.Map image (states.Get None)) a) (on_bits (λ bits. remove_each site (removal image h bits) next) a)
@@ -131,19 +131,19 @@ module _ (at : Label → Knowledge) (site : SiteId) (session image : ℕ) where
 
   -- what is known behind its look under the lock
   abbrev looked : HeaderView → Knowledge
-  looked h = learned (holding_known true site image) site (op.Header image header.Get) (answer.Header h)
+  looked h = learned_own (holding_known sharing.Alone site image) site (op.Header image header.Get) (answer.Header h)
 
-  looked_owns : (h : HeaderView) → own_of (looked h).owns site image ≡ Some (own_at true site image h)
+  looked_owns : (h : HeaderView) → own_of (looked h).owns site image ≡ Some (own_at sharing.Alone site image h)
   looked_owns h =
-      ap (λ b. own_of (header_told site image (first_told h) (looked_under_lock (cond b (Some (unlooked true site image)) None) site image (holding_known true site image))).owns site image) (at_itself site image)
-      ∙ ap (λ b. own_of (cond b (own_at true site image h) (unlooked true site image) ∷ []) site image) (at_itself site image)
-      ∙ ap (λ b. cond b (Some (own_at true site image h)) None) (at_itself site image)
+      ap (λ b. own_of (header_told site image (first_told h) (looked_under_lock (cond b (Some (unlooked sharing.Alone site image)) None) site image (holding_known sharing.Alone site image))).owns site image) (at_itself site image)
+      ∙ ap (λ b. own_of (cond b (own_at sharing.Alone site image h) (unlooked sharing.Alone site image) ∷ []) site image) (at_itself site image)
+      ∙ ap (λ b. cond b (Some (own_at sharing.Alone site image h)) None) (at_itself site image)
 
-  module _ (acts : (k : Knowledge) (h : HeaderView) → own_of k.owns site image ≡ Some (own_at true site image h) → IsStandalone h → image_removal_refuses h ≡ None → IsLawful at k (removal_plan site image h (Return reply.Done))) where
-    lawful_holding : IsLawful at (record nothing_known { alone = true }) (holding_it site session image)
+  module _ (acts : (k : Knowledge) (h : HeaderView) → own_of k.owns site image ≡ Some (own_at sharing.Alone site image h) → IsStandalone h → image_removal_refuses h ≡ None → IsLawful at k (removal_plan site image h (Return reply.Done))) where
+    lawful_holding : IsLawful at (record nothing_known { sharing = sharing.Alone }) (holding_it site session image)
     lawful_holding = (
       tt,
-      lawful_on_header at site image (learned (holding_known true site image) site (op.Header image header.Get)) (owned image_removal_refuses (remove_owned site session) image) (λ h form standalone.
+      lawful_look at site image (holding_known sharing.Alone site image) (owned image_removal_refuses (remove_owned site session) image) (λ h form standalone.
           lawful_unless at (looked h) (image_removal_refuses h) (remove_owned site session image h) (λ may.
           lawful_unwatched (looked h) (removal_plan site image h (Return reply.Done)) (acts (looked h) h (looked_owns h) standalone may))),
     )
@@ -151,9 +151,9 @@ module _ (at : Label → Knowledge) (site : SiteId) (session image : ℕ) where
     lawful_joining : IsLawful at nothing_known (joining_its_line site session image)
     lawful_joining = (
       tt,
-      lawful_on_header at site image (learned (known_after_wait nothing_known (wait.Join site image sharing.Alone)) site (op.Header image header.Get)) (looked_at_it site session image) (λ h form standalone.
-          lawful_unless at (record nothing_known { alone = true }) (image_removal_refuses h) (unless_watched site session image (holding_it site session image)) (λ may.
-          lawful_unwatched (record nothing_known { alone = true }) (holding_it site session image) lawful_holding)),
+      lawful_look at site image (known_after_wait nothing_known (wait.Join site image sharing.Alone)) (looked_at_it site session image) (λ h form standalone.
+          lawful_unless at (record nothing_known { sharing = sharing.Alone }) (image_removal_refuses h) (unless_watched site session image (holding_it site session image)) (λ may.
+          lawful_unwatched (record nothing_known { sharing = sharing.Alone }) (holding_it site session image) lawful_holding)),
     )
 
 no_link : (h : HeaderView) → h.snaps ≡ [] → h.parent ≡ None → link_of h ≡ None

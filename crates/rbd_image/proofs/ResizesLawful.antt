@@ -1,5 +1,5 @@
 -- The plans do what they may.
-use Rattle.std.proofs.Common.{◌≡◌, ℕ, true, None}
+use Rattle.std.proofs.Common.{◌≡◌, ℕ, None}
 use Rattle.rbd_commands.specs.declared.command.Command.{Command}
 use Rattle.rbd_commands.specs.declared.command.Command.TheVariants as command
 use Rattle.rbd_kinds.specs.declared.sharing.Sharing.TheVariants as sharing
@@ -20,9 +20,9 @@ use Rattle.rbd_image.specs.Resize.{resize_plan, set_size}
 use Rattle.rbd_meaning.proofs.Counts.{counts, size_is_few}
 
 module _ (at : Label → Knowledge) (site : SiteId) where
-  lawful_set_size : (to image : ℕ) (h : HeaderView) → IsHeaderInForm h → resize_refuses to h ≡ None → IsLawful at (under_lock_known true None site image h) (set_size site to image h)
+  lawful_set_size : (to image : ℕ) (h : HeaderView) → IsHeaderInForm h → resize_refuses to h ≡ None → IsLawful at (under_lock_known sharing.Alone None site image h) (set_size site to image h)
   lawful_set_size to image h form may =
-      lawful_resize site image h to at (under_lock_known true None site image h) (object_count h.layout to) (applied site image) form.layout (own_is_found true None site image h)
+      lawful_resize site image h to at (under_lock_known sharing.Alone None site image h) (object_count h.layout to) (applied site image) form.layout (own_is_found sharing.Alone None site image h)
       (size_is_few to h form.layout may) (counts h.layout to form.layout) (λ steps are. tt)
 
   lawful_resize_plan : (c : Command) → IsLawful at nothing_known (resize_plan site c)

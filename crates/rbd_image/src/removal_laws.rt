@@ -1,6 +1,6 @@
 //! What removals do, by how many operations, and what their replies mean: laws, each the contract
 //! of a function that does nothing.
-ghost use Rattle.std.specs.Prelude.{◌≡◌, ◌≢◌, ℕ, ◌+◌, ◌≤◌, ◌↔◌, true, false, List, [], length, Contains, Some, None};
+ghost use Rattle.std.specs.Prelude.{◌≡◌, ◌≢◌, ℕ, ◌+◌, ◌≤◌, ◌↔◌, false, List, [], length, Contains, Some, None};
 ghost use Rattle.std.specs.List.Sorted.{IsStrictlyIncreasing};
 ghost use Rattle.rbd_commands.specs.declared.command.Command.{Command};
 ghost use Rattle.rbd_kinds.specs.declared.header.HeaderView.{HeaderView};
@@ -9,6 +9,7 @@ ghost use Rattle.rbd_kinds.specs.declared.machine.Fed.{Fed};
 ghost use Rattle.rbd_kinds.specs.declared.operation.Op.{Op};
 ghost use Rattle.rbd_kinds.specs.declared.reply.Reply.{Reply};
 ghost use Rattle.rbd_kinds.specs.declared.reply.Reply.TheVariants.{Done};
+ghost use Rattle.rbd_kinds.specs.declared.sharing.Sharing.TheVariants.{Alone};
 ghost use Rattle.rbd_kinds.specs.States.{state_at};
 ghost use Rattle.rbd_machine.specs.Knowledge.{Knowledge, nothing_known, own_of};
 ghost use Rattle.rbd_machine.specs.Label.{Label};
@@ -44,7 +45,7 @@ pub fn removals_are_bounded()
 /// no header that it is told has a parent or a journal.
 pub fn removals_are_lawful()
     ensures part { (at : Label → Knowledge) (k : Knowledge) (site : SiteId) (image : ℕ) (h : HeaderView) (next : Plan)
-        → own_of k.owns site image ≡ Some (record { site = site; image = image; alone = true; header = Some h })
+        → own_of k.owns site image ≡ Some (record { site = site; image = image; sharing = Alone; header = Some h })
         → h.snaps ≡ [] → link_of h ≡ None → h.journal ≡ false
         → ((k : Knowledge) → IsLawful at k next) → IsLawful at k (removal_plan site image h next) }
     ensures request { (at : Label → Knowledge) (site : SiteId) (session : ℕ) (command : Command)

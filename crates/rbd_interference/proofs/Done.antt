@@ -22,6 +22,8 @@ use Rattle.rbd_kinds.specs.declared.map_op.MapOp.{MapOp}
 use Rattle.rbd_kinds.specs.declared.map_op.MapOp.TheVariants as states
 use Rattle.rbd_kinds.specs.declared.operation.Op.{Op}
 use Rattle.rbd_kinds.specs.declared.operation.Op.TheVariants as op
+use Rattle.rbd_kinds.specs.declared.sharing.Sharing.{Sharing}
+use Rattle.rbd_kinds.specs.Sharing.{is_alone}
 use Rattle.rbd_kinds.specs.Form.{HasFewObjects}
 use Rattle.rbd_kinds.specs.Parts.{parts_len}
 use Rattle.rbd_kinds.specs.Striping.{IsLayout}
@@ -100,7 +102,7 @@ fence_found o = refl
 -- of an instance that isn't fenced
 module _ (site : SiteId) (r : Records) (me : Instance) (k : Knowledge) (most : ℕ) (form : AreInForm r most) (t : IsTrueAt site r me k) (free : IsFalse (is_fenced r me)) where
   -- the layout that it knows is one
-  laid : (image : ℕ) (condition : (alone : Bool) → HeaderView → Type 0) (owns : OwnsBy k site image condition) → IsLayout owns.header.layout
+  laid : (image : ℕ) (condition : Sharing → HeaderView → Type 0) (owns : OwnsBy k site image condition) → IsLayout owns.header.layout
   laid image condition owns =
       let there = owned_there site r me k image condition t free owns in
       same_layout owns.header there.view there.same (form.form image there.view there.is).layout
@@ -123,7 +125,7 @@ module _ (site : SiteId) (r : Records) (me : Instance) (k : Knowledge) (most : �
   may_put : (image snap : ℕ) (bits : List ℕ) → OwnsAlone k site image (MayPut (maps_of k.maps site image) snap bits) → AreBits bits
   may_put image snap bits owns =
       let known = own_known k site image _ owns in
-      let are = (t.mapped free image (ap is_some known)).states (ap is_own_alone owns.is ∙ owns.meets.0) (states_of bits (4 * length bits)) owns.meets.1.told in
+      let are = (t.mapped free image (ap is_some known)).states (ap is_own_alone owns.is ∙ ap is_alone owns.meets.0) (states_of bits (4 * length bits)) owns.meets.1.told in
       record { states = owns.meets.1.hold; long = subst (λ n. n ≤ 2 ^ 20) (length-states_of bits (4 * length bits)) are.few }
 
   may_set : (image object state : ℕ) → OwnsBy k site image (MaySet (objects_known_of k.objects site image) k.turn object state) → (map : Option (List ℕ)) → r.maps image None ≡ map → MaySetState map object state
@@ -331,7 +333,7 @@ module _ (site : SiteId) (r : Records) (me : Instance) (k : Knowledge) (most : �
   -- ---- and misses no map
 
   -- of an image that it owns the header is there, and the head's map
-  finds_header : (image : ℕ) (o : HeaderOp) (condition : (alone : Bool) → HeaderView → Type 0) → OwnsBy k site image condition
+  finds_header : (image : ℕ) (o : HeaderOp) (condition : Sharing → HeaderView → Type 0) → OwnsBy k site image condition
       → ((h : HeaderView) → finds_image (op.Header image o) (header_answer me (Some h) (r.watchers image) o) ≡ true) → finds_image (op.Header image o) (header_answer me (r.headers image) (r.watchers image) o) ≡ true
   finds_header image o condition owns by =
       let there = owned_there site r me k image condition t free owns in

@@ -17,6 +17,8 @@ use Rattle.rbd_kinds.specs.declared.id.SiteId.{SiteId}
 use Rattle.rbd_kinds.specs.declared.layout.Part.{Part}
 use Rattle.rbd_kinds.specs.declared.operation.Op.{Op}
 use Rattle.rbd_kinds.specs.declared.operation.Op.TheVariants as op
+use Rattle.rbd_kinds.specs.declared.sharing.Sharing.{Sharing}
+use Rattle.rbd_kinds.specs.Sharing.{is_alone}
 use Rattle.rbd_kinds.specs.Striping.{IsLayout, byte_at, object_of, offset_of}
 use Rattle.rbd_layout.specs.Pieces.{IsPart, parts_at, places_in}
 use Rattle.rbd_layout.proofs.Listed.{parts_listed}
@@ -134,7 +136,7 @@ module _ (site : SiteId) (r : Records) (f : Flat) (k : Knowledge) (me : Instance
     there_is = owned_there site r me k image _ t free owns
 
     alone : is_alone_on k site image ≡ true
-    alone = ap is_own_alone owns.is ∙ owns.meets.0
+    alone = ap is_own_alone owns.is ∙ ap is_alone owns.meets.0
 
     known : known_header k site image ≡ Some owns.header
     known = own_known k site image _ owns
@@ -228,7 +230,7 @@ module _ (site : SiteId) (r : Records) (f : Flat) (k : Knowledge) (me : Instance
 
   -- ---- objects of an image that it owns
 
-  module _ (free : IsFalse (is_fenced r me)) (image number : ℕ) (condition : (alone : Bool) → HeaderView → Type 0) (owns : OwnsBy k site image condition) where
+  module _ (free : IsFalse (is_fenced r me)) (image number : ℕ) (condition : Sharing → HeaderView → Type 0) (owns : OwnsBy k site image condition) where
     abbrev there : IsThere owns.header (r.headers image)
     there = owned_there site r me k image condition t free owns
 

@@ -19,12 +19,13 @@ use Rattle.rbd_kinds.specs.declared.operation.Op.{Op}
 use Rattle.rbd_kinds.specs.declared.operation.Op.TheVariants as op
 use Rattle.rbd_kinds.specs.Instances.{same_instance}
 use Rattle.rbd_header.specs.Header.{with_size, with_snap, without_snap}
-use Rattle.rbd_machine.specs.Knowledge.{ImageMaps, Knowledge, MapsKnown, ObjectsKnown, Own, ImagePlace, first_told, header_told, is_at, is_drawn, is_fenced_by, is_gone, learned, learned_of_directory, learned_of_header, learned_of_listing, learned_of_map, learned_of_object, looked_behind, looked_by, looked_under_lock, maps_of, maps_told, objects_known_of, only_there, own_of, removed_header, same_site, unmapped, with_drawn, without_drawn}
+use Rattle.rbd_machine.specs.Ancestors.{seen_by, told_by}
+use Rattle.rbd_machine.specs.Knowledge.{ImageMaps, Knowledge, MapsKnown, ObjectsKnown, Own, ImagePlace, first_told, header_told, is_at, is_drawn, is_fenced_by, is_gone, learned, learned_of_directory, learned_of_header, learned_of_listing, learned_of_map, learned_of_object, learned_own, looked_behind, looked_by, looked_under_lock, maps_of, maps_told, objects_known_of, only_there, own_of, removed_header, same_site, unmapped, with_drawn, without_drawn}
 use Rattle.rbd_site.specs.Records.{Records}
 use Rattle.rbd_interference.specs.Beside.{AreBeside}
 use Rattle.rbd_interference.specs.Truth.{IsTrueAt}
 use Rattle.rbd_interference.proofs.Told.{told_apart}
-use Rattle.rbd_interference.proofs.Less.{IsLess, afresh_less, as_maps, left_there, less_beside, less_itself, less_then, less_true, same_maps, unfenced_less}
+use Rattle.rbd_interference.proofs.Less.{IsLess, afresh_less, as_maps, left_there, less_beside, less_itself, less_then, less_true, same_maps, telling_less, unfenced_less}
 
 -- a site is one of two
 apart_sites : (s t there : SiteId) → same_site s t ≡ false → same_site there s ≡ true → same_site there t ≡ false
@@ -178,13 +179,17 @@ module _ (s t : SiteId) (differ : same_site s t ≡ false) where
   }
   listing_same k i _ = less_itself t k
 
+  own_same : (k : Knowledge) (o : Op) (a : Answer) → IsLess t (learned_own k s o a) k
+  own_same k (op.Directory o) a = directory_same k o a
+  own_same k (op.Header image o) a = header_same k image o a
+  own_same k (op.Data image number o) a = object_same k image number o a
+  own_same k (op.BlockAdd i) a = listing_same k i a
+  own_same k (op.Map image o) a = map_same k image o a
+  own_same k _ a = less_itself t k
+
   pub learned_same : (k : Knowledge) (o : Op) (a : Answer) → IsLess t (learned k s o a) k
-  learned_same k (op.Directory o) a = directory_same k o a
-  learned_same k (op.Header image o) a = header_same k image o a
-  learned_same k (op.Data image number o) a = object_same k image number o a
-  learned_same k (op.BlockAdd i) a = listing_same k i a
-  learned_same k (op.Map image o) a = map_same k image o a
-  learned_same k _ a = less_itself t k
+  learned_same k o a =
+      less_then t (learned k s o a) (learned_own k s o a) k (telling_less t (learned_own k s o a) (seen_by k.seen s o a) (told_by k.seen k.told s o a)) (own_same k o a)
 
   pub true_elsewhere : (r : Records) (me : Instance) (k : Knowledge) (o : Op) (a : Answer) → IsTrueAt t r me k → IsTrueAt t r me (learned k s o a)
   true_elsewhere r me k o a holds = less_true t (learned k s o a) k (learned_same k o a) r me holds

@@ -18,6 +18,8 @@ use Rattle.rbd_kinds.specs.declared.map_op.MapOp.{MapOp}
 use Rattle.rbd_kinds.specs.declared.map_op.MapOp.TheVariants as states
 use Rattle.rbd_kinds.specs.declared.operation.Op.{Op}
 use Rattle.rbd_kinds.specs.declared.operation.Op.TheVariants as op
+use Rattle.rbd_kinds.specs.declared.sharing.Sharing.{Sharing}
+use Rattle.rbd_kinds.specs.Sharing.{is_alone}
 use Rattle.rbd_kinds.specs.Header.{snap_named}
 use Rattle.rbd_header.specs.Header.{context_of, is_full, snap_in, with_size, with_snap, without_snap}
 use Rattle.rbd_machine.specs.Knowledge.{Knowledge, is_gone, maps_of, objects_known_of}
@@ -141,7 +143,7 @@ module _ (site : SiteId) (r : Records) (f : Flat) (k : Knowledge) (you : Instanc
     there h is = here (snapshots_of f) (links_of f image) (r.headers image) (object_at r image) (image_at f image) h is (stands.images image)
 
     -- the header is the own one, but for the owner
-    own_header : (condition : (alone : Bool) → HeaderView → Type 0) (owns : OwnsBy k site image condition) (h : HeaderView) → r.headers image ≡ Some h → h ≡ record owns.header { owner = h.owner }
+    own_header : (condition : Sharing → HeaderView → Type 0) (owns : OwnsBy k site image condition) (h : HeaderView) → r.headers image ≡ Some h → h ≡ record owns.header { owner = h.owner }
     own_header condition owns h is =
         let found = owned_there site r you k image condition t free owns in
         subst (λ (v : HeaderView). v ≡ record owns.header { owner = v.owner }) (sym (same_Some h found.view (sym is ∙ found.is))) found.same
@@ -152,7 +154,7 @@ module _ (site : SiteId) (r : Records) (f : Flat) (k : Knowledge) (you : Instanc
         → IsPutAs (r.maps image (Some (h.snap_seq + 1))) (r.maps image None)
     put_next name owns h is =
         subst (λ n. IsPutAs (r.maps image (Some (n + 1))) (r.maps image None)) (sym (ap (λ (v : HeaderView). v.snap_seq) (own_header _ owns h is)))
-        ((t.mapped free image (ap is_some (own_known k site image _ owns))).put (ap is_own_alone owns.is ∙ owns.meets.0) (owns.header.snap_seq + 1) owns.meets.1.put)
+        ((t.mapped free image (ap is_some (own_known k site image _ owns))).put (ap is_own_alone owns.is ∙ ap is_alone owns.meets.0) (owns.header.snap_seq + 1) owns.meets.1.put)
 
     next_taken : (name : List ℕ) → OwnsAlone k site image (MayTakeSnap (maps_of k.maps site image) name) → ((n state : ℕ) → owed image n state → ⊥) → IsExactBut later r
         → (h : HeaderView) → r.headers image ≡ Some h → AreExactBut (later image) (with_snap name h) (r.maps image) (object_at r image)
@@ -236,13 +238,13 @@ module _ (site : SiteId) (r : Records) (f : Flat) (k : Knowledge) (you : Instanc
           by (inr does) = absurd (true≢false (sym does))
 
       -- what an owner changes under its own header
-      module _ (condition : (alone : Bool) → HeaderView → Type 0) (owns : OwnsBy k site image condition) (context : SnapContext) (under : context ≡ context_of owns.header)
+      module _ (condition : Sharing → HeaderView → Type 0) (owns : OwnsBy k site image condition) (context : SnapContext) (under : context ≡ context_of owns.header)
           (h : HeaderView) (is : r.headers image ≡ Some h) where
         context_is : IsContextOf h context
         context_is = subst (IsContextOf h) (ap context_of (own_header condition owns h is) ∙ sym under) (reversed_context h)
 
         raised_is : HasState (maps_of k.maps site image) number → map_state_in (r.maps image None) number ≢ 0
-        raised_is has = (t.mapped free image (ap is_some (own_known k site image condition owns))).raised number has
+        raised_is has = (t.mapped free image (ap is_some (own_known k site image condition owns))).raised None number has
 
         numbered_is : (n : ℕ) (s : SnapView) → snap_in h.snaps n ≡ Some s → n ≤ h.snap_seq
         numbered_is n s at = ((there h is).stands.numbered.snap n s at).1

@@ -1,10 +1,11 @@
 -- A header that is known is there.
-use Rattle.std.proofs.Common.{◌≡◌, ℕ, Bool, Option, Some, None, refl, sym, ap, ◌∙◌, subst, true≢false}
+use Rattle.std.proofs.Common.{◌≡◌, ℕ, Option, Some, None, refl, sym, ap, ◌∙◌, subst, true≢false}
 use Rattle.std.proofs.lemmas.Option.{none-some}
 use Rattle.std.specs.Prelude.{IsFalse, IsSome}
 use Rattle.rbd_kinds.specs.declared.header.HeaderView.{HeaderView}
 use Rattle.rbd_kinds.specs.declared.id.Instance.{Instance}
 use Rattle.rbd_kinds.specs.declared.id.SiteId.{SiteId}
+use Rattle.rbd_kinds.specs.declared.sharing.Sharing.{Sharing}
 use Rattle.rbd_kinds.specs.Striping.{IsLayout}
 use Rattle.rbd_machine.specs.Knowledge.{Knowledge}
 use Rattle.rbd_machine.specs.Permits.{OwnsBy}
@@ -25,18 +26,18 @@ pub find_there : (known there : Option HeaderView) (h : HeaderView) → known �
 find_there known None h is still = elim (subst (λ o. IsStill o None) is still) [ ]
 find_there known (Some t) h is still = record { view = t; is = refl; same = subst (λ o. IsStill o (Some t)) is still }
 
-pub own_known : (k : Knowledge) (site : SiteId) (image : ℕ) (condition : (alone : Bool) → HeaderView → Type 0) (owns : OwnsBy k site image condition)
+pub own_known : (k : Knowledge) (site : SiteId) (image : ℕ) (condition : Sharing → HeaderView → Type 0) (owns : OwnsBy k site image condition)
     → known_header k site image ≡ Some owns.header
 own_known k site image condition owns = ap header_of_own owns.is
 
 -- the header of an image that it owns
-pub owned_there : (site : SiteId) (r : Records) (me : Instance) (k : Knowledge) (image : ℕ) (condition : (alone : Bool) → HeaderView → Type 0) → IsTrueAt site r me k → IsFalse (is_fenced r me)
+pub owned_there : (site : SiteId) (r : Records) (me : Instance) (k : Knowledge) (image : ℕ) (condition : Sharing → HeaderView → Type 0) → IsTrueAt site r me k → IsFalse (is_fenced r me)
     → (owns : OwnsBy k site image condition) → IsThere owns.header (r.headers image)
 owned_there site r me k image condition t free owns =
     find_there (known_header k site image) (r.headers image) owns.header (own_known k site image condition owns) (t.owned free image)
 
 -- an image that somebody owns isn't one that waits for its header
-pub not_waiting : (site : SiteId) (r : Records) (me : Instance) (k : Knowledge) (image : ℕ) (condition : (alone : Bool) → HeaderView → Type 0) → IsTrueAt site r me k → IsFalse (is_fenced r me)
+pub not_waiting : (site : SiteId) (r : Records) (me : Instance) (k : Knowledge) (image : ℕ) (condition : Sharing → HeaderView → Type 0) → IsTrueAt site r me k → IsFalse (is_fenced r me)
     → OwnsBy k site image condition → r.headers image ≡ None → ⊥
 not_waiting site r me k image condition t free owns none =
     let there = owned_there site r me k image condition t free owns in

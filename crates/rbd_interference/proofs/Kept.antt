@@ -15,6 +15,9 @@ use Rattle.rbd_kinds.specs.declared.id.SiteId.{SiteId}
 use Rattle.rbd_kinds.specs.declared.map_op.MapOp.{MapOp}
 use Rattle.rbd_kinds.specs.declared.operation.Op.{Op}
 use Rattle.rbd_kinds.specs.declared.operation.Op.TheVariants as op
+use Rattle.rbd_kinds.specs.declared.sharing.Sharing.{Sharing}
+use Rattle.rbd_kinds.specs.declared.sharing.Sharing.TheVariants.{Alone}
+use Rattle.rbd_kinds.specs.Sharing.{is_alone}
 use Rattle.rbd_object.specs.Mapped.{Mapped, mapped_blank, mapped_trim}
 use Rattle.rbd_machine.specs.Knowledge.{Knowledge, is_drawn, is_gone, maps_of, objects_known_of}
 use Rattle.rbd_machine.specs.Permits.{Permits, PermitsOnHeader, PermitsOnMap, PermitsOnObject, OwnsBy}
@@ -46,15 +49,15 @@ AreBothShared site k j = (image : ℕ) → IsSome (known_header k site image) �
 
 -- who is alone on an image isn't beside one that knows its header
 pub alone_beside : (site : SiteId) (k j : Knowledge) (image : ℕ) (condition : HeaderView → Type 0) → AreBothShared site k j
-    → OwnsBy j site image (λ alone h. (alone ≡ true) × condition h) → (there : Option HeaderView) → IsStill (known_header k site image) there
+    → OwnsBy j site image (λ sharing h. (sharing ≡ Alone) × condition h) → (there : Option HeaderView) → IsStill (known_header k site image) there
 alone_beside site k j image condition shared owns there = go (known_header k site image) refl
   where
     go : (known : Option HeaderView) → known_header k site image ≡ known → IsStill known there
     go None is = tt
     go (Some h) is =
         let mine : IsSome (known_header k site image) = ap is_some is in
-        let others : IsSome (known_header j site image) = ap is_some (own_known j site image (λ alone h. (alone ≡ true) × condition h) owns) in
-        absurd (true≢false (sym owns.meets.0 ∙ sym (ap is_own_alone owns.is) ∙ (shared image mine others).other))
+        let others : IsSome (known_header j site image) = ap is_some (own_known j site image (λ sharing h. (sharing ≡ Alone) × condition h) owns) in
+        absurd (true≢false (sym (ap is_alone owns.meets.0) ∙ sym (ap is_own_alone owns.is) ∙ (shared image mine others).other))
 
 -- ---- what leaves a header but for its owner
 
@@ -209,7 +212,7 @@ pub other_than : (other image : ℕ) → ((other ≡ image) → ⊥) → (other 
 other_than other image differ = ne_eqb other image differ
 
 -- an object of an image that somebody owns is none of an id that waits for its header
-pub owned_is_other : (site : SiteId) (r : Records) (me : Instance) (k : Knowledge) (other image : ℕ) (condition : (alone : Bool) → HeaderView → Type 0) → IsTrueAt site r me k
+pub owned_is_other : (site : SiteId) (r : Records) (me : Instance) (k : Knowledge) (other image : ℕ) (condition : Sharing → HeaderView → Type 0) → IsTrueAt site r me k
     → IsFalse (is_fenced r me) → OwnsBy k site other condition → IsWaiting r image → (other == image) ≡ false
 owned_is_other site r me k other image condition t free owns w =
     other_than other image (λ same. not_waiting site r me k other condition t free owns (ap r.headers same ∙ w.header))
@@ -239,7 +242,7 @@ module _ (site : SiteId) (r : Records) (j : Knowledge) (you : Instance) (u : IsT
   waits_header other _ permits apart = elim permits [ ]
 
   -- nor removes what is left of it
-  waits_owned_object : (other number : ℕ) (o : DataOp) (condition : (alone : Bool) → HeaderView → Type 0) → OwnsBy j site other condition → IsWaiting (after r you (op.Data other number o)) image
+  waits_owned_object : (other number : ℕ) (o : DataOp) (condition : Sharing → HeaderView → Type 0) → OwnsBy j site other condition → IsWaiting (after r you (op.Data other number o)) image
   waits_owned_object other number o condition owns = waits_owned (op.Data other number o) (λ free. owned_is_other site r you j other image condition u free owns w) w.unraised
 
   waits_removal : (other number : ℕ) (context : SnapContext) → PermitsOnObject j site other number (object.Remove context) → (is_gone j.gone site image ≡ false)

@@ -19,7 +19,10 @@ use Rattle.rbd_kinds.specs.declared.map_op.MapOp.{MapOp}
 use Rattle.rbd_kinds.specs.declared.map_op.MapOp.TheVariants as states
 use Rattle.rbd_kinds.specs.declared.operation.Op.{Op}
 use Rattle.rbd_kinds.specs.declared.operation.Op.TheVariants as op
-use Rattle.rbd_machine.specs.Knowledge.{Knowledge, Own, ImagePlace, afresh, first_told, header_told, is_at, is_drawn, is_fence_of, is_fenced_by, is_gone, learned, learned_of_directory, learned_of_header, learned_of_listing, learned_of_map, learned_of_object, looked_by, looked_under_lock, maps_of, objects_known_of, only_there, own_of, removed_header, same_site, unmapped, unmarked, with_drawn, with_fence, without_drawn, without_fence}
+use Rattle.rbd_machine.specs.Ancestors.{HeaderSeen, ObjectTold, seen_by, told_by}
+use Rattle.rbd_machine.specs.Knowledge.{Knowledge, Own, ImagePlace, afresh, first_told, header_told, is_at, is_drawn, is_fence_of, is_fenced_by, is_gone, learned, learned_of_directory, learned_of_header, learned_of_listing, learned_of_map, learned_of_object, learned_own, looked_by, looked_under_lock, maps_of, objects_known_of, only_there, own_of, removed_header, same_site, unmapped, unmarked, with_drawn, with_fence, without_drawn, without_fence}
+use Rattle.rbd_kinds.specs.declared.sharing.Sharing.{Sharing}
+use Rattle.rbd_kinds.specs.Sharing.{is_alone}
 use Rattle.rbd_machine.specs.Permits.{Permits, PermitsOnHeader, OwnsBy, OwnsAlone, MayMake, MaySize, MayTakeSnap, MayRemove}
 use Rattle.rbd_kinds.specs.Header.{snap_named}
 use Rattle.rbd_kinds.specs.Instances.{same_instance}
@@ -47,7 +50,7 @@ use Rattle.rbd_interference.proofs.Each.{IsKnownAs, IsThereAs, IsTrueOfImage, al
 use Rattle.rbd_interference.proofs.Fenced.{where_free, is_put_up, stays_put_up}
 use Rattle.rbd_interference.proofs.Headers.{own_known, owned_there, not_waiting, unknown_of_none}
 use Rattle.rbd_interference.proofs.Kept.{kept_by}
-use Rattle.rbd_interference.proofs.Less.{afresh_less, left_there, less_true, nothing_of, unfenced_less}
+use Rattle.rbd_interference.proofs.Less.{afresh_less, left_there, less_true, nothing_of, telling_less, unfenced_less}
 use Rattle.rbd_interference.proofs.MapsBehind.{nothing_mapped}
 use Rattle.rbd_interference.proofs.MapsLearned.{at_no_other, map_taught, told_of_others}
 use Rattle.rbd_interference.proofs.ObjectsLearned.{object_taught}
@@ -233,11 +236,11 @@ module _ (site : SiteId) (r : Records) (me : Instance) (k : Knowledge) (t : IsTr
           (true_of_it.drawn image) (true_of_it.gone image) refl told
 
       -- one that it knows already tells nothing new
-      again : (o : Own) (own : HeaderView) → o.header ≡ Some own → own_of k.owns site image ≡ Some o → (v : HeaderView) → first_told h o.header ≡ Some v → IsTold site r k image o.alone v
+      again : (o : Own) (own : HeaderView) → o.header ≡ Some own → own_of k.owns site image ≡ Some o → (v : HeaderView) → first_told h o.header ≡ Some v → IsTold site r k image (is_alone o.sharing) v
       again o own had at v told =
           let known : known_header k site image ≡ Some v = ap header_of_own at ∙ had ∙ sym (ap (first_told h) had) ∙ told in
           let some : IsSome (known_header k site image) = ap is_some known in
-          let alone : is_alone_on k site image ≡ o.alone = ap is_own_alone at in
+          let alone : is_alone_on k site image ≡ is_alone o.sharing = ap is_own_alone at in
           record {
             still = subst (λ q. IsStill q (r.headers image)) known (t.owned free image);
             mapped = subst (λ b. AreMapsTrue b (r.maps image) (maps_of k.maps site image)) alone (t.mapped free image some);
@@ -245,14 +248,14 @@ module _ (site : SiteId) (r : Records) (me : Instance) (k : Knowledge) (t : IsTr
           }
 
       -- the first one tells the header that is there
-      first : (o : Own) → o.header ≡ None → (v : HeaderView) → first_told h o.header ≡ Some v → IsTold site r (afresh site image k) image o.alone v
+      first : (o : Own) → o.header ≡ None → (v : HeaderView) → first_told h o.header ≡ Some v → IsTold site r (afresh site image k) image (is_alone o.sharing) v
       first o unknown v told =
           let same : h ≡ v = same_Some h v (sym (ap (first_told h) unknown) ∙ told) in
           let unmapped_now : maps_of (afresh site image k).maps site image ≡ unmapped = told_first site image unmapped (unmarked k.maps) in
           record {
             still = subst (λ q. IsStill (Some q) (r.headers image)) same (subst (IsStill (Some h)) (sym is) refl);
-            mapped = subst (AreMapsTrue o.alone (r.maps image)) (sym unmapped_now) (nothing_mapped o.alone (r.maps image));
-            objects = nothing_of o.alone v.layout (object_at r image);
+            mapped = subst (AreMapsTrue (is_alone o.sharing) (r.maps image)) (sym unmapped_now) (nothing_mapped (is_alone o.sharing) (r.maps image));
+            objects = nothing_of (is_alone o.sharing) v.layout (object_at r image);
           }
 
       owning : (o : Own) (header : Option HeaderView) → o.header ≡ header → own_of k.owns site image ≡ Some o → IsTrueAt site r me (header_told site image (first_told h) (looked_by header site image k))
@@ -297,7 +300,7 @@ module _ (site : SiteId) (r : Records) (me : Instance) (k : Knowledge) (t : IsTr
   -- ---- a header that it owns
 
   -- an image that it owns has a header
-  module _ (image : ℕ) (condition : (alone : Bool) → HeaderView → Type 0) (owns : OwnsBy k site image condition) where
+  module _ (image : ℕ) (condition : Sharing → HeaderView → Type 0) (owns : OwnsBy k site image condition) where
     owned_undrawn : is_drawn k.drawn site image ≡ true → ⊥
     owned_undrawn drawn = not_waiting site r me k image condition t free owns (t.drawn image drawn).header
 
@@ -305,7 +308,7 @@ module _ (site : SiteId) (r : Records) (me : Instance) (k : Knowledge) (t : IsTr
     owned_remains gone = not_waiting site r me k image condition t free owns (t.gone image gone).header
 
   -- a change of the header by the one who owns it
-  edited : (image : ℕ) (o : HeaderOp) (condition : (alone : Bool) → HeaderView → Type 0) (owns : OwnsBy k site image condition) (edit : HeaderView → HeaderView)
+  edited : (image : ℕ) (o : HeaderOp) (condition : Sharing → HeaderView → Type 0) (owns : OwnsBy k site image condition) (edit : HeaderView → HeaderView)
       → ((h : HeaderView) (owner : Option Instance) → edit (record h { owner = owner }) ≡ record (edit h) { owner = owner }) → ((h : HeaderView) → (edit h).layout ≡ h.layout)
       → (v : HeaderView) → v ≡ record owns.header { owner = v.owner } → (edit v).owner ≡ v.owner
       → header_after me (r.headers image) o ≡ Some (edit v) → IsTrueAt site (doing image o) me (header_told site image (option_map edit) k)
@@ -314,12 +317,12 @@ module _ (site : SiteId) (r : Records) (me : Instance) (k : Knowledge) (t : IsTr
       (λ drawn. absurd (owned_undrawn image condition owns drawn)) (λ gone. absurd (owned_remains image condition owns gone)) refl told
     where
       own : Own
-      own = record { site = site; image = image; alone = owns.alone; header = Some owns.header }
+      own = record { site = site; image = image; sharing = owns.sharing; header = Some owns.header }
 
       known : known_header k site image ≡ Some owns.header
       known = own_known k site image condition owns
 
-      alone : is_alone_on k site image ≡ owns.alone
+      alone : is_alone_on k site image ≡ is_alone owns.sharing
       alone = ap is_own_alone owns.is
 
       still : IsStill (Some (edit owns.header)) ((doing image o).headers image)
@@ -327,14 +330,14 @@ module _ (site : SiteId) (r : Records) (me : Instance) (k : Knowledge) (t : IsTr
           subst (IsStill (Some (edit owns.header))) (sym (put_there r.headers image (header_after me (r.headers image) o) ∙ is))
           (ap edit same ∙ keeps owns.header v.owner ∙ ap (λ w. record (edit owns.header) { owner = w }) (sym owner))
 
-      told : (w : HeaderView) → Some (edit owns.header) ≡ Some w → IsTold site (doing image o) k image owns.alone w
+      told : (w : HeaderView) → Some (edit owns.header) ≡ Some w → IsTold site (doing image o) k image (is_alone owns.sharing) w
       told w at =
           let now : edit owns.header ≡ w = same_Some (edit owns.header) w at in
           let layout : owns.header.layout ≡ w.layout = sym (laid owns.header) ∙ ap (λ (h : HeaderView). h.layout) now in
           record {
             still = subst (λ q. IsStill (Some q) ((doing image o).headers image)) now still;
             mapped = subst (λ b. AreMapsTrue b (r.maps image) (maps_of k.maps site image)) alone (t.mapped free image (ap is_some known));
-            objects = subst (λ l. AreObjectsTrue owns.alone l (object_at r image) (objects_known_of k.objects site image)) layout
+            objects = subst (λ l. AreObjectsTrue (is_alone owns.sharing) l (object_at r image) (objects_known_of k.objects site image)) layout
                 (subst (λ b. AreObjectsTrue b owns.header.layout (object_at r image) (objects_known_of k.objects site image)) alone (t.objects free image owns.header known));
           }
 
@@ -537,34 +540,62 @@ object_of_fence k site image number (object.Empty context) = refl
 object_of_fence k site image number (object.Remove context) = refl
 object_of_fence k site image number (object.CopyUp bytes) = refl
 
+own_of_fence : (k : Knowledge) (site : SiteId) (o : Op) → learned_own k site o answer.Fenced ≡ k
+own_of_fence k site (op.Directory (directory.Add name)) = refl
+own_of_fence k site (op.Directory o) = refl
+own_of_fence k site (op.Header image header.Get) = refl
+own_of_fence k site (op.Header image (header.Create view)) = refl
+own_of_fence k site (op.Header image (header.SetSize to)) = refl
+own_of_fence k site (op.Header image header.Remove) = refl
+own_of_fence k site (op.Header image (header.SnapAdd name)) = refl
+own_of_fence k site (op.Header image (header.SnapRemove snap)) = refl
+own_of_fence k site (op.Header image (header.LockBreak owner)) = refl
+own_of_fence k site (op.Header image o) = refl
+own_of_fence k site (op.BlockAdd i) = refl
+own_of_fence k site (op.Map image o) = map_of_fence k site image o
+own_of_fence k site (op.Data image number o) = object_of_fence k site image number o
+own_of_fence k site o = refl
+
+-- it tells nothing of other images either
+seen_of_fence : (seen : List HeaderSeen) (site : SiteId) (o : Op) → seen_by seen site o answer.Fenced ≡ seen
+seen_of_fence seen site (op.Header image header.Get) = refl
+seen_of_fence seen site (op.Header image o) = refl
+seen_of_fence seen site o = refl
+
+told_of_fence : (seen : List HeaderSeen) (told : List ObjectTold) (site : SiteId) (o : Op) → told_by seen told site o answer.Fenced ≡ told
+told_of_fence seen told site (op.Data image number (object.Read (Some snap) parts)) = refl
+told_of_fence seen told site (op.Data image number (object.Read None parts)) = refl
+told_of_fence seen told site (op.Data image number o) = refl
+told_of_fence seen told site o = refl
+
+abbrev with_told : List HeaderSeen → List ObjectTold → Knowledge → Knowledge
+with_told seen told k = record k { seen = seen; told = told }
+
 pub learned_of_fence : (k : Knowledge) (site : SiteId) (o : Op) → learned k site o answer.Fenced ≡ k
-learned_of_fence k site (op.Directory (directory.Add name)) = refl
-learned_of_fence k site (op.Directory o) = refl
-learned_of_fence k site (op.Header image header.Get) = refl
-learned_of_fence k site (op.Header image (header.Create view)) = refl
-learned_of_fence k site (op.Header image (header.SetSize to)) = refl
-learned_of_fence k site (op.Header image header.Remove) = refl
-learned_of_fence k site (op.Header image (header.SnapAdd name)) = refl
-learned_of_fence k site (op.Header image (header.SnapRemove snap)) = refl
-learned_of_fence k site (op.Header image (header.LockBreak owner)) = refl
-learned_of_fence k site (op.Header image o) = refl
-learned_of_fence k site (op.BlockAdd i) = refl
-learned_of_fence k site (op.Map image o) = map_of_fence k site image o
-learned_of_fence k site (op.Data image number o) = object_of_fence k site image number o
-learned_of_fence k site o = refl
+learned_of_fence k site o =
+    ap (with_told (seen_by k.seen site o answer.Fenced) (told_by k.seen k.told site o answer.Fenced)) (own_of_fence k site o)
+    ∙ ap (λ seen. with_told seen (told_by k.seen k.told site o answer.Fenced) k) (seen_of_fence k.seen site o)
+    ∙ ap (λ told. with_told k.seen told k) (told_of_fence k.seen k.told site o)
+
+own_taught : (site : SiteId) (r : Records) (f : Flat) (k : Knowledge) (me : Instance) (o : Op) (most : ℕ) → StandsFor [] r f → AreInForm r most → AreMapped r → IsTrueAt site r me k → Permits k site o
+    → IsTrueAt site (after r me o) me (learned_own k site o (answer_to r me o))
+own_taught site r f k me (op.Directory o) most stands form mapped t permits =
+    where_either (λ a s. IsTrueAt site s me (learned_own k site (op.Directory o) a)) r me (op.Directory o)
+    (subst (IsTrueAt site r me) (sym (own_of_fence k site (op.Directory o))) t) (directory_learned site r f me k stands mapped t o)
+own_taught site r f k me (op.BlockAdd i) most stands form mapped t permits =
+    where_free (λ a s. IsTrueAt site s me (learned_of_listing k site i a)) r me (op.BlockAdd i) t (λ free. listed_true site r me k i t free)
+own_taught site r f k me (op.Header image o) most stands form mapped t permits = header_learned site r f me k stands mapped t image o permits
+own_taught site r f k me (op.Data image number o) most stands form mapped t permits =
+    where_free (λ a s. IsTrueAt site s me (learned_of_object k site image number o a)) r me (op.Data image number o) (subst (IsTrueAt site r me) (sym (object_of_fence k site image number o)) t)
+    (λ free. object_taught site r me k most form t free image number o permits)
+own_taught site r f k me (op.Map image o) most stands form mapped t permits =
+    where_free (λ a s. IsTrueAt site s me (learned_of_map k site image o a)) r me (op.Map image o) (subst (IsTrueAt site r me) (sym (map_of_fence k site image o)) t)
+    (λ free. map_taught site r me k most form mapped t free image o permits)
+own_taught site r f k me _ most stands form mapped t permits = elim permits [ ]
 
 pub own_learned : (site : SiteId) (r : Records) (f : Flat) (k : Knowledge) (me : Instance) (o : Op) (most : ℕ) → StandsFor [] r f → AreInForm r most → AreMapped r → IsTrueAt site r me k → Permits k site o
     → IsTrueAt site (after r me o) me (learned k site o (answer_to r me o))
-own_learned site r f k me (op.Directory o) most stands form mapped t permits =
-    where_either (λ a s. IsTrueAt site s me (learned k site (op.Directory o) a)) r me (op.Directory o)
-    (subst (IsTrueAt site r me) (sym (learned_of_fence k site (op.Directory o))) t) (directory_learned site r f me k stands mapped t o)
-own_learned site r f k me (op.BlockAdd i) most stands form mapped t permits =
-    where_free (λ a s. IsTrueAt site s me (learned_of_listing k site i a)) r me (op.BlockAdd i) t (λ free. listed_true site r me k i t free)
-own_learned site r f k me (op.Header image o) most stands form mapped t permits = header_learned site r f me k stands mapped t image o permits
-own_learned site r f k me (op.Data image number o) most stands form mapped t permits =
-    where_free (λ a s. IsTrueAt site s me (learned_of_object k site image number o a)) r me (op.Data image number o) (subst (IsTrueAt site r me) (sym (object_of_fence k site image number o)) t)
-    (λ free. object_taught site r me k most form t free image number o permits)
-own_learned site r f k me (op.Map image o) most stands form mapped t permits =
-    where_free (λ a s. IsTrueAt site s me (learned_of_map k site image o a)) r me (op.Map image o) (subst (IsTrueAt site r me) (sym (map_of_fence k site image o)) t)
-    (λ free. map_taught site r me k most form mapped t free image o permits)
-own_learned site r f k me _ most stands form mapped t permits = elim permits [ ]
+own_learned site r f k me o most stands form mapped t permits =
+    let a = answer_to r me o in
+    less_true site (learned k site o a) (learned_own k site o a) (telling_less site (learned_own k site o a) (seen_by k.seen site o a) (told_by k.seen k.told site o a)) (after r me o) me
+    (own_taught site r f k me o most stands form mapped t permits)

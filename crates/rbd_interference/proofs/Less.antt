@@ -10,6 +10,7 @@ use Rattle.rbd_kinds.specs.declared.id.SiteId.{SiteId}
 use Rattle.rbd_kinds.specs.declared.layout.Layout.{Layout}
 use Rattle.rbd_kinds.proofs.Images.{same_site_is}
 use Rattle.rbd_object.specs.Mapped.{Mapped}
+use Rattle.rbd_machine.specs.Ancestors.{HeaderSeen, ObjectTold}
 use Rattle.rbd_machine.specs.Knowledge.{Fence, ImageMaps, Knowledge, MapsKnown, ObjectsKnown, Own, afresh, owns_when_held, is_absent, is_at, is_drawn, is_fence_of, is_fenced_by, is_gone, is_raised, owns_without, maps_of, objects_known_of, own_of, known_after_wait, same_site, unfenced, unmapped, unmarked, untouched, without_fence}
 use Rattle.rbd_machine.specs.Wait.{Wait}
 use Rattle.rbd_machine.specs.Wait as wait
@@ -28,7 +29,7 @@ abbrev pub IsOwnOf : (new old : Option Own) → Type 0
 IsOwnOf new old = IsSome (header_of_own new) → new ≡ old
 
 pub record AreMapsLess (new old : MapsKnown) : Type 0 where
-  pub raised : (object : ℕ) → is_raised None object new.raised ≡ true → is_raised None object old.raised ≡ true
+  pub raised : (view : Option ℕ) (object : ℕ) → is_raised view object new.raised ≡ true → is_raised view object old.raised ≡ true
   pub states : (states : List ℕ) → new.states ≡ Some states → old.states ≡ Some states
   pub count : (count : ℕ) → new.count ≡ Some count → old.count ≡ Some count
   pub put : (snap : ℕ) → new.put ≡ Some snap → old.put ≡ Some snap
@@ -46,13 +47,24 @@ pub record IsLess (site : SiteId) (new old : Knowledge) : Type 0 where
   pub gone : (image : ℕ) → is_gone new.gone site image ≡ true → is_gone old.gone site image ≡ true
 
 pub same_maps : (m : MapsKnown) → AreMapsLess m m
-same_maps m = record { raised = λ object marked. marked; states = λ states told. told; count = λ count known. known; put = λ snap known. known }
+same_maps m = record { raised = λ view object marked. marked; states = λ states told. told; count = λ count known. known; put = λ snap known. known }
 
 pub as_maps : (new old : MapsKnown) → new ≡ old → AreMapsLess new old
 as_maps new old same = subst (AreMapsLess new) same (same_maps new)
 
 pub less_itself : (site : SiteId) (k : Knowledge) → IsLess site k k
 less_itself site k = record {
+  owns = λ image some. refl;
+  drawn = λ image drawn. drawn;
+  fenced = λ i known. known;
+  maps = λ image. same_maps (maps_of k.maps site image);
+  objects = λ image. inl refl;
+  gone = λ image gone. gone;
+}
+
+-- whatever was told of other images, what is the request's own is the same
+pub telling_less : (site : SiteId) (k : Knowledge) (seen : List HeaderSeen) (told : List ObjectTold) → IsLess site (record k { seen = seen; told = told }) k
+telling_less site k seen told = record {
   owns = λ image some. refl;
   drawn = λ image drawn. drawn;
   fenced = λ i known. known;
@@ -72,7 +84,7 @@ count_less (Some count) old map less t = subst (λ c. IsCountTrue c map) (less c
 
 maps_less : (alone : Bool) (maps : Maps) (new old : MapsKnown) → AreMapsLess new old → AreMapsTrue alone maps old → AreMapsTrue alone maps new
 maps_less alone maps new old less t = record {
-  raised = λ object marked. t.raised object (less.raised object marked);
+  raised = λ view object marked. t.raised view object (less.raised view object marked);
   states = λ a states told. t.states a states (less.states states told);
   count = λ a. count_less new.count old.count (maps None) less.count (t.count a);
   put = λ a snap is. t.put a snap (less.put snap is);
@@ -97,7 +109,7 @@ module _ (site : SiteId) (new old : Knowledge) (less : IsLess site new old) wher
   some_before image some = ap is_some (known_before image some) ∙ some
 
   pub knew_of : (image object : ℕ) → KnowsOf new site image object → KnowsOf old site image object
-  knew_of image object (inl raised) = inl ((less.maps image).raised object raised)
+  knew_of image object (inl raised) = inl ((less.maps image).raised None object raised)
   knew_of image object (inr gone) = inr (absent_less (objects_known_of new.objects site image) (objects_known_of old.objects site image) (less.objects image) object gone)
 
   was_without : (image : ℕ) → KnowsNoHeader new site image → KnowsNoHeader old site image
@@ -174,7 +186,7 @@ less_then site a b c first then_less = record {
   drawn = λ image drawn. then_less.drawn image (first.drawn image drawn);
   fenced = λ i known. then_less.fenced i (first.fenced i known);
   maps = λ image. record {
-    raised = λ object marked. (then_less.maps image).raised object ((first.maps image).raised object marked);
+    raised = λ view object marked. (then_less.maps image).raised view object ((first.maps image).raised view object marked);
     states = λ states told. (then_less.maps image).states states ((first.maps image).states states told);
     count = λ count known. (then_less.maps image).count count ((first.maps image).count count known);
     put = λ snap known. (then_less.maps image).put snap ((first.maps image).put snap known);
@@ -221,7 +233,7 @@ own_left P site there image place owns none was = by (is_at site image there pla
 
 -- who waits at a place has looked at nothing there
 abbrev waiting : Knowledge → SiteId → (place : ℕ) → Own
-waiting k there place = record { site = there; image = place; alone = k.alone; header = None }
+waiting k there place = record { site = there; image = place; sharing = k.sharing; header = None }
 
 pub own_held : (P : Option Own → Type 0) (site there : SiteId) (image place : ℕ) (k : Knowledge) → P (Some (waiting k there place)) → P None → P (own_of k.owns site image)
     → P (own_of (owns_when_held k there place) site image)
@@ -252,13 +264,13 @@ held_own site there image place k =
     own_held (λ o. IsOwnOf o (own_of k.owns site image)) site there image place k (λ some. absurd (true≢false (sym some))) (λ some. absurd (true≢false (sym some))) (λ some. refl)
 
 bare_maps : (m : MapsKnown) → AreMapsLess (record m { raised = [] }) m
-bare_maps m = record { raised = λ object marked. absurd (true≢false (sym marked)); states = λ states told. told; count = λ count known. known; put = λ snap known. known }
+bare_maps m = record { raised = λ view object marked. absurd (true≢false (sym marked)); states = λ states told. told; count = λ count known. known; put = λ snap known. known }
 
 unmarked_maps : (maps : List ImageMaps) (site : SiteId) (image : ℕ) → AreMapsLess (maps_of (unmarked maps) site image) (maps_of maps site image)
 unmarked_maps maps site image = subst (λ m. AreMapsLess m (maps_of maps site image)) (sym (maps_unmarked maps site image)) (bare_maps (maps_of maps site image))
 
 pub unmapped_less : (m : MapsKnown) → AreMapsLess unmapped m
-unmapped_less m = record { raised = λ object marked. absurd (true≢false (sym marked)); states = λ states told. cc; count = λ count known. cc; put = λ snap known. cc }
+unmapped_less m = record { raised = λ view object marked. absurd (true≢false (sym marked)); states = λ states told. cc; count = λ count known. cc; put = λ snap known. cc }
 
 nothing_marked : (maps : List ImageMaps) (site : SiteId) (image object : ℕ) → is_raised None object (maps_of (unmarked maps) site image).raised ≡ true → ⊥
 nothing_marked maps site image object marked = true≢false (sym marked ∙ ap (λ m. is_raised None object m.raised) (maps_unmarked maps site image))
@@ -279,7 +291,7 @@ turned site k turn = record {
 }
 
 pub waited_less : (site : SiteId) (k : Knowledge) (w : Wait) → IsLess site (known_after_wait k w) k
-waited_less site k (wait.Join there image alone) = record {
+waited_less site k (wait.Join there image sharing) = record {
   owns = λ image some. refl;
   drawn = λ image drawn. drawn;
   fenced = λ i known. known;
@@ -309,7 +321,7 @@ waited_less site k (wait.Leave there place) = record {
 pub waits_learned : (site : SiteId) (r : Records) (me : Instance) (k : Knowledge) → IsTrueAt site r me k → (w : Wait) → IsTrueAt site r me (known_after_wait k w)
 waits_learned site r me k t w = less_true site (known_after_wait k w) k (waited_less site k w) r me t
 
--- at the first look behind the lock
+-- at the look under the lock
 marked_afresh : (site : SiteId) (k : Knowledge) (image object : ℕ) (b : Bool) → is_raised None object (cond b unmapped (maps_of (unmarked k.maps) site image)).raised ≡ true → ⊥
 marked_afresh site k image object true is = true≢false (sym is)
 marked_afresh site k image object false is = nothing_marked k.maps site image object is

@@ -18,6 +18,8 @@ use Rattle.rbd_kinds.specs.declared.map_op.MapOp.{MapOp}
 use Rattle.rbd_kinds.specs.declared.map_op.MapOp.TheVariants as states
 use Rattle.rbd_kinds.specs.declared.operation.Op.{Op}
 use Rattle.rbd_kinds.specs.declared.operation.Op.TheVariants as op
+use Rattle.rbd_kinds.specs.declared.sharing.Sharing.{Sharing}
+use Rattle.rbd_kinds.specs.Sharing.{is_alone}
 use Rattle.rbd_kinds.specs.Form.{IsOverlapWithin}
 use Rattle.rbd_kinds.specs.Header.{snap_named}
 use Rattle.rbd_kinds.specs.Striping.{object_of}
@@ -169,7 +171,7 @@ module _ (site : SiteId) (r : Records) (f : Flat) (k : Knowledge) (you : Instanc
         let same : h ≡ there.view = same_Some h there.view (sym is ∙ there.is) in
         let seq : h.snap_seq ≡ owns.header.snap_seq = ap (λ (v : HeaderView). v.snap_seq) (same ∙ there.same) in
         subst (λ n. IsPutAs (r.maps image (Some (n + 1))) (r.maps image None)) (sym seq)
-        ((t.mapped free image (ap is_some (own_known k site image _ owns))).put (ap is_own_alone owns.is ∙ owns.meets.0) (owns.header.snap_seq + 1) owns.meets.1.put)
+        ((t.mapped free image (ap is_some (own_known k site image _ owns))).put (ap is_own_alone owns.is ∙ ap is_alone owns.meets.0) (owns.header.snap_seq + 1) owns.meets.1.put)
 
     header_covers : (o : HeaderOp) → PermitsOnHeader k site image o → (there : Option HeaderView) → r.headers image ≡ there → KeepsHeaderCover there (r.maps image) (object_at r image) o
     header_covers (header.Create view) permits None is = (t.drawn image permits.drawn).blank
@@ -179,15 +181,15 @@ module _ (site : SiteId) (r : Records) (f : Flat) (k : Knowledge) (you : Instanc
     header_covers o permits (Some h) is = tt
 
     -- a context that is the own header's, and a state that it set
-    under_own : (condition : (alone : Bool) → HeaderView → Type 0) (owns : OwnsBy k site image condition) (context : SnapContext) → context ≡ context_of owns.header
+    under_own : (condition : Sharing → HeaderView → Type 0) (owns : OwnsBy k site image condition) (context : SnapContext) → context ≡ context_of owns.header
         → (h : HeaderView) → r.headers image ≡ Some h → IsContextOf h context
     under_own condition owns context at h is =
         let there = owned_there site r you k image condition t free owns in
         let same : h ≡ there.view = same_Some h there.view (sym is ∙ there.is) in
         subst (IsContextOf h) (ap context_of (same ∙ there.same) ∙ sym at) (reversed_context h)
 
-    raised_own : (condition : (alone : Bool) → HeaderView → Type 0) → OwnsBy k site image condition → (number : ℕ) → HasState (maps_of k.maps site image) number → IsRaised (r.maps image None) number
-    raised_own condition owns number raised = raised_map (r.maps image None) number ((t.mapped free image (ap is_some (own_known k site image condition owns))).raised number raised)
+    raised_own : (condition : Sharing → HeaderView → Type 0) → OwnsBy k site image condition → (number : ℕ) → HasState (maps_of k.maps site image) number → IsRaised (r.maps image None) number
+    raised_own condition owns number raised = raised_map (r.maps image None) number ((t.mapped free image (ap is_some (own_known k site image condition owns))).raised None number raised)
 
     -- who removed the header finds none
     never_left : IsLeftOver k site image → (h : HeaderView) → r.headers image ≡ Some h → ⊥
@@ -271,7 +273,7 @@ module _ (site : SiteId) (r : Records) (f : Flat) (k : Knowledge) (you : Instanc
         grown x inside more =
             let may = owns.meets.1.mapped more in
             let known = t.mapped free image (ap is_some (own_known k site image _ owns)) in
-            let has : HasAtLeast may.count (r.maps image None) = subst (λ c. IsCountTrue c (r.maps image None)) may.known (known.count (ap is_own_alone owns.is ∙ owns.meets.0)) in
+            let has : HasAtLeast may.count (r.maps image None) = subst (λ c. IsCountTrue c (r.maps image None)) may.known (known.count (ap is_own_alone owns.is ∙ ap is_alone owns.meets.0)) in
             let below = may.room x inside in
             let long = has.long in
             let len : map_len (r.maps image None) ≡ length has.there = ap map_len has.is in

@@ -56,12 +56,12 @@ same_again maps view v = by (option_eq eqb v view) refl
 -- ---- what is known of them
 
 pub nothing_mapped : (alone : Bool) (maps : Maps) → AreMapsTrue alone maps unmapped
-nothing_mapped alone maps = record { raised = λ object marked. cc; states = λ a states is. cc; count = λ a. tt; put = λ a snap is. cc }
+nothing_mapped alone maps = record { raised = λ view object marked. cc; states = λ a states is. cc; count = λ a. tt; put = λ a snap is. cc }
 
 -- of maps that are the same
 pub true_of : (alone : Bool) (old new : Maps) (m : MapsKnown) → ((v : Option ℕ) → new v ≡ old v) → AreMapsTrue alone old m → AreMapsTrue alone new m
 true_of alone old new m same t = record {
-  raised = λ object marked zeroed. t.raised object marked (ap (λ map. map_state_in map object) (sym (same None)) ∙ zeroed);
+  raised = λ view object marked zeroed. t.raised view object marked (ap (λ map. map_state_in map object) (sym (same view)) ∙ zeroed);
   states = λ a states is. subst (AreStatesOf states) (sym (same None)) (t.states a states is);
   count = λ a. subst (IsCountTrue m.count) (sym (same None)) (t.count a);
   put = λ a snap is. subst (IsPutAs (new (Some snap))) (sym (same None)) (subst (λ map. IsPutAs map (old None)) (sym (same (Some snap))) (t.put a snap is));

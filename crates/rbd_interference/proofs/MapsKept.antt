@@ -1,5 +1,5 @@
 -- What is known of object maps stays true under what is permitted to others.
-use Rattle.std.proofs.Common.{◌≡◌, ◌≢◌, inl, inr, ℕ, Bool, true, Some, None, sym, ap, ◌∙◌, subst, true≢false}
+use Rattle.std.proofs.Common.{◌≡◌, ◌≢◌, inl, inr, ℕ, true, Some, None, sym, ap, ◌∙◌, subst, true≢false, Option}
 use Rattle.std.specs.Prelude.{IsFalse, IsSome, is_some}
 use Rattle.rbd_kinds.specs.declared.header.HeaderView.{HeaderView}
 use Rattle.rbd_kinds.specs.declared.id.Instance.{Instance}
@@ -8,13 +8,16 @@ use Rattle.rbd_kinds.specs.declared.map_op.MapOp.{MapOp}
 use Rattle.rbd_kinds.specs.declared.map_op.MapOp.TheVariants as states
 use Rattle.rbd_kinds.specs.declared.operation.Op.{Op}
 use Rattle.rbd_kinds.specs.declared.operation.Op.TheVariants as op
-use Rattle.rbd_machine.specs.Knowledge.{Knowledge, is_drawn, is_gone, maps_of, objects_known_of}
+use Rattle.rbd_kinds.specs.declared.sharing.Sharing.{Sharing}
+use Rattle.rbd_kinds.specs.declared.sharing.Sharing.TheVariants.{Alone}
+use Rattle.rbd_kinds.specs.Sharing.{is_alone}
+use Rattle.rbd_machine.specs.Knowledge.{Knowledge, is_drawn, is_gone, maps_of, objects_known_of, is_raised}
 use Rattle.rbd_machine.specs.Permits.{Permits, PermitsOnMap, IsLeftOver, MayLengthen, MaySet, OwnsBy}
 use Rattle.rbd_site.specs.Records.{Records}
 use Rattle.rbd_site.specs.Step.{is_fenced, after, after_served}
 use Rattle.rbd_stands.specs.Covering.{Maps}
 use Rattle.rbd_interference.specs.Beside.{AreBeside, GoBesideOthers, LeavesObject, MayAct}
-use Rattle.rbd_interference.specs.Truth.{AreMapsTrue, IsCountTrue, IsTrueAt, KnowsNoHeader, is_alone_on, is_own_alone, known_header}
+use Rattle.rbd_interference.specs.Truth.{AreMapsTrue, IsCountTrue, IsTrueAt, KnowsNoHeader, is_alone_on, is_own_alone, known_header, map_state_in}
 use Rattle.rbd_interference.specs.Turns.{KnowsOf}
 use Rattle.rbd_interference.proofs.Fenced.{after_free}
 use Rattle.rbd_interference.proofs.Headers.{not_waiting, own_known, unknown_while_waiting}
@@ -29,15 +32,15 @@ module _ (site : SiteId) (r : Records) (k j : Knowledge) (me you : Instance) (t 
 
   module _ (free : IsFalse (is_fenced r me)) (served : IsFalse (is_fenced r you)) (image : ℕ) where
     -- where another owns it too, neither is alone
-    pub both_shared : (condition : (alone : Bool) → HeaderView → Type 0) → OwnsBy j site image condition → IsSome (known_header k site image) → GoBesideOthers site image k j
+    pub both_shared : (condition : Sharing → HeaderView → Type 0) → OwnsBy j site image condition → IsSome (known_header k site image) → GoBesideOthers site image k j
     both_shared condition owns known = beside.shared (free, served) image known (ap is_some (own_known j site image condition owns))
 
-    never_alone : (condition : HeaderView → Type 0) → OwnsBy j site image (λ alone h. (alone ≡ true) × condition h) → IsSome (known_header k site image) → ⊥
+    never_alone : (condition : HeaderView → Type 0) → OwnsBy j site image (λ sharing h. (sharing ≡ Alone) × condition h) → IsSome (known_header k site image) → ⊥
     never_alone condition owns known =
-        true≢false (sym owns.meets.0 ∙ sym (ap is_own_alone owns.is) ∙ (both_shared (λ alone h. (alone ≡ true) × condition h) owns known).other)
+        true≢false (sym (ap is_alone owns.meets.0) ∙ sym (ap is_own_alone owns.is) ∙ (both_shared (λ sharing h. (sharing ≡ Alone) × condition h) owns known).other)
 
     -- What another may change is none of what is known.
-    pub known_apart : (condition : (alone : Bool) → HeaderView → Type 0) → OwnsBy j site image condition → (object : ℕ) → LeavesObject site image object r you me j k
+    pub known_apart : (condition : Sharing → HeaderView → Type 0) → OwnsBy j site image condition → (object : ℕ) → LeavesObject site image object r you me j k
         → IsSome (known_header k site image) → (n : ℕ) → KnowsOf k site image n → n ≢ object
     known_apart condition owns object may known n knows same =
         may (served, free) (ap is_some (own_known j site image condition owns)) known (subst (KnowsOf k site image) same knows)
@@ -48,11 +51,16 @@ module _ (site : SiteId) (r : Records) (k j : Knowledge) (me you : Instance) (t 
         let was = t.mapped free image known in
         let shared : GoBesideOthers site image k j = both_shared _ owns known in
         record {
-          raised = λ n marked. set_elsewhere (r.maps image None) object state n (known_apart _ owns object may known n (inl marked)) (was.raised n marked);
+          raised = λ view n marked. still view n marked (was.raised view n marked);
           states = λ alone. absurd (true≢false (sym alone ∙ shared.one));
           count = λ alone. absurd (true≢false (sym alone ∙ shared.one));
           put = λ alone. absurd (true≢false (sym alone ∙ shared.one));
         }
+      where
+        still : (view : Option ℕ) (n : ℕ) → is_raised view n (maps_of k.maps site image).raised ≡ true → map_state_in (r.maps image view) n ≢ 0
+            → map_state_in (maps_behind (r.maps image) (states.Set None object state) view) n ≢ 0
+        still None n marked was = set_elsewhere (r.maps image None) object state n (known_apart _ owns object may known n (inl marked)) was
+        still (Some snap) n marked was = was
 
     -- who removed the header of an image meets nobody who knows it
     never_left : IsLeftOver j site image → IsSome (known_header k site image) → ⊥
@@ -97,7 +105,7 @@ module _ (site : SiteId) (r : Records) (k j : Knowledge) (me you : Instance) (t 
     no_header (inl drawn) = (t.drawn image drawn).header
     no_header (inr gone) = (t.gone image gone).header
 
-    never_owned : (condition : (alone : Bool) → HeaderView → Type 0) → OwnsBy j site image condition → KnowsNoHeader k site image → ⊥
+    never_owned : (condition : Sharing → HeaderView → Type 0) → OwnsBy j site image condition → KnowsNoHeader k site image → ⊥
     never_owned condition owns without = not_waiting site r you j image condition u served owns (no_header without)
 
     -- the other didn't draw the id, nor remove the header

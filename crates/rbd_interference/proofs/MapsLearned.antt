@@ -1,7 +1,7 @@
 -- What a request learns of object maps by its own operations is true.
-use Rattle.std.proofs.Common.{◌≡◌, ◌≢◌, inl, inr, ℕ, ◌*◌, ◌<◌, ◌≤◌, cond, true, false, List, [], length, get_or, set, unwrap_or, Option, Some, None, option_map, refl, sym, ap, ◌∙◌, subst, arith}
+use Rattle.std.proofs.Common.{◌≡◌, ◌≢◌, inl, inr, ℕ, ◌*◌, ◌<◌, ◌≤◌, cond, true, false, List, [], length, get_or, set, unwrap_or, Option, Some, None, option_map, refl, sym, ap, ◌∙◌, subst, arith, ◌==◌, Bool}
 use Rattle.std.specs.Prelude.{IsFalse, IsSome, is_some}
-use Rattle.std.proofs.lemmas.Bool.{eq-eqb, ne_eqb}
+use Rattle.std.proofs.lemmas.Bool.{eq-eqb, ne_eqb, true≢false}
 use Rattle.std.proofs.lemmas.List.{length-set}
 use Rattle.std.proofs.lemmas.Option.{none-some, same_Some}
 use Rattle.rbd_kinds.specs.declared.answer.Answer.{Answer}
@@ -13,9 +13,10 @@ use Rattle.rbd_kinds.specs.declared.id.SiteId.TheVariants as sites
 use Rattle.rbd_kinds.specs.declared.map_op.MapOp.{MapOp}
 use Rattle.rbd_kinds.specs.declared.map_op.MapOp.TheVariants as states
 use Rattle.rbd_kinds.specs.declared.operation.Op.TheVariants as op
-use Rattle.rbd_machine.specs.Knowledge.{ImageMaps, Knowledge, MapsKnown, is_at, is_drawn, is_fenced_by, learned_of_map, maps_of, maps_told, marks_after, objects_known_of, states_set, unmapped}
+use Rattle.rbd_machine.specs.Knowledge.{ImageMaps, Knowledge, MapsKnown, is_at, is_drawn, is_fenced_by, learned_of_map, maps_of, maps_told, marks_after, objects_known_of, states_set, unmapped, is_raised, marks_apart}
 use Rattle.rbd_machine.specs.Permits.{HasRoomFor, PermitsOnMap, OwnsBy, OwnsAlone, MayPut, MaySet}
 use Rattle.rbd_object.specs.Mapped.{Mapped}
+use Rattle.rbd_machine.proofs.AtLeast.{marks_of_others}
 use Rattle.rbd_machine.proofs.Lawful.{told_first}
 use Rattle.rbd_map.specs.States.{bits_of, states_of}
 use Rattle.rbd_site.specs.InForm.{AreInForm}
@@ -30,7 +31,7 @@ use Rattle.rbd_interference.proofs.Each.{IsKnownAs, IsTrueOfImage, each_true, ob
 use Rattle.rbd_interference.proofs.Headers.{not_waiting, owned_there}
 use Rattle.rbd_interference.proofs.MapsBehind.{maps_behind, maps_here, maps_there, nothing_mapped, with_view}
 use Rattle.rbd_interference.proofs.NoStates.{none_raised, none_there}
-use Rattle.rbd_interference.proofs.States.{IsMarked, IsNew, WasThere, count_kept, lengthened_state, long_enough, raised_now, raised_still, set_elsewhere, states_changed, states_told, was_marked}
+use Rattle.rbd_interference.proofs.States.{IsMarked, IsNew, WasThere, count_kept, lengthened_state, long_enough, raised_now, raised_still, set_elsewhere, states_changed, states_told, was_marked, marked_apart}
 
 -- ---- what is known of an image's maps from now on
 
@@ -96,13 +97,17 @@ module _ (site : SiteId) (r : Records) (me : Instance) (k : Knowledge) (most : �
   resized count permits =
       told_true (states.Resize count) (record { raised = known_of_it.raised; states = None; count = Some count; put = None }) permits
       (λ known. let was = t.mapped free image known in record {
-        raised = λ n marked zeroed. was.raised n marked (sym (lengthened_state (r.maps image None) count n) ∙ zeroed);
+        raised = λ view n marked. longer view n (was.raised view n marked);
         states = λ alone told e. absurd (none-some told e);
         count = λ alone. long;
         put = λ alone snap e. absurd (none-some snap e);
       })
       (λ without. long)
     where
+      longer : (view : Option ℕ) (n : ℕ) → map_state_in (r.maps image view) n ≢ 0 → map_state_in (maps_behind (r.maps image) (states.Resize count) view) n ≢ 0
+      longer None n raised = λ zeroed. raised (sym (lengthened_state (r.maps image None) count n) ∙ zeroed)
+      longer (Some t) n raised = raised
+
       long : HasAtLeast count (Some (lengthened count (unwrap_or (r.maps image None) [])))
       long = record { there = lengthened count (unwrap_or (r.maps image None) []); is = refl; long = long_enough count (unwrap_or (r.maps image None) []) }
 
@@ -122,15 +127,25 @@ module _ (site : SiteId) (r : Records) (me : Instance) (k : Knowledge) (most : �
 
   put_there : (snap : ℕ) (bits : List ℕ) → OwnsAlone k site image (MayPut known_of_it snap bits) → Teaches (states.Put (Some snap) bits) answer.Done
   put_there snap bits owns =
-      told_true (states.Put (Some snap) bits) (record known_of_it { put = Some snap }) owns
+      told_true (states.Put (Some snap) bits) (record known_of_it { raised = marks_apart (Some snap) known_of_it.raised; put = Some snap }) owns
       (λ known. let was = t.mapped free image known in record {
-        raised = was.raised;
+        raised = λ view n marked. others view n was marked;
         states = was.states;
         count = was.count;
         put = λ alone s e. subst (λ n. IsPutAs (maps_behind (r.maps image) (states.Put (Some snap) bits) (Some n)) (r.maps image None)) (same_Some snap s e) (copied (was.states alone (states_of bits (4 * length bits)) owns.meets.1.told));
       })
       (t.counted image)
     where
+      -- it knows no state of the new map
+      others : (view : Option ℕ) (n : ℕ) → AreMapsTrue (is_alone_on k site image) (r.maps image) known_of_it → is_raised view n (marks_apart (Some snap) known_of_it.raised) ≡ true
+          → map_state_in (maps_behind (r.maps image) (states.Put (Some snap) bits) view) n ≢ 0
+      others None n was marked = was.raised None n (sym (marks_of_others None (Some snap) n known_of_it.raised) ∙ marked)
+      others (Some t) n was marked = by (t == snap) (sym (marks_of_others (Some t) (Some snap) n known_of_it.raised) ∙ marked)
+        where
+          by : (b : Bool) → cond b false (is_raised (Some t) n known_of_it.raised) ≡ true → map_state_in (cond b (Some (states_of bits (4 * length bits))) (r.maps image (Some t))) n ≢ 0
+          by true gone = absurd (true≢false (sym gone))
+          by false there = was.raised (Some t) n there
+
       copied : AreStatesOf (states_of bits (4 * length bits)) (r.maps image None) → IsPutAs (maps_behind (r.maps image) (states.Put (Some snap) bits) (Some snap)) (r.maps image None)
       copied are = record {
         there = states_of bits (4 * length bits);
@@ -163,7 +178,7 @@ module _ (site : SiteId) (r : Records) (me : Instance) (k : Knowledge) (most : �
       told_true (states.Set None object state)
       (known_set object state) owns
       (λ known. let was = t.mapped free image known in subst (λ map. AreMapsTrue (is_alone_on k site image) (with_view (r.maps image) None (option_map (λ s. set s object state) map)) (known_set object state)) (sym is) (record {
-        raised = λ n e. raised was n (was_marked object state n known_of_it.raised e);
+        raised = λ view n e. at view was n e;
         states = λ alone told e. changed was alone known_of_it.states refl told e;
         count = λ alone. count_kept known_of_it.count there (set there object state) (rw (length-set there object state) (omega arith)) (subst (IsCountTrue known_of_it.count) is (was.count alone));
         put = λ alone snap e. absurd (none-some snap e);
@@ -179,8 +194,13 @@ module _ (site : SiteId) (r : Records) (me : Instance) (k : Knowledge) (most : �
 
       raised : AreMapsTrue (is_alone_on k site image) (r.maps image) known_of_it → (n : ℕ) → IsMarked object state n known_of_it.raised → get_or (set there object state) n 0 ≢ 0
       raised was n (IsNew same raises) = λ zeroed. raised_now there object state within raises (ap (λ i. get_or (set there object state) i 0) same ∙ zeroed)
-      raised was n (WasThere before (inl raises)) = raised_still there object state n within raises (λ zeroed. was.raised n before (ap (λ map. map_state_in map n) is ∙ zeroed))
-      raised was n (WasThere before (inr other)) = set_elsewhere (Some there) object state n other (λ zeroed. was.raised n before (ap (λ map. map_state_in map n) is ∙ zeroed))
+      raised was n (WasThere before (inl raises)) = raised_still there object state n within raises (λ zeroed. was.raised None n before (ap (λ map. map_state_in map n) is ∙ zeroed))
+      raised was n (WasThere before (inr other)) = set_elsewhere (Some there) object state n other (λ zeroed. was.raised None n before (ap (λ map. map_state_in map n) is ∙ zeroed))
+
+      at : (view : Option ℕ) → AreMapsTrue (is_alone_on k site image) (r.maps image) known_of_it → (n : ℕ) → is_raised view n (marks_after None object state known_of_it.raised) ≡ true
+          → map_state_in (with_view (r.maps image) None (Some (set there object state)) view) n ≢ 0
+      at None was n e = raised was n (was_marked object state n known_of_it.raised e)
+      at (Some snap) was n e = was.raised (Some snap) n (marked_apart object state snap n known_of_it.raised e)
 
       changed : AreMapsTrue (is_alone_on k site image) (r.maps image) known_of_it → is_alone_on k site image ≡ true → (known : Option (List ℕ)) → known_of_it.states ≡ known
           → (told : List ℕ) → option_map (λ s. set s object state) known ≡ Some told → AreStatesOf told (Some (set there object state))

@@ -1,5 +1,5 @@
 -- What is known of objects stays true under what is permitted to others.
-use Rattle.std.proofs.Common.{◌≡◌, ◌≢◌, inl, inr, ℕ, Bool, Option, Some, refl, sym, ap, ◌∙◌, subst, true≢false}
+use Rattle.std.proofs.Common.{◌≡◌, ◌≢◌, inl, inr, ℕ, Option, Some, refl, sym, ap, ◌∙◌, subst, true≢false}
 use Rattle.std.specs.Prelude.{IsFalse, IsSome, is_some}
 use Rattle.rbd_kinds.specs.declared.data_op.DataOp.{DataOp}
 use Rattle.rbd_kinds.specs.declared.data_op.DataOp.TheVariants as object
@@ -9,6 +9,7 @@ use Rattle.rbd_kinds.specs.declared.id.Instance.{Instance}
 use Rattle.rbd_kinds.specs.declared.id.SiteId.{SiteId}
 use Rattle.rbd_kinds.specs.declared.operation.Op.{Op}
 use Rattle.rbd_kinds.specs.declared.operation.Op.TheVariants as op
+use Rattle.rbd_kinds.specs.declared.sharing.Sharing.{Sharing}
 use Rattle.rbd_object.specs.Mapped.{Mapped}
 use Rattle.rbd_machine.specs.Knowledge.{Knowledge, objects_known_of}
 use Rattle.rbd_machine.specs.Permits.{Permits, PermitsOnObject, IsLeftOver, OwnsBy}
@@ -50,7 +51,7 @@ module _ (site : SiteId) (r : Records) (k j : Knowledge) (me you : Instance) (t 
     objects_then = object_at (after_served r you (op.Data image number o)) image
 
     -- where another owns the image too
-    owned_beside : (condition : (alone : Bool) → HeaderView → Type 0) → OwnsBy j site image condition → LeavesObject site image number r you me j k → AreObjects image objects_then
+    owned_beside : (condition : Sharing → HeaderView → Type 0) → OwnsBy j site image condition → LeavesObject site image number r you me j k → AreObjects image objects_then
     owned_beside condition owns may h known =
         let some : IsSome (known_header k site image) = ap is_some known in
         let was = t.objects free image h known in

@@ -13,6 +13,7 @@ use Rattle.rbd_kinds.specs.declared.id.Instance.{Instance}
 use Rattle.rbd_kinds.specs.declared.id.SiteId.{SiteId}
 use Rattle.rbd_kinds.specs.declared.layout.Part.{Part}
 use Rattle.rbd_kinds.specs.declared.operation.Op.TheVariants as op
+use Rattle.rbd_kinds.specs.declared.sharing.Sharing.{Sharing}
 use Rattle.rbd_kinds.specs.Striping.{IsLayout}
 use Rattle.rbd_kinds.proofs.Images.{at_itself}
 use Rattle.rbd_layout.specs.Pieces.{IsPart}
@@ -93,7 +94,7 @@ module _ (site : SiteId) (r : Records) (me : Instance) (k : Knowledge) (most : �
 
   -- ---- by one who owns the image
 
-  module _ (condition : (alone : Bool) → HeaderView → Type 0) (owns : OwnsBy k site image condition) where
+  module _ (condition : Sharing → HeaderView → Type 0) (owns : OwnsBy k site image condition) where
     undrawn : is_drawn k.drawn site image ≡ true → ⊥
     undrawn drawn = not_waiting site r me k image condition t free owns (t.drawn image drawn).header
 
@@ -133,7 +134,7 @@ module _ (site : SiteId) (r : Records) (me : Instance) (k : Knowledge) (most : �
   abbrev Teaches : DataOp → Answer → Type 0
   Teaches o a = IsTrueAt site (doing o) me (learned_of_object k site image number o a)
 
-  written : (context : SnapContext) (must : Bool) (parts : List Part) (bytes : List ℕ) (condition : (alone : Bool) → HeaderView → Type 0) → OwnsBy k site image condition
+  written : (context : SnapContext) (must : Bool) (parts : List Part) (bytes : List ℕ) (condition : Sharing → HeaderView → Type 0) → OwnsBy k site image condition
       → (found : Bool) → finds must (object_at r image number) ≡ found → Teaches (object.Write context must parts bytes) (done_where found)
   written context must parts bytes condition owns false is =
       refused (object.Write context must parts bytes)

@@ -92,6 +92,27 @@ was_marked object state n raised is = of (cases_eq state 0)
     of (inl zeroed) = let (was, other) = mark_left object n raised (now true (eq-eqb state 0 zeroed)) in WasThere was (inr other)
     of (inr raises) = by (object == n) refl (omega (arith, raises)) (now false (ne_eqb state 0 raises))
 
+-- a mark that is left on a list was on it
+left_raised : (p : Mark → Bool) (view : Option ℕ) (n : ℕ) (raised : List Mark) → is_raised view n (filter p raised) ≡ true → is_raised view n raised ≡ true
+left_raised p view n [] is = is
+left_raised p view n (m ∷ raised) is = by (p m) (is_mark view n m) refl is (left_raised p view n raised)
+  where
+    rest : List Mark
+    rest = filter p raised
+
+    by : (a b : Bool) → is_mark view n m ≡ b → is_raised view n (cond a (m ∷ rest) rest) ≡ true → (is_raised view n rest ≡ true → is_raised view n raised ≡ true) → cond b true (is_raised view n raised) ≡ true
+    by a true there is more = refl
+    by true false there is more = more (sym (ap (λ b. cond b true (is_raised view n rest)) there) ∙ is)
+    by false false there is more = more is
+
+-- what is set of the head's map leaves the marks of snapshots
+pub marked_apart : (object state snap n : ℕ) (raised : List Mark) → is_raised (Some snap) n (marks_after None object state raised) ≡ true → is_raised (Some snap) n raised ≡ true
+marked_apart object state snap n raised is = by (state == 0) is
+  where
+    by : (b : Bool) → is_raised (Some snap) n (cond b (filter (λ m. not (is_mark None object m)) raised) (record { view = None; object = object } ∷ raised)) ≡ true → is_raised (Some snap) n raised ≡ true
+    by true is = left_raised (λ m. not (is_mark None object m)) (Some snap) n raised is
+    by false is = is
+
 -- ---- states are told
 
 pub states_told : (states : List ℕ) → IsMapInForm states → AreStatesOf (states_of (bits_of states) (4 * length (bits_of states))) (Some states)

@@ -18,8 +18,11 @@ use Rattle.rbd_kinds.specs.declared.map_op.MapOp.{MapOp}
 use Rattle.rbd_kinds.specs.declared.map_op.MapOp.TheVariants as states
 use Rattle.rbd_kinds.specs.declared.operation.Op.{Op}
 use Rattle.rbd_kinds.specs.declared.operation.Op.TheVariants as op
+use Rattle.rbd_kinds.specs.declared.sharing.Sharing.TheVariants.{Alone}
+use Rattle.rbd_kinds.specs.Sharing.{is_alone}
 use Rattle.rbd_header.specs.Header.{with_size, with_snap, without_snap}
-use Rattle.rbd_machine.specs.Knowledge.{Fence, ImageMaps, ImageObjects, Knowledge, Own, afresh, first_told, header_told, is_at, is_drawn, is_gone, learned, learned_of_directory, learned_of_header, learned_of_listing, learned_of_map, learned_of_object, owns_without, looked_behind, looked_by, looked_under_lock, maps_told, only_there, own_of, known_after_wait, removed_header, same_site, unfenced, with_drawn, without_drawn}
+use Rattle.rbd_machine.specs.Ancestors.{seen_by, told_by}
+use Rattle.rbd_machine.specs.Knowledge.{Fence, ImageMaps, ImageObjects, Knowledge, Own, afresh, first_told, header_told, is_at, is_drawn, is_gone, learned, learned_of_directory, learned_of_header, learned_of_listing, learned_of_map, learned_of_object, learned_own, owns_without, looked_behind, looked_by, looked_under_lock, maps_told, only_there, own_of, known_after_wait, removed_header, same_site, unfenced, with_drawn, without_drawn}
 use Rattle.rbd_machine.specs.Permits.{Permits, PermitsOnHeader, HoldsUnlooked, OwnsAlone}
 use Rattle.rbd_machine.specs.Wait.{Wait}
 use Rattle.rbd_registry.specs.Directory.{id_of}
@@ -36,7 +39,7 @@ use Rattle.rbd_interference.proofs.Headers.{own_known}
 use Rattle.rbd_interference.proofs.Learned.{drawn_left}
 use Rattle.rbd_interference.proofs.MapsLearned.{at_no_other}
 use Rattle.rbd_interference.proofs.Told.{header_changed, told_alone, told_apart, told_here}
-use Rattle.rbd_interference.proofs.Less.{known_beside, left_own, less_beside, waited_less}
+use Rattle.rbd_interference.proofs.Less.{known_beside, left_own, less_beside, telling_less, waited_less}
 
 module _ (site : SiteId) (r : Records) (me you : Instance) (k j : Knowledge) (beside : AreBeside site r me you k j) where
   pub told_beside : (image : ℕ) (change : Option HeaderView → Option HeaderView)
@@ -187,7 +190,7 @@ module _ (site : SiteId) (r : Records) (me you : Instance) (k j : Knowledge) (be
       by None is = beside
       by (Some h) is = gone_beside u image h is
 
--- a look at the header: the first behind the lock, or one more
+-- a look at the header: the one under the lock, or one more
 looked_beside : (site : SiteId) (r : Records) (me you : Instance) (k j : Knowledge) → AreBeside site r me you k j → (image : ℕ) (h : HeaderView) → SharesLock site image r me you k j
     → AreBeside site r me you (header_told site image (first_told h) (looked_behind site image k)) j
 looked_beside site r me you k j beside image h may = by (own_of k.owns site image) refl
@@ -241,15 +244,20 @@ module _ (site : SiteId) (r : Records) (me you : Instance) (k j : Knowledge) (be
   listing_beside i answer.Done = fence_beside site r me you k j beside (record { site = site; instance = i } ∷ k.fenced)
   listing_beside i _ = beside
 
-  pub answered_beside : (o : Op) → IsTrueAt site r you j → Permits k site o → MayAct site r me you k j o → AreBeside site r me you (learned k site o (answer_to r me o)) j
-  answered_beside (op.Directory o) u permits may = directory_beside site r me you k j beside o u
-  answered_beside (op.BlockAdd i) u permits may = listing_beside i (answer_to r me (op.BlockAdd i))
-  answered_beside (op.Header image o) u permits may =
+  own_beside : (o : Op) → IsTrueAt site r you j → Permits k site o → MayAct site r me you k j o → AreBeside site r me you (learned_own k site o (answer_to r me o)) j
+  own_beside (op.Directory o) u permits may = directory_beside site r me you k j beside o u
+  own_beside (op.BlockAdd i) u permits may = listing_beside i (answer_to r me (op.BlockAdd i))
+  own_beside (op.Header image o) u permits may =
       header_beside image o (answer_to r me (op.Header image o)) permits may
       (λ is. subst (λ p. AreBeside site r me you (learned_of_header k site image header.Remove (answer_to r me (op.Header image p))) j) (sym is) (removal_beside site r me you k j beside u image))
-  answered_beside (op.Data image number o) u permits may = object_beside site r me you k j beside image number o (answer_to r me (op.Data image number o))
-  answered_beside (op.Map image o) u permits may = map_beside site r me you k j beside image o (answer_to r me (op.Map image o))
-  answered_beside _ u permits may = elim permits [ ]
+  own_beside (op.Data image number o) u permits may = object_beside site r me you k j beside image number o (answer_to r me (op.Data image number o))
+  own_beside (op.Map image o) u permits may = map_beside site r me you k j beside image o (answer_to r me (op.Map image o))
+  own_beside _ u permits may = elim permits [ ]
+
+  pub answered_beside : (o : Op) → IsTrueAt site r you j → Permits k site o → MayAct site r me you k j o → AreBeside site r me you (learned k site o (answer_to r me o)) j
+  answered_beside o u permits may =
+      let a = answer_to r me o in
+      less_beside site r me you (learned k site o a) (learned_own k site o a) j (telling_less site (learned_own k site o a) (seen_by k.seen site o a) (told_by k.seen k.told site o a)) (own_beside o u permits may)
 
   -- ---- waits
 
@@ -300,8 +308,8 @@ alone_knows site r me you k j image condition free beside owns = by (known_heade
     by : (there : Option HeaderView) → known_header j site image ≡ there → there ≡ None
     by None is = refl
     by (Some h) is =
-        absurd (true≢false (sym owns.meets.0 ∙ sym (ap is_own_alone owns.is)
-        ∙ (beside.shared free image (ap is_some (own_known k site image (λ alone h. (alone ≡ true) × condition h) owns)) (ap is_some is)).one))
+        absurd (true≢false (sym (ap is_alone owns.meets.0) ∙ sym (ap is_own_alone owns.is)
+        ∙ (beside.shared free image (ap is_some (own_known k site image (λ sharing h. (sharing ≡ Alone) × condition h) owns)) (ap is_some is)).one))
 
 -- ---- each beside the other
 

@@ -18,11 +18,14 @@ use Rattle.rbd_kinds.specs.declared.map_op.MapOp.{MapOp}
 use Rattle.rbd_kinds.specs.declared.map_op.MapOp.TheVariants as states
 use Rattle.rbd_kinds.specs.declared.operation.Op.{Op}
 use Rattle.rbd_kinds.specs.declared.operation.Op.TheVariants as op
+use Rattle.rbd_kinds.specs.declared.sharing.Sharing.{Sharing}
+use Rattle.rbd_kinds.specs.Sharing.{is_alone}
 use Rattle.rbd_header.specs.Header.{with_size, with_snap, without_snap}
 use Rattle.rbd_machine.specs.Knowledge.{Knowledge, MapsKnown, ObjectsKnown, Own, afresh, first_told, forgotten, header_told, is_absent, is_at, is_raised, learned, learned_of_directory, learned_of_header, learned_of_listing, learned_of_map, learned_of_object, looked_behind, looked_by, looked_under_lock, maps_of, maps_told, marks_after, nothing_known, objects_known_of, only_there, own_of, known_after_wait, removed_header, unmapped}
 use Rattle.rbd_machine.specs.Permits.{Permits, PermitsOnMap, PermitsOnObject, HasTurn, MaySet, OwnsBy}
 use Rattle.rbd_machine.specs.Wait.{Wait}
 use Rattle.rbd_machine.specs.Wait as wait
+use Rattle.rbd_machine.proofs.AtLeast.{marks_of_others}
 use Rattle.rbd_interference.specs.Truth.{header_of_own, is_alone_on, is_own_alone, known_header}
 use Rattle.rbd_interference.specs.Turns.{KnowsInTurn, KnowsOf}
 use Rattle.rbd_interference.proofs.Less.{IsLess, knew_of, left_own, nothing_afresh, nothing_known_of, place_of, waited_less}
@@ -93,7 +96,7 @@ module _ (k : Knowledge) (was : KnowsInTurn k) (site : SiteId) (image : ℕ) whe
   absent_before shared object gone = was site image shared.0 shared.1 object (inr gone)
 
   -- who isn't alone acts in its turn
-  at_turn : (condition : (alone : Bool) → HeaderView → Type 0) (owns : OwnsBy k site image condition) (number : ℕ) → HasTurn owns.alone k.turn number → IsShared → k.turn ≡ Some number
+  at_turn : (condition : Sharing → HeaderView → Type 0) (owns : OwnsBy k site image condition) (number : ℕ) → HasTurn (is_alone owns.sharing) k.turn number → IsShared → k.turn ≡ Some number
   at_turn condition owns number turn shared = subst (λ alone. HasTurn alone k.turn number) (sym (ap is_own_alone owns.is) ∙ shared.1) turn
 
   -- ---- by its operations
@@ -109,7 +112,7 @@ module _ (k : Knowledge) (was : KnowsInTurn k) (site : SiteId) (image : ℕ) whe
   map_in_turn : (o : MapOp) (a : Answer) → PermitsOnMap k site image o → KnowsInTurn (learned_of_map k site image o a)
   map_in_turn (states.Resize count) answer.Done permits = maps_in_turn _ raised_before
   map_in_turn (states.Get None) (answer.Bits bits) permits = maps_in_turn _ raised_before
-  map_in_turn (states.Put (Some snap) bits) answer.Done permits = maps_in_turn _ raised_before
+  map_in_turn (states.Put (Some snap) bits) answer.Done permits = maps_in_turn _ (λ shared object raised. raised_before shared object (sym (marks_of_others None (Some snap) object (maps_of k.maps site image).raised) ∙ raised))
   map_in_turn (states.Set None object state) answer.Done permits = maps_in_turn _ (set_in_turn object state permits)
   map_in_turn (states.Set (Some snap) object state) a permits = elim permits [ ]
   map_in_turn (states.Remove view) answer.Done permits = maps_in_turn unmapped (λ shared object raised. absurd (true≢false (sym raised)))
@@ -139,7 +142,7 @@ module _ (k : Knowledge) (was : KnowsInTurn k) (site : SiteId) (image : ℕ) whe
   object_in_turn number (object.CopyUp bytes) a permits = elim permits [ ]
   object_in_turn number _ _ permits = was
 
-  -- at its first look behind the lock it forgets what it knew of objects
+  -- at its look under the lock it forgets what it knew of objects
   looked_in_turn : (h : HeaderView) → KnowsInTurn (header_told site image (first_told h) (looked_behind site image k))
   looked_in_turn h = by (own_of k.owns site image) refl
     where
@@ -198,7 +201,7 @@ pub applied_unknown : (site there : SiteId) (k : Knowledge) (image object of : �
 applied_unknown site there k image object of knows = nothing_known_of k.maps None k site image object knows
 
 pub waited_in_turn : (k : Knowledge) (w : Wait) → KnowsInTurn k → KnowsInTurn (known_after_wait k w)
-waited_in_turn k (wait.Join there image alone) was = was
+waited_in_turn k (wait.Join there image sharing) was = was
 waited_in_turn k (wait.Hold there image) was = less_in_turn (known_after_wait k (wait.Hold there image)) k (λ site. waited_less site k (wait.Hold there image)) refl was
 waited_in_turn k (wait.Turn turn) was = λ site image some shared object knows. absurd (turned_unknown site k image object turn knows)
 waited_in_turn k (wait.Applied there of) was = λ site image some shared object knows. absurd (applied_unknown site there k image object of knows)

@@ -9,6 +9,9 @@ use Rattle.rbd_kinds.specs.declared.header.HeaderView.{HeaderView}
 use Rattle.rbd_kinds.specs.declared.header.ParentLink.{ParentLink}
 use Rattle.rbd_kinds.specs.declared.id.Instance.{Instance}
 use Rattle.rbd_kinds.specs.declared.id.SiteId.{SiteId}
+use Rattle.rbd_kinds.specs.declared.sharing.Sharing.{Sharing}
+use Rattle.rbd_kinds.specs.declared.sharing.Sharing.TheVariants.{Shared}
+use Rattle.rbd_kinds.specs.Sharing.{is_alone}
 use Rattle.rbd_object.specs.Mapped.{Mapped, mapped_blank}
 use Rattle.rbd_flat.specs.Flat.{Flat, after}
 use Rattle.rbd_flat.specs.declared.effect.Effect.{Effect}
@@ -39,13 +42,21 @@ IsStill None there = Unit {0}
 IsStill (Some known) None = ⊥
 IsStill (Some known) (Some there) = there ≡ record known { owner = there.owner }
 
--- whether the request is alone on an image
+-- beside which others the request goes on an image; where it waited for no lock, beside all that
+-- aren't alone
+abbrev pub sharing_of_own : Option Own → Sharing
+sharing_of_own None = Shared
+sharing_of_own (Some o) = o.sharing
+
+abbrev pub sharing_on : Knowledge → SiteId → (image : ℕ) → Sharing
+sharing_on k site image = sharing_of_own (own_of k.owns site image)
+
+-- whether it goes beside none
 abbrev pub is_own_alone : Option Own → Bool
-is_own_alone None = false
-is_own_alone (Some o) = o.alone
+is_own_alone own = is_alone (sharing_of_own own)
 
 abbrev pub is_alone_on : Knowledge → SiteId → (image : ℕ) → Bool
-is_alone_on k site image = is_own_alone (own_of k.owns site image)
+is_alone_on k site image = is_alone (sharing_on k site image)
 
 -- ---- object maps
 
@@ -88,11 +99,12 @@ abbrev pub IsCountTrue : Option ℕ → (map : Option (List ℕ)) → Type 0
 IsCountTrue None map = Unit {0}
 IsCountTrue (Some count) map = HasAtLeast count map
 
--- What is known of an image's maps is true: an object's state in the head's map that was raised
--- isn't 0. A request that is alone on the image knows the head's states as they are, how long its
--- map is at least, and that a map which it put still has them.
+-- What is known of an image's maps is true: an object's state that was raised, in the map of the
+-- head or of a snapshot, isn't 0. A request that is alone on the image knows the head's states as
+-- they are, how long its map is at least, and that a map which it put still has them.
 pub record AreMapsTrue (alone : Bool) (maps : Maps) (m : MapsKnown) : Type 0 where
-  pub raised : (object : ℕ) → is_raised None object m.raised ≡ true → map_state_in (maps None) object ≢ 0
+  pub raised : (view : Option ℕ) (object : ℕ) → is_raised view object m.raised ≡ true
+      → map_state_in (maps view) object ≢ 0
   pub states : alone ≡ true → (states : List ℕ) → m.states ≡ Some states → AreStatesOf states (maps None)
   pub count : alone ≡ true → IsCountTrue m.count (maps None)
   pub put : alone ≡ true → (snap : ℕ) → m.put ≡ Some snap → IsPutAs (maps (Some snap)) (maps None)

@@ -24,7 +24,7 @@
 //! | an id that it drew | it waits for its header: no object of it was changed |
 //! | an image whose header it removed | it has none, and its id isn't drawn again |
 //! | an instance that it fenced | it is in the site's blocklist |
-//! | a state that it raised in the head's map | it isn't 0 |
+//! | a state that it raised in the map of the head or a snapshot | it isn't 0 |
 //! | an object that it removed | it isn't there |
 //! | alone: the states of the head's map | the map has them, and no other |
 //! | alone: how long that map is | the map is there, and as long at least |

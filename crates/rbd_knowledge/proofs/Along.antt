@@ -3,7 +3,6 @@ use Rattle.std.proofs.Common.{◌≡◌, ℕ, ◌&&◌, cond, Bool, true, false,
 use Rattle.std.specs.Prelude.{IsSome, is_some}
 use Rattle.std.proofs.lemmas.Bool.{true≢false, and_parts}
 use Rattle.std.proofs.lemmas.Option.{none-some, same_Some}
-use Rattle.rbd_kinds.specs.Sharing.{is_alone}
 use Rattle.rbd_machine.specs.Course.{Course, PlaceInLine, answered, waited, noted, course_past_look, past, is_newcomer_at, looks_under_lock_at, is_waiting, has_just_joined, held_stage}
 use Rattle.rbd_machine.specs.Course as course
 use Rattle.rbd_machine.specs.Orderly.{IsInLine, MayWait}
@@ -28,7 +27,7 @@ use Rattle.rbd_kinds.specs.declared.operation.Op.TheVariants as op
 use Rattle.rbd_header.specs.Header.{with_size, with_snap, without_snap}
 use Rattle.rbd_queue.specs.Line.{is_past}
 use Rattle.rbd_queue.proofs.Fair.{stays_past}
-use Rattle.rbd_machine.specs.Knowledge.{ImageMaps, ImageObjects, Knowledge, Own, learned_of_map, learned_of_object, looked_by, looked_under_lock, own_of, is_at, told_of, with_header, header_told, first_told, learned, learned_of_directory, learned_of_header, learned_of_listing, known_after_wait, owns_when_held, owns_without}
+use Rattle.rbd_machine.specs.Knowledge.{ImageMaps, ImageObjects, Knowledge, Own, learned_of_map, learned_of_object, looked_by, looked_under_lock, own_of, is_at, told_of, with_header, header_told, first_told, learned, learned_of_directory, learned_of_header, learned_of_listing, learned_own, known_after_wait, owns_when_held, owns_without}
 use Rattle.rbd_machine.specs.Wait.{Wait}
 use Rattle.rbd_machine.specs.Wait as wait
 use Rattle.rbd_interference.specs.Truth.{header_of_own}
@@ -62,9 +61,9 @@ not_both stage.Past waits past = true≢false (sym waits)
 
 -- ---- what it is told of the image that it owns
 
-told_alone : (change : Option HeaderView → Option HeaderView) (o : Own) (b : Bool) → (cond b (with_header change o) o).alone ≡ o.alone
-told_alone change o true = refl
-told_alone change o false = refl
+told_sharing : (change : Option HeaderView → Option HeaderView) (o : Own) (b : Bool) → (cond b (with_header change o) o).sharing ≡ o.sharing
+told_sharing change o true = refl
+told_sharing change o false = refl
 
 first_some : (h : HeaderView) (known : Option HeaderView) → is_some (first_told h known) ≡ true
 first_some h None = refl
@@ -81,7 +80,7 @@ module _ (site : SiteId) (image : ℕ) (o : Own) where
       by : (b : Bool) → OwnsAt site image (cond b (with_header change o) o) p
       by true = record {
         there = owns.there;
-        alone = owns.alone;
+        sharing = owns.sharing;
         waits = owns.waits;
         past = λ some. owns.past (keeps o.header some);
         told = λ past. makes o.header (owns.told past);
@@ -94,7 +93,7 @@ module _ (site : SiteId) (image : ℕ) (o : Own) where
   looked_in s i h None own there owns = owns
   looked_in s i h (Some p) own there owns = record {
     there = owns.there;
-    alone = told_alone (first_told h) o (is_at s i o.site o.image) ∙ owns.alone;
+    sharing = told_sharing (first_told h) o (is_at s i o.site o.image) ∙ owns.sharing;
     waits = refl;
     past = λ some. refl;
     told = λ past. ap (λ b. is_some (cond b (with_header (first_told h) o) o).header) here ∙ first_some h o.header;
@@ -119,7 +118,7 @@ module _ (site : SiteId) (image : ℕ) (o : Own) where
           at_through s site p.site i image p.image (meets s site o.site i image o.image here there) owns.there in
           record {
             there = owns.there;
-            alone = owns.alone;
+            sharing = owns.sharing;
             waits = owns.waits;
             past = λ some. past_else p.stage owns.waits (not_waiting at_place);
             told = λ past. first_some h o.header;
@@ -135,9 +134,9 @@ by_edit : (edit : HeaderView → HeaderView) (h : Option HeaderView) → IsSome 
 by_edit edit None some = some
 by_edit edit (Some h) some = refl
 
-past_alone : (k : Knowledge) (place : Option PlaceInLine) (p : PlaceInLine) → ((q : PlaceInLine) → place ≡ Some q → k.alone ≡ q.alone) → past place ≡ Some p → k.alone ≡ p.alone
-past_alone k None p alone is = absurd (none-some p is)
-past_alone k (Some q) p alone is = alone q refl ∙ ap (λ (x : PlaceInLine). x.alone) (same_Some (record q { stage = stage.Past }) p is)
+past_sharing : (k : Knowledge) (place : Option PlaceInLine) (p : PlaceInLine) → ((q : PlaceInLine) → place ≡ Some q → k.sharing ≡ q.sharing) → past place ≡ Some p → k.sharing ≡ p.sharing
+past_sharing k None p sharing is = absurd (none-some p is)
+past_sharing k (Some q) p sharing is = sharing q refl ∙ ap (λ (x : PlaceInLine). x.sharing) (same_Some (record q { stage = stage.Past }) p is)
 
 -- a header that it knows once it left an image it knew before
 left_knew : (k : Knowledge) (s : SiteId) (i : ℕ) (site : SiteId) (image : ℕ) → IsSome (header_of_own (own_of (owns_without s i k.owns) site image)) → IsSome (header_of_own (own_of k.owns site image))
@@ -163,7 +162,7 @@ module _ (e : Option Extent) (k : Knowledge) (c : Course) (t : IsTied k c) where
   edited_tied : (s : SiteId) (i : ℕ) (edit : HeaderView → HeaderView) → IsTied (header_told s i (option_map edit) k) c
   edited_tied s i edit = record {
     owns = told_owns s i (option_map edit) c.place (λ site image o is. edited_in site image o s i (option_map edit) (of_edit edit) (by_edit edit) c.place (t.owns site image o is));
-    alone = t.alone;
+    sharing = t.sharing;
     turn = λ site image some. t.turn site image (told_knew s site i image (option_map edit) k.owns (edit_knew s i edit (own_of k.owns s i)) some);
   }
 
@@ -193,7 +192,7 @@ module _ (e : Option Extent) (k : Knowledge) (c : Course) (t : IsTied k c) where
   looked_tied s i h turn maps objects own quiet = record {
     owns = told_owns s i (first_told h) (past c.place)
         (λ site image o is. looked_in site image o s i h c.place own (own_there k.owns site image o is) (t.owns site image o is));
-    alone = λ p is. past_alone k c.place p t.alone is;
+    sharing = λ p is. past_sharing k c.place p t.sharing is;
     turn = λ site image some. by (header_changed (first_told h) (own_of k.owns s i)) refl site image some;
   }
     where
@@ -207,7 +206,7 @@ module _ (e : Option Extent) (k : Knowledge) (c : Course) (t : IsTied k c) where
   seen_tied s i h other = record {
     owns = told_owns s i (first_told h) c.place
         (λ site image o is. seen_in site image o s i h c.place other (own_there k.owns site image o is) (t.owns site image o is));
-    alone = t.alone;
+    sharing = t.sharing;
     turn = λ site image some. t.turn site image (told_knew s site i image (first_told h) k.owns (knew (own_of k.owns s i) refl) some);
   }
     where
@@ -236,11 +235,11 @@ module _ (e : Option Extent) (k : Knowledge) (c : Course) (t : IsTied k c) where
 
   header_tied : (s : SiteId) (i : ℕ) (o : HeaderOp) (a : Answer) → (looks_under_lock_at s i c.place ≡ true → c.turn ≡ None) → IsTied (learned_of_header k s i o a) (answered e c s (op.Header i o) a)
   header_tied s i header.Get (answer.Header h) quiet = got_tied s i h (looks_under_lock_at s i c.place) refl quiet (own_of k.owns s i) refl
-  header_tied s i (header.Create view) answer.Done quiet = record { owns = t.owns; alone = t.alone; turn = t.turn }
+  header_tied s i (header.Create view) answer.Done quiet = record { owns = t.owns; sharing = t.sharing; turn = t.turn }
   header_tied s i (header.SetSize to) answer.Done quiet = edited_tied s i (with_size to)
   header_tied s i header.Remove answer.Done quiet = record {
     owns = λ site image o is. t.owns site image o (left_before s site i image k.owns o is).0;
-    alone = t.alone;
+    sharing = t.sharing;
     turn = λ site image some. t.turn site image (left_knew k s i site image some);
   }
   header_tied s i (header.SnapAdd name) (answer.Snap snap) quiet = edited_tied s i (with_snap name)
@@ -251,27 +250,27 @@ module _ (e : Option Extent) (k : Knowledge) (c : Course) (t : IsTied k c) where
   header_tied s i header.Remove _ quiet = t
   header_tied s i (header.SnapAdd name) _ quiet = t
   header_tied s i (header.SnapRemove snap) _ quiet = t
-  header_tied s i (header.LockBreak owner) answer.Done quiet = record { owns = t.owns; alone = t.alone; turn = t.turn }
-  header_tied s i (header.LockBreak owner) answer.Changed quiet = record { owns = t.owns; alone = t.alone; turn = t.turn }
+  header_tied s i (header.LockBreak owner) answer.Done quiet = record { owns = t.owns; sharing = t.sharing; turn = t.turn }
+  header_tied s i (header.LockBreak owner) answer.Changed quiet = record { owns = t.owns; sharing = t.sharing; turn = t.turn }
   header_tied s i (header.LockBreak owner) _ quiet = t
   header_tied s i _ a quiet = t
 
   directory_tied : (s : SiteId) (o : DirectoryOp) (a : Answer) → IsTied (learned_of_directory k s o a) c
-  directory_tied s (directory.Add name) (answer.Id image) = record { owns = t.owns; alone = t.alone; turn = t.turn }
+  directory_tied s (directory.Add name) (answer.Id image) = record { owns = t.owns; sharing = t.sharing; turn = t.turn }
   directory_tied s (directory.Add name) _ = t
   directory_tied s _ a = t
 
   listing_tied : (s : SiteId) (i : Instance) (a : Answer) → IsTied (learned_of_listing k s i a) c
-  listing_tied s i answer.Done = record { owns = t.owns; alone = t.alone; turn = t.turn }
+  listing_tied s i answer.Done = record { owns = t.owns; sharing = t.sharing; turn = t.turn }
   listing_tied s i _ = t
 
   -- whatever it knows of maps
   maps_tied : (maps : List ImageMaps) → IsTied (record k { maps = maps }) c
-  maps_tied maps = record { owns = t.owns; alone = t.alone; turn = t.turn }
+  maps_tied maps = record { owns = t.owns; sharing = t.sharing; turn = t.turn }
 
   -- whatever it knows of objects
   objects_tied : (objects : List ImageObjects) → IsTied (record k { objects = objects }) c
-  objects_tied objects = record { owns = t.owns; alone = t.alone; turn = t.turn }
+  objects_tied objects = record { owns = t.owns; sharing = t.sharing; turn = t.turn }
 
   object_tied : (s : SiteId) (i n : ℕ) (o : DataOp) (a : Answer) → IsTied (learned_of_object k s i n o a) c
   object_tied s i n (object.Write context must parts bytes) answer.Done = objects_tied _
@@ -291,19 +290,22 @@ module _ (e : Option Extent) (k : Knowledge) (c : Course) (t : IsTied k c) where
   map_tied s i _ _ = t
 
   -- no turn is had before the look under the lock
+  own_tied : (s : SiteId) (o : Op) (a : Answer) → ((i : ℕ) → looks_under_lock_at s i c.place ≡ true → c.turn ≡ None) → IsTied (learned_own k s o a) (answered e c s o a)
+  own_tied s (op.Directory o) a quiet = directory_tied s o a
+  own_tied s (op.Header i o) a quiet = header_tied s i o a (quiet i)
+  own_tied s (op.Data i n o) a quiet = object_tied s i n o a
+  own_tied s (op.BlockAdd i) a quiet = listing_tied s i a
+  own_tied s (op.Map i o) a quiet = map_tied s i o a
+  own_tied s _ a quiet = t
+
   pub answered_tied : (s : SiteId) (o : Op) (a : Answer) → ((i : ℕ) → looks_under_lock_at s i c.place ≡ true → c.turn ≡ None) → IsTied (learned k s o a) (answered e c s o a)
-  answered_tied s (op.Directory o) a quiet = directory_tied s o a
-  answered_tied s (op.Header i o) a quiet = header_tied s i o a (quiet i)
-  answered_tied s (op.Data i n o) a quiet = object_tied s i n o a
-  answered_tied s (op.BlockAdd i) a quiet = listing_tied s i a
-  answered_tied s (op.Map i o) a quiet = map_tied s i o a
-  answered_tied s _ a quiet = t
+  answered_tied s o a quiet = let own = own_tied s o a quiet in record { owns = own.owns; sharing = own.sharing; turn = own.turn }
 
 -- ---- waits
 
 module _ (k : Knowledge) (c : Course) (t : IsTied k c) (site : SiteId) (image : ℕ) where
   abbrev waiting : Own
-  waiting = record { site = site; image = image; alone = k.alone; header = None }
+  waiting = record { site = site; image = image; sharing = k.sharing; header = None }
 
   -- the image whose lock it waits for is that of its line
   waiting_in : (s : SiteId) (i : ℕ) → is_at s i site image ≡ true → (place : Option PlaceInLine) → c.place ≡ place → IsInLine site image place → is_newcomer_at place ≡ true
@@ -311,7 +313,7 @@ module _ (k : Knowledge) (c : Course) (t : IsTied k c) (site : SiteId) (image : 
   waiting_in s i here None is in_line new = in_line
   waiting_in s i here (Some p) is in_line new = record {
     there = at_through s site p.site i image p.image here in_line;
-    alone = t.alone p is;
+    sharing = t.sharing p is;
     waits = held_waits p.stage;
     past = λ some. absurd (true≢false (sym some));
     told = λ past. absurd (held_behind p.stage new past);
@@ -321,7 +323,7 @@ module _ (k : Knowledge) (c : Course) (t : IsTied k c) (site : SiteId) (image : 
   still_in s i o None new owns = owns
   still_in s i o (Some p) new owns = record {
     there = owns.there;
-    alone = owns.alone;
+    sharing = owns.sharing;
     waits = held_waits p.stage;
     past = λ some. stays_past p.stage ∙ owns.past some;
     told = λ past. absurd (held_behind p.stage new past);
@@ -334,9 +336,9 @@ module _ (k : Knowledge) (c : Course) (t : IsTied k c) (site : SiteId) (image : 
       by true here found = subst (λ x. OwnsIn s i x (course.held c.place)) (same_Some waiting o found) (waiting_in s i here c.place refl in_line new)
       by false other found = still_in s i o c.place new (t.owns s i o (left_before site s image i k.owns o found).0)
 
-  held_alone : (place : Option PlaceInLine) (p : PlaceInLine) → c.place ≡ place → course.held place ≡ Some p → k.alone ≡ p.alone
-  held_alone None p at is = absurd (none-some p is)
-  held_alone (Some q) p at is = t.alone q at ∙ ap (λ (x : PlaceInLine). x.alone) (same_Some (record q { stage = held_stage q.stage }) p is)
+  held_sharing : (place : Option PlaceInLine) (p : PlaceInLine) → c.place ≡ place → course.held place ≡ Some p → k.sharing ≡ p.sharing
+  held_sharing None p at is = absurd (none-some p is)
+  held_sharing (Some q) p at is = t.sharing q at ∙ ap (λ (x : PlaceInLine). x.sharing) (same_Some (record q { stage = held_stage q.stage }) p is)
 
   -- who leaves its line owns nothing any more
   none_else : (s : SiteId) (i : ℕ) (o : Own) (place : Option PlaceInLine) → IsInLine site image place → OwnsIn s i o place → is_at s i site image ≡ false → ⊥
@@ -366,21 +368,21 @@ module _ (k : Knowledge) (c : Course) (t : IsTied k c) (site : SiteId) (image : 
 pub waited_tied : (fresh : Bool) (k : Knowledge) (c : Course) (w : Wait) → MayWait fresh c w → IsTied k c → IsTied (known_after_wait k w) (waited c w)
 waited_tied fresh k c (wait.Join site image sharing) may t = record {
   owns = λ s i o is. absurd (subst (OwnsIn s i o) may.1 (t.owns s i o is));
-  alone = λ p is. ap (λ (x : PlaceInLine). x.alone) (same_Some (record { site = site; image = image; alone = is_alone sharing; stage = stage.Joined }) p is);
+  sharing = λ p is. ap (λ (x : PlaceInLine). x.sharing) (same_Some (record { site = site; image = image; sharing = sharing; stage = stage.Joined }) p is);
   turn = t.turn;
 }
 waited_tied fresh k c (wait.Hold site image) may t = record {
   owns = held_owns k c t site image may.0 may.1;
-  alone = λ p is. held_alone k c t site image c.place p refl is;
+  sharing = λ p is. held_sharing k c t site image c.place p refl is;
   turn = λ s i some. t.turn s i (held_knew k c t site image s i some);
 }
-waited_tied fresh k c (wait.Turn object) may t = record { owns = t.owns; alone = t.alone; turn = λ s i some. refl }
-waited_tied fresh k c (wait.Applied site image) may t = record { owns = t.owns; alone = t.alone; turn = λ s i some. refl }
+waited_tied fresh k c (wait.Turn object) may t = record { owns = t.owns; sharing = t.sharing; turn = λ s i some. refl }
+waited_tied fresh k c (wait.Applied site image) may t = record { owns = t.owns; sharing = t.sharing; turn = λ s i some. refl }
 waited_tied fresh k c (wait.Leave site image) may t = record {
   owns = λ s i o is. absurd (left_owns k c t site image may s i o is);
-  alone = λ p is. absurd (none-some p is);
+  sharing = λ p is. absurd (none-some p is);
   turn = λ s i some. absurd (left_knows_none k c t site image may s i some);
 }
 
 pub noted_tied : (k : Knowledge) (c : Course) → IsTied k c → IsTied k (noted c)
-noted_tied k c t = record { owns = t.owns; alone = t.alone; turn = t.turn }
+noted_tied k c t = record { owns = t.owns; sharing = t.sharing; turn = t.turn }

@@ -192,13 +192,13 @@ module _ {R : Type 0} (stands : R → Standing) (c : ClientView R) (knows : ℕ 
               let one = same_Some membership.member p.member (sym membership.found ∙ sym (ap (λ n. member_of n line) same) ∙ p.found) in
               true≢false (sym p.past ∙ sym (ap (λ (x : Member). is_past x.stage) one) ∙ ap is_past waiting)
           go (inr differ) =
-              true≢false (membership.alone ∙ (may_shared line slot p.member.slot membership.member p.member (sound.session.fair site image) (λ same. differ (sym same)) membership.found p.found may p.past).0)
+              true≢false (ap is_alone membership.sharing ∙ (may_shared line slot p.member.slot membership.member p.member (sound.session.fair site image) (λ same. differ (sym same)) membership.found p.found may p.past).0)
 
   pub rests : is_at_rest site image c ≡ true
   rests =
       ap (λ a. not a && not (any_taken site image c.slots)) (nobody_past (any_past line) refl)
       ∙ ap not (none_taken stands c sound slot site image header.LockDrop answer.Done refl wanted
-      (λ other n differ found may_also. alone_goes_first line slot other membership.member n differ membership.found found (sym membership.alone) (ap is_past waiting) may may_also))
+      (λ other n differ found may_also. alone_goes_first line slot other membership.member n differ membership.found found (sym (ap is_alone membership.sharing)) (ap is_past waiting) may may_also))
 
 -- ---- the removal of a header
 
@@ -216,10 +216,10 @@ module _ {R : Type 0} (stands : R → Standing) (c : ClientView R) (knows : ℕ 
 
   is_past_alone : IsPastAlone
   is_past_alone =
-      let own : Own = record { site = site; image = image; alone = owns.alone; header = Some owns.header } in
+      let own : Own = record { site = site; image = image; sharing = owns.sharing; header = Some owns.header } in
       let (r, runs) = runs_who_owns stands c.session knows sound.session all slot site image own owns.is in
       let m = owner_runs stands c.session knows sound.session all slot r runs site image own owns.is in
-      record { member = m.member; found = m.found; alone = sym m.alone ∙ owns.meets.0; past = m.past refl }
+      record { member = m.member; found = m.found; alone = ap is_alone (sym m.sharing ∙ owns.meets.0); past = m.past refl }
 
   -- so no other one may go past its look under the lock
   nobody_passes : (other : ℕ) (n : Member) → slot ≢ other → member_of other line_there ≡ Some n → may_pass other line_there ≡ true → ⊥

@@ -19,6 +19,7 @@ use Rattle.rbd_kinds.specs.declared.id.SiteId.{SiteId}
 use Rattle.rbd_kinds.specs.declared.map_op.MapOp.TheVariants as states
 use Rattle.rbd_kinds.specs.declared.operation.Op.{Op}
 use Rattle.rbd_kinds.specs.declared.operation.Op.TheVariants as op
+use Rattle.rbd_kinds.specs.declared.sharing.Sharing.{Sharing}
 use Rattle.rbd_queue.specs.Line.{Member, changed_member, has_turn, holds_ticket, is_past, may_pass, member_of, passed, slots, IsFairLine}
 use Rattle.rbd_queue.proofs.Fair.{passed_fair}
 use Rattle.rbd_queue.proofs.Passing.{alone_past, found_at, own_changed, others_changed, passed_is_steady}
@@ -91,8 +92,8 @@ module _ (slot other : ℕ) (site : SiteId) (image : ℕ) (o p : Own) (t u : Tra
       sym (ap (may_pass slot) one.line)
       ∙ may_of (awaits_look (course_of slot t).place) (may_pass slot (line_in t.place t.lines)) (ap awaits_look one.place ∙ waiting) (or_parts (awaits_line slot t) (awaits_turn slot t) goes).0
 
-  are_shared : is_past two.member.stage ≡ true → (o.alone ≡ false) × (p.alone ≡ false)
-  are_shared past = let shared = by one.member.stage refl in (one.alone ∙ shared.0, two.alone ∙ shared.1)
+  are_shared : is_past two.member.stage ≡ true → (is_alone o.sharing ≡ false) × (is_alone p.sharing ≡ false)
+  are_shared past = let shared = by one.member.stage refl in (ap is_alone one.sharing ∙ shared.0, ap is_alone two.sharing ∙ shared.1)
     where
       by : (s : Stage) → one.member.stage ≡ s → (is_alone one.member.sharing ≡ false) × (is_alone two.member.sharing ≡ false)
       by stage.Joined is = absurd (true≢false (sym (ap has_just_joined is) ∙ one.waits))
@@ -117,7 +118,7 @@ module _ {R : Type 0} (stands : R → Standing) (s : SessionView R) (knows : ℕ
       by (Some r) runs known = (r, runs)
 
   module _ (slot other : ℕ) (differ : slot ≢ other) (r : Running R) (runs : running_at slot s ≡ Some r) (goes : waits slot (track_of r s.lines) ≡ false) (site : SiteId) (image : ℕ) where
-    owners_shared : (o p : Own) → own_of (knows slot).owns site image ≡ Some o → own_of (knows other).owns site image ≡ Some p → IsSome p.header → (o.alone ≡ false) × (p.alone ≡ false)
+    owners_shared : (o p : Own) → own_of (knows slot).owns site image ≡ Some o → own_of (knows other).owns site image ≡ Some p → IsSome p.header → (is_alone o.sharing ≡ false) × (is_alone p.sharing ≡ false)
     owners_shared o p mine others told =
         let (q, others_run) = runs_who_owns other site image p others in
         let two = owner_runs other q others_run site image p others in
@@ -157,19 +158,19 @@ module _ {R : Type 0} (stands : R → Standing) (s : SessionView R) (knows : ℕ
 
   module _ (slot : ℕ) (site : SiteId) (image number : ℕ) where
     -- who owns an image that it isn't alone on has its turn, where it wants one
-    turn_by : (condition : (alone : Bool) → HeaderView → Type 0) → ((alone : Bool) (h : HeaderView) → condition alone h → HasTurn alone (knows slot).turn number) → OwnsBy (knows slot) site image condition
+    turn_by : (condition : Sharing → HeaderView → Type 0) → ((sharing : Sharing) (h : HeaderView) → condition sharing h → HasTurn (is_alone sharing) (knows slot).turn number) → OwnsBy (knows slot) site image condition
         → is_alone_on (knows slot) site image ≡ false → (knows slot).turn ≡ Some number
-    turn_by condition wants owns shared = subst (λ alone. HasTurn alone (knows slot).turn number) (sym (ap is_own_alone owns.is) ∙ shared) (wants owns.alone owns.header owns.meets)
+    turn_by condition wants owns shared = subst (λ alone. HasTurn alone (knows slot).turn number) (sym (ap is_own_alone owns.is) ∙ shared) (wants owns.sharing owns.header owns.meets)
 
     turn_at : (o : DataOp) → PermitsOnObject (knows slot) site image number o → changes_object o ≡ true → IsSome (known_header (knows slot) site image) → is_alone_on (knows slot) site image ≡ false
         → (knows slot).turn ≡ Some number
     turn_at (object.Read snap parts) permits changes some shared = absurd (true≢false (sym changes))
-    turn_at (object.Write context must parts bytes) permits changes some shared = turn_by _ (λ alone h may. may.at_turn) permits shared
-    turn_at (object.Zero context must parts) permits changes some shared = turn_by _ (λ alone h may. may.at_turn) permits shared
-    turn_at (object.Empty context) permits changes some shared = turn_by _ (λ alone h may. may.at_turn) permits shared
+    turn_at (object.Write context must parts bytes) permits changes some shared = turn_by _ (λ sharing h may. may.at_turn) permits shared
+    turn_at (object.Zero context must parts) permits changes some shared = turn_by _ (λ sharing h may. may.at_turn) permits shared
+    turn_at (object.Empty context) permits changes some shared = turn_by _ (λ sharing h may. may.at_turn) permits shared
     turn_at (object.Remove context) (inl over) changes some shared = absurd (true≢false (sym some ∙ ap (λ o. is_some (header_of_own o)) over.unowned))
-    turn_at (object.Remove context) (inr owns) changes some shared = turn_by _ (λ alone h may. may.at_turn) owns shared
-    turn_at (object.WriteFull context bytes) permits changes some shared = turn_by _ (λ alone h may. may.at_turn) permits shared
+    turn_at (object.Remove context) (inr owns) changes some shared = turn_by _ (λ sharing h may. may.at_turn) owns shared
+    turn_at (object.WriteFull context bytes) permits changes some shared = turn_by _ (λ sharing h may. may.at_turn) permits shared
     turn_at (object.CopyUp bytes) permits changes some shared = absurd permits
 
   pub may_act : (slot other : ℕ) (r : Running R) (site : SiteId) (why : Reason) (o : Op) (next : Answer → Plan) → slot ≢ other → running_at slot s ≡ Some r → waits slot (track_of r s.lines) ≡ false
@@ -197,7 +198,7 @@ module _ {R : Type 0} (stands : R → Standing) (s : SessionView R) (knows : ℕ
       by (op.Data image number (object.WriteFull context bytes)) may = changing image number (object.WriteFull context bytes) may refl
       by (op.Data image number (object.CopyUp bytes)) may = changing image number (object.CopyUp bytes) may refl
       by (op.Map image (states.Set None number state)) may =
-          others_know_nothing slot other differ r runs goes site image number (λ some shared. turn_by slot site image number _ (λ alone h may_set. may_set.at_turn) may shared) records me you
+          others_know_nothing slot other differ r runs goes site image number (λ some shared. turn_by slot site image number _ (λ sharing h may_set. may_set.at_turn) may shared) records me you
       by (op.Map image (states.Set (Some snap) number state)) may = tt
       by (op.Map image o) may = tt
       by _ may = tt

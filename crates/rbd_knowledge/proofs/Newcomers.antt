@@ -20,7 +20,7 @@ use Rattle.rbd_knowledge.specs.Tied.{IsTied}
 nowhere_tied : (slot : ℕ) (t : Track) → t.place ≡ None → IsTied nothing_known (course_of slot t)
 nowhere_tied slot t nowhere = record {
   owns = λ site image o is. absurd (none-some o is);
-  alone = λ p is. absurd (none-some p (sym (nowhere_course slot t nowhere) ∙ is));
+  sharing = λ p is. absurd (none-some p (sym (nowhere_course slot t nowhere) ∙ is));
   turn = λ site image some. absurd (true≢false (sym some));
 }
 

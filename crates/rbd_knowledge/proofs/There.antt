@@ -2,7 +2,6 @@
 use Rattle.std.proofs.Common.{◌≡◌, inl, inr, ℕ, ◌&&◌, not, Bool, true, false, Some, refl, sym, ap, ◌∙◌, subst}
 use Rattle.std.specs.Prelude.{IsSome}
 use Rattle.std.proofs.lemmas.Bool.{true≢false}
-use Rattle.rbd_kinds.specs.Sharing.{is_alone}
 use Rattle.rbd_machine.specs.Course.{has_just_joined}
 use Rattle.rbd_kinds.specs.declared.id.SiteId.{SiteId}
 use Rattle.rbd_queue.specs.Line.{Member, is_past, member_of}
@@ -18,8 +17,8 @@ pub record IsMemberFor (slot : ℕ) (site : SiteId) (image : ℕ) (o : Own) (t :
   pub member : Member
   pub found : member_of slot (t.lines site image) ≡ Some member
   pub line : line_in t.place t.lines ≡ t.lines site image
-  pub place : (course_of slot t).place ≡ Some (record { site = site; image = image; alone = is_alone member.sharing; stage = member.stage })
-  pub alone : o.alone ≡ is_alone member.sharing
+  pub place : (course_of slot t).place ≡ Some (record { site = site; image = image; sharing = member.sharing; stage = member.stage })
+  pub sharing : o.sharing ≡ member.sharing
   pub waits : has_just_joined member.stage ≡ false
   pub past : IsSome o.header → is_past member.stage ≡ true
   pub told : is_past member.stage ≡ true → IsSome o.header
@@ -35,9 +34,9 @@ owner_there slot site image o t (inr (p, m, there)) owns =
       line = ap (λ q. line_in q t.lines) there.place ∙ ap (λ i. t.lines p.site i) (sym same.1) ∙ ap (λ s. t.lines s image) (sym same.0);
       place =
           place_there slot p m t there
-          ∙ ap (λ i. Some (record { site = p.site; image = i; alone = is_alone m.sharing; stage = m.stage })) (sym same.1)
-          ∙ ap (λ s. Some (record { site = s; image = image; alone = is_alone m.sharing; stage = m.stage })) (sym same.0);
-      alone = at.alone;
+          ∙ ap (λ i. Some (record { site = p.site; image = i; sharing = m.sharing; stage = m.stage })) (sym same.1)
+          ∙ ap (λ s. Some (record { site = s; image = image; sharing = m.sharing; stage = m.stage })) (sym same.0);
+      sharing = at.sharing;
       waits = at.waits;
       past = at.past;
       told = at.told;

@@ -22,7 +22,7 @@ use Rattle.rbd_kinds.specs.declared.operation.Op.{Op}
 use Rattle.rbd_kinds.specs.declared.operation.Op.TheVariants as op
 use Rattle.rbd_header.specs.Header.{with_size, with_snap, without_snap}
 use Rattle.rbd_machine.specs.Answers.{CanBeFed}
-use Rattle.rbd_machine.specs.Knowledge.{ImageMaps, ImageObjects, Knowledge, Own, first_told, header_told, is_drawn, is_gone, learned, learned_of_directory, learned_of_header, learned_of_listing, learned_of_map, learned_of_object, looked_under_lock, own_of, told_of}
+use Rattle.rbd_machine.specs.Knowledge.{ImageMaps, ImageObjects, Knowledge, Own, first_told, header_told, is_drawn, is_gone, learned, learned_of_directory, learned_of_header, learned_of_listing, learned_of_map, learned_of_object, learned_own, looked_under_lock, own_of, told_of}
 use Rattle.rbd_machine.specs.Label.{Label}
 use Rattle.rbd_machine.specs.Lawful.{IsLawful}
 use Rattle.rbd_machine.specs.Path.{at_operation}
@@ -92,13 +92,16 @@ module _ (k : Knowledge) (none : OwnsNothing k) where
   object_nothing s i n (object.Remove context) answer.Done = beside_nothing _ _
   object_nothing s i n _ _ = none
 
+  own_nothing : (s : SiteId) (o : Op) (a : Answer) → Permits k s o → OwnsNothing (learned_own k s o a)
+  own_nothing s (op.Directory o) a permits = directory_nothing s o a
+  own_nothing s (op.Header i o) a permits = header_nothing s i o a permits
+  own_nothing s (op.Data i n o) a permits = object_nothing s i n o a
+  own_nothing s (op.BlockAdd i) a permits = listing_nothing s i a
+  own_nothing s (op.Map i o) a permits = map_nothing s i o a
+  own_nothing s _ a permits = none
+
   learned_nothing : (s : SiteId) (o : Op) (a : Answer) → Permits k s o → OwnsNothing (learned k s o a)
-  learned_nothing s (op.Directory o) a permits = directory_nothing s o a
-  learned_nothing s (op.Header i o) a permits = header_nothing s i o a permits
-  learned_nothing s (op.Data i n o) a permits = object_nothing s i n o a
-  learned_nothing s (op.BlockAdd i) a permits = listing_nothing s i a
-  learned_nothing s (op.Map i o) a permits = map_nothing s i o a
-  learned_nothing s _ a permits = none
+  learned_nothing s o a permits = let own = own_nothing s o a permits in record { owns = own.owns; gone = own.gone }
 
 -- no wait stands before its next operation
 calm_way : (plan : Plan) (k : Knowledge) → IsCalm plan → OwnsNothing k → OwnsNothing (known_at_operation k plan)

@@ -1,12 +1,13 @@
 -- What acts for a client, and what it knows. What a request knows is told by the
 -- plans of Knowing.antt; what a way to a lock and a release know, by where they stand.
-use Rattle.std.specs.Prelude.{ℕ, ◌==◌, true, if◌then◌else◌, [], ◌∷◌, Option, Some, None}
+use Rattle.std.specs.Prelude.{ℕ, ◌==◌, if◌then◌else◌, [], ◌∷◌, Option, Some, None}
 use Rattle.rbd_client.specs.declared.actor.Actor.{Actor}
 use Rattle.rbd_client.specs.declared.actor.Actor.TheVariants as actor
 use Rattle.rbd_kinds.specs.declared.id.SiteId.{SiteId}
 use Rattle.rbd_kinds.specs.declared.machine.Fed.{Fed}
 use Rattle.rbd_kinds.specs.declared.reply.Reply.{Reply}
 use Rattle.rbd_kinds.specs.declared.reply.Reply.TheVariants as reply
+use Rattle.rbd_kinds.specs.declared.sharing.Sharing.TheVariants.{Alone}
 use Rattle.rbd_knowledge.specs.Knowing.{knows_after, unless_ended}
 use Rattle.rbd_machine.specs.Knowledge.{Knowledge, Own, nothing_known, with_fence}
 use Rattle.rbd_machine.specs.Plan.{Plan, Return, Standing}
@@ -30,7 +31,7 @@ known_on_way a = known_at_stage a.stage a.site
 
 -- what is known by one who holds the lock of an image, alone, and hasn't looked at its header
 abbrev pub unlooked : SiteId → (image : ℕ) → Own
-unlooked site image = record { site = site; image = image; alone = true; header = None }
+unlooked site image = record { site = site; image = image; sharing = Alone; header = None }
 
 -- a release knows what one knows who waited for the lock, alone, until it has dropped the lock
 abbrev pub known_to_drop : ReleaseStage → SiteId → (image : ℕ) → Knowledge

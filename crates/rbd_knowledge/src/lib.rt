@@ -26,8 +26,8 @@
 //!
 //! # Rules
 //!
-//! - A request owns no image but that of its line, alone exactly where it joined alone. It knows
-//!   the header only once it is past its look under the lock.
+//! - A request owns no image but that of its line, beside the same others as it joined the line. It
+//!   knows the header only once it is past its look under the lock.
 //! - So a request that may go on to that look finds nobody beside it that knows the header and is
 //!   alone, and is alone itself only where nobody knows it.
 //! - Where others change the image too, it knows of an object only in its turn there. It has that

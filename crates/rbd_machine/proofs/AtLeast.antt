@@ -1,6 +1,6 @@
 -- Who knows at least as much stays so, and may do as much.
 use Rattle.std.proofs.Common.{◌≡◌, ◌⊎◌, inl, inr, ℕ, zero, suc, ◌==◌, eqb, cond, not, Bool, true, false, List, [], ◌∷◌, filter, length, ◌*◌, slice_set, Option, Some, None, is_some, option_map, refl, sym, ap, ◌∙◌, subst, arith}
-use Rattle.std.specs.Prelude.{Any, IsSome}
+use Rattle.std.specs.Prelude.{Any, IsSome, ◌&&◌, nat_le}
 use Rattle.std.proofs.lemmas.Bool.{true≢false, and_parts, eqb-true}
 use Rattle.rbd_kinds.specs.declared.answer.Answer.{Answer}
 use Rattle.rbd_kinds.specs.declared.answer.Answer.TheVariants as answer
@@ -19,11 +19,15 @@ use Rattle.rbd_kinds.specs.declared.map_op.MapOp.{MapOp}
 use Rattle.rbd_kinds.specs.declared.map_op.MapOp.TheVariants as states
 use Rattle.rbd_kinds.specs.declared.operation.Op.{Op}
 use Rattle.rbd_kinds.specs.declared.operation.Op.TheVariants as op
+use Rattle.rbd_kinds.specs.declared.sharing.Sharing.{Sharing}
+use Rattle.rbd_kinds.specs.declared.sharing.Sharing.TheVariants.{Alone}
+use Rattle.rbd_kinds.specs.Sharing.{is_alone}
 use Rattle.rbd_kinds.specs.Striping.{object_of}
 use Rattle.rbd_kinds.proofs.Images.{same_site_is}
 use Rattle.rbd_map.specs.States.{states_of}
+use Rattle.rbd_machine.specs.Ancestors.{HeaderSeen, IsAmong, ObjectTold, is_dated, seen_by, told_by, told_when}
 use Rattle.rbd_machine.specs.AtLeast.{AreMapsAtLeast, AreObjectsAtLeast, IsToldToo, KnowsAtLeast}
-use Rattle.rbd_machine.specs.Knowledge.{Blank, Fence, ImageMaps, ImagePlace, Knowledge, MapsKnown, Mark, ObjectsKnown, Own, afresh, blanked, first_told, forgotten, header_told, is_absent, is_at, is_drawn, is_fenced_by, is_mark, is_raised, known_after_wait, learned, learned_of_directory, learned_of_header, learned_of_listing, learned_of_map, learned_of_object, looked_behind, looked_by, looked_under_lock, maps_of, maps_told, marks_after, objects_known_of, only_there, own_of, owns_when_held, owns_without, removed, removed_header, same_site, states_set, unfenced, unmapped, unmarked, with_maps, with_objects, without_drawn, without_fence}
+use Rattle.rbd_machine.specs.Knowledge.{Blank, Fence, ImageMaps, ImagePlace, Knowledge, MapsKnown, Mark, ObjectsKnown, Own, afresh, blanked, first_told, forgotten, header_told, is_absent, is_at, is_drawn, is_fenced_by, is_mark, is_raised, is_view, known_after_wait, learned, learned_of_directory, learned_of_header, learned_of_listing, learned_of_map, learned_of_object, learned_own, looked_behind, looked_by, looked_under_lock, maps_of, maps_told, marks_after, marks_apart, objects_known_of, only_there, own_of, owns_when_held, owns_without, removed, removed_header, same_site, states_set, unfenced, unmapped, unmarked, with_maps, with_objects, without_drawn, without_fence}
 use Rattle.rbd_machine.specs.Label.{Label, IsFit}
 use Rattle.rbd_machine.specs.Lawful.{IsLawful}
 use Rattle.rbd_machine.specs.Permits.{HasTurn, IsInParts, IsLeftOver, IsMappedFor, IsZeroByChange, IsZeroByState, MayMake, MaySize, MayTakeSnap, OwnsAlone, OwnsBy, Permits, PermitsOnDirectory, PermitsOnHeader, PermitsOnMap, PermitsOnObject}
@@ -48,9 +52,9 @@ told_some : {T : Type 0} (more less : Option T) → IsToldToo more less → IsSo
 told_some more None too some = absurd (true≢false (sym some))
 told_some more (Some x) too some = ap is_some too
 
-told_by : {T : Type 0} (f : T → T) (more less : Option T) → IsToldToo more less → IsToldToo (option_map f more) (option_map f less)
-told_by f more None too = tt
-told_by f more (Some x) too = ap (option_map f) too
+told_mapped : {T : Type 0} (f : T → T) (more less : Option T) → IsToldToo more less → IsToldToo (option_map f more) (option_map f less)
+told_mapped f more None too = tt
+told_mapped f more (Some x) too = ap (option_map f) too
 
 -- ---- of maps
 
@@ -160,6 +164,53 @@ marks_more other number state more less l view object = by (state == 0)
         marks_left view other object number more
         ∙ left (is_mark other number (record { view = view; object = object })) (sym (marks_left view other object number less) ∙ is)
     by false is = new (is_mark view object at) is
+
+-- a mark is of one view
+view_of_mark : (view of : Option ℕ) (object : ℕ) (m : Mark) → is_mark view object m ≡ true → is_view m.view of ≡ is_view view of
+view_of_mark None of object m is = by m.view is
+  where
+    by : (v : Option ℕ) → is_mark None object (record { view = v; object = m.object }) ≡ true → is_view v of ≡ is_view None of
+    by None is = refl
+    by (Some t) is = absurd (true≢false (sym is))
+view_of_mark (Some s) of object m is = by m.view is
+  where
+    by : (v : Option ℕ) → is_mark (Some s) object (record { view = v; object = m.object }) ≡ true → is_view v of ≡ is_view (Some s) of
+    by None is = absurd (true≢false (sym is))
+    by (Some t) is = ap (λ n. is_view (Some n) of) (eqb-true t s (and_parts (eqb t s) (eqb m.object object) is).0)
+
+-- the marks that are left once those of one view went
+pub marks_of_others : (view of : Option ℕ) (object : ℕ) (raised : List Mark) → is_raised view object (marks_apart of raised) ≡ cond (is_view view of) false (is_raised view object raised)
+marks_of_others view of object [] = by (is_view view of)
+  where
+    by : (b : Bool) → false ≡ cond b false false
+    by true = refl
+    by false = refl
+marks_of_others view of object (m ∷ raised) = by (is_view m.view of) refl (is_mark view object m) refl (marks_of_others view of object raised)
+  where
+    rest : List Mark
+    rest = marks_apart of raised
+
+    here : Bool
+    here = is_view view of
+
+    by : (a : Bool) → is_view m.view of ≡ a → (b : Bool) → is_mark view object m ≡ b → is_raised view object rest ≡ cond here false (is_raised view object raised)
+        → is_raised view object (cond (not a) (m ∷ rest) rest) ≡ cond here false (cond b true (is_raised view object raised))
+    by true goes true is more =
+        let it : here ≡ true = sym (view_of_mark view of object m is) ∙ goes in
+        more ∙ ap (λ b. cond b false (is_raised view object raised)) it ∙ sym (ap (λ b. cond b false true) it)
+    by true goes false is more = more
+    by false stays true is more =
+        let it : here ≡ false = sym (view_of_mark view of object m is) ∙ stays in
+        ap (λ b. cond b true (is_raised view object rest)) is ∙ sym (ap (λ b. cond b false true) it)
+    by false stays false is more = ap (λ b. cond b true (is_raised view object rest)) is ∙ more
+
+apart_more : (of : Option ℕ) (more less : List Mark) → ((view : Option ℕ) (object : ℕ) → is_raised view object less ≡ true → is_raised view object more ≡ true)
+    → (view : Option ℕ) (object : ℕ) → is_raised view object (marks_apart of less) ≡ true → is_raised view object (marks_apart of more) ≡ true
+apart_more of more less l view object is = marks_of_others view of object more ∙ by (is_view view of) (sym (marks_of_others view of object less) ∙ is)
+  where
+    by : (b : Bool) → cond b false (is_raised view object less) ≡ true → cond b false (is_raised view object more) ≡ true
+    by true is = is
+    by false is = l view object is
 
 -- ---- of objects
 
@@ -336,7 +387,7 @@ drawn_cons s t image i more less l false is = l is
 
 pub knows_itself : (k : Knowledge) → KnowsAtLeast k k
 knows_itself k = record {
-  alone = refl;
+  sharing = refl;
   owns = refl;
   turn = refl;
   fenced = refl;
@@ -344,6 +395,8 @@ knows_itself k = record {
   maps = λ site image. maps_themselves (maps_of k.maps site image);
   objects = λ site image. objects_themselves (objects_known_of k.objects site image);
   gone = λ site image gone. gone;
+  seen = λ s among. among;
+  told = λ t among. among;
 }
 
 pub knows_as : (k other : Knowledge) → k ≡ other → KnowsAtLeast k other
@@ -351,7 +404,7 @@ knows_as k other same = subst (KnowsAtLeast k) same (knows_itself k)
 
 pub knows_onward : (a b c : Knowledge) → KnowsAtLeast a b → KnowsAtLeast b c → KnowsAtLeast a c
 knows_onward a b c first then_less = record {
-  alone = first.alone ∙ then_less.alone;
+  sharing = first.sharing ∙ then_less.sharing;
   owns = first.owns ∙ then_less.owns;
   turn = first.turn ∙ then_less.turn;
   fenced = first.fenced ∙ then_less.fenced;
@@ -360,6 +413,77 @@ knows_onward a b c first then_less = record {
   objects = λ site image.
       objects_onward (objects_known_of a.objects site image) (objects_known_of b.objects site image) (objects_known_of c.objects site image) (first.objects site image) (then_less.objects site image);
   gone = λ site image gone. first.gone site image (then_less.gone site image gone);
+  seen = λ s among. first.seen s (then_less.seen s among);
+  told = λ t among. first.told t (then_less.told t among);
+}
+
+-- ---- what was told of any image
+
+-- a test that the one's list meets the other's meets too
+among_more : {T : Type 0} (x : T) (more less : List T) → ((y : T) → IsAmong y less → IsAmong y more) → (y : T) → IsAmong y (x ∷ less) → IsAmong y (x ∷ more)
+among_more x more less l y (inl here) = inl here
+among_more x more less l y (inr there) = inr (l y there)
+
+seen_more : (more less : List HeaderSeen) → ((s : HeaderSeen) → IsAmong s less → IsAmong s more) → (site : SiteId) (o : Op) (a : Answer) (s : HeaderSeen) → IsAmong s (seen_by less site o a) → IsAmong s (seen_by more site o a)
+seen_more more less l site (op.Header image header.Get) (answer.Header h) = among_more (record { site = site; image = image; header = h }) more less l
+seen_more more less l site _ _ = l
+
+-- a header by which a snapshot has its date
+abbrev dates : SiteId → (image snap : ℕ) → HeaderSeen → Bool
+dates site image snap s = is_at site image s.site s.image && nat_le snap s.header.snap_seq
+
+dated_by : (seen : List HeaderSeen) (site : SiteId) (image snap : ℕ) (s : HeaderSeen) → IsAmong s seen → dates site image snap s ≡ true → is_dated seen site image snap ≡ true
+dated_by [] site image snap s among is = absurd among
+dated_by (x ∷ seen) site image snap s (inl here) is = ap (λ b. cond b true (is_dated seen site image snap)) (ap (dates site image snap) here ∙ is)
+dated_by (x ∷ seen) site image snap s (inr there) is = by (dates site image snap x) (dated_by seen site image snap s there is)
+  where
+    by : (b : Bool) → is_dated seen site image snap ≡ true → cond b true (is_dated seen site image snap) ≡ true
+    by true later = refl
+    by false later = later
+
+date_of : (seen : List HeaderSeen) (site : SiteId) (image snap : ℕ) → is_dated seen site image snap ≡ true → (s : HeaderSeen) × IsAmong s seen × (dates site image snap s ≡ true)
+date_of [] site image snap is = absurd (true≢false (sym is))
+date_of (x ∷ seen) site image snap is = by (dates site image snap x) refl is (date_of seen site image snap)
+  where
+    by : (b : Bool) → dates site image snap x ≡ b → cond b true (is_dated seen site image snap) ≡ true
+        → (is_dated seen site image snap ≡ true → (s : HeaderSeen) × IsAmong s seen × (dates site image snap s ≡ true)) → (s : HeaderSeen) × IsAmong s (x ∷ seen) × (dates site image snap s ≡ true)
+    by true at is later = (x, inl refl, at)
+    by false at is later = let (s, among, dated) = later is in (s, inr among, dated)
+
+dated_more : (more less : List HeaderSeen) → ((s : HeaderSeen) → IsAmong s less → IsAmong s more) → (site : SiteId) (image snap : ℕ) → is_dated less site image snap ≡ true → is_dated more site image snap ≡ true
+dated_more more less l site image snap is = let (s, among, dated) = date_of less site image snap is in dated_by more site image snap s (l s among) dated
+
+module _ (more less : List ObjectTold) (l : (t : ObjectTold) → IsAmong t less → IsAmong t more) (x : ObjectTold) where
+  when_more : (dated before : Bool) → (before ≡ true → dated ≡ true) → (t : ObjectTold) → IsAmong t (told_when before x less) → IsAmong t (told_when dated x more)
+  when_more true true goes t among = among_more x more less l t among
+  when_more true false goes t among = inr (l t among)
+  when_more false true goes t among = absurd (true≢false (sym (goes refl)))
+  when_more false false goes t among = l t among
+
+lists_told : (more_seen less_seen : List HeaderSeen) → ((s : HeaderSeen) → IsAmong s less_seen → IsAmong s more_seen) → (more less : List ObjectTold) → ((t : ObjectTold) → IsAmong t less → IsAmong t more)
+    → (site : SiteId) (o : Op) (a : Answer) (t : ObjectTold) → IsAmong t (told_by less_seen less site o a) → IsAmong t (told_by more_seen more site o a)
+lists_told more_seen less_seen seen more less l site (op.Data image number (object.Read (Some snap) parts)) (answer.Bytes bytes) =
+    when_more more less l (record { site = site; image = image; snap = snap; object = number; parts = parts; bytes = Some bytes })
+    (is_dated more_seen site image snap) (is_dated less_seen site image snap) (dated_more more_seen less_seen seen site image snap)
+lists_told more_seen less_seen seen more less l site (op.Data image number (object.Read (Some snap) parts)) answer.Absent =
+    when_more more less l (record { site = site; image = image; snap = snap; object = number; parts = parts; bytes = None })
+    (is_dated more_seen site image snap) (is_dated less_seen site image snap) (dated_more more_seen less_seen seen site image snap)
+lists_told more_seen less_seen seen more less l site _ _ = l
+
+-- the same, with these lists
+telling : (more less : Knowledge) → KnowsAtLeast more less → (a b : List HeaderSeen) → ((s : HeaderSeen) → IsAmong s b → IsAmong s a) → (c d : List ObjectTold) → ((t : ObjectTold) → IsAmong t d → IsAmong t c)
+    → KnowsAtLeast (record more { seen = a; told = c }) (record less { seen = b; told = d })
+telling more less l a b seen c d told = record {
+  sharing = l.sharing;
+  owns = l.owns;
+  turn = l.turn;
+  fenced = l.fenced;
+  drawn = l.drawn;
+  maps = l.maps;
+  objects = l.objects;
+  gone = l.gone;
+  seen = seen;
+  told = told;
 }
 
 -- ---- what it learns
@@ -368,7 +492,7 @@ module _ (more less : Knowledge) (l : KnowsAtLeast more less) (site : SiteId) wh
   with_maps_more : (image : ℕ) (change : MapsKnown → MapsKnown) → ((m n : MapsKnown) → AreMapsAtLeast m n → AreMapsAtLeast (change m) (change n))
       → KnowsAtLeast (with_maps site image change more) (with_maps site image change less)
   with_maps_more image change goes = record {
-    alone = l.alone;
+    sharing = l.sharing;
     owns = l.owns;
     turn = l.turn;
     fenced = l.fenced;
@@ -378,13 +502,17 @@ module _ (more less : Knowledge) (l : KnowsAtLeast more less) (site : SiteId) wh
         (goes (maps_of more.maps site image) (maps_of less.maps site image) (l.maps site image)) (l.maps there place);
     objects = l.objects;
     gone = l.gone;
+    seen = l.seen;
+    told = l.told;
   }
 
   map_more : (image : ℕ) (o : MapOp) (a : Answer) → KnowsAtLeast (learned_of_map more site image o a) (learned_of_map less site image o a)
   map_more image (states.Resize count) answer.Done =
       with_maps_more image (λ m. record { raised = m.raised; states = None; count = Some count; put = None }) (λ m n at. record { raised = at.raised; states = tt; count = refl; put = tt })
   map_more image (states.Get None) (answer.Bits bits) = with_maps_more image (λ m. record m { states = Some (states_of bits (4 * length bits)) }) (λ m n at. record { raised = at.raised; states = refl; count = at.count; put = at.put })
-  map_more image (states.Put (Some snap) bits) answer.Done = with_maps_more image (λ m. record m { put = Some snap }) (λ m n at. record { raised = at.raised; states = at.states; count = at.count; put = refl })
+  map_more image (states.Put (Some snap) bits) answer.Done =
+      with_maps_more image (λ m. record m { raised = marks_apart (Some snap) m.raised; put = Some snap })
+      (λ m n at. record { raised = apart_more (Some snap) m.raised n.raised at.raised; states = at.states; count = at.count; put = refl })
   map_more image (states.Set view object state) answer.Done =
       with_maps_more image (λ m. record {
         raised = marks_after view object state m.raised;
@@ -395,7 +523,7 @@ module _ (more less : Knowledge) (l : KnowsAtLeast more less) (site : SiteId) wh
       (λ m n at. record { raised = marks_more view object state m.raised n.raised at.raised; states = set view m n at; count = at.count; put = tt })
     where
       set : (view : Option ℕ) (m n : MapsKnown) → AreMapsAtLeast m n → IsToldToo (states_set view object state m.states) (states_set view object state n.states)
-      set None m n at = told_by (λ s. slice_set s object state) m.states n.states at.states
+      set None m n at = told_mapped (λ s. slice_set s object state) m.states n.states at.states
       set (Some snap) m n at = at.states
   map_more image (states.Remove view) answer.Done = with_maps_more image (λ m. unmapped) (λ m n at. maps_themselves unmapped)
   map_more image _ _ = l
@@ -403,7 +531,7 @@ module _ (more less : Knowledge) (l : KnowsAtLeast more less) (site : SiteId) wh
   with_objects_more : (image : ℕ) (change : ObjectsKnown → ObjectsKnown) → ((o p : ObjectsKnown) → AreObjectsAtLeast o p → AreObjectsAtLeast (change o) (change p))
       → KnowsAtLeast (with_objects site image change more) (with_objects site image change less)
   with_objects_more image change goes = record {
-    alone = l.alone;
+    sharing = l.sharing;
     owns = l.owns;
     turn = l.turn;
     fenced = l.fenced;
@@ -411,6 +539,8 @@ module _ (more less : Knowledge) (l : KnowsAtLeast more less) (site : SiteId) wh
     maps = l.maps;
     objects = λ there place. by there place (is_at there place site image);
     gone = l.gone;
+    seen = l.seen;
+    told = l.told;
   }
     where
       by : (there : SiteId) (place : ℕ) (b : Bool)
@@ -432,7 +562,7 @@ module _ (more less : Knowledge) (l : KnowsAtLeast more less) (site : SiteId) wh
 
   directory_more : (o : DirectoryOp) (a : Answer) → KnowsAtLeast (learned_of_directory more site o a) (learned_of_directory less site o a)
   directory_more (directory.Add name) (answer.Id image) = record {
-    alone = l.alone;
+    sharing = l.sharing;
     owns = l.owns;
     turn = l.turn;
     fenced = l.fenced;
@@ -440,12 +570,14 @@ module _ (more less : Knowledge) (l : KnowsAtLeast more less) (site : SiteId) wh
     maps = λ there place. maps_more unmapped unmapped more.maps less.maps site image there place (maps_themselves unmapped) (l.maps there place);
     objects = l.objects;
     gone = l.gone;
+    seen = l.seen;
+    told = l.told;
   }
   directory_more _ _ = l
 
   listing_more : (i : Instance) (a : Answer) → KnowsAtLeast (learned_of_listing more site i a) (learned_of_listing less site i a)
   listing_more i answer.Done = record {
-    alone = l.alone;
+    sharing = l.sharing;
     owns = l.owns;
     turn = l.turn;
     fenced = ap (λ (fenced : List Fence). record { site = site; instance = i } ∷ fenced) l.fenced;
@@ -453,13 +585,15 @@ module _ (more less : Knowledge) (l : KnowsAtLeast more less) (site : SiteId) wh
     maps = l.maps;
     objects = l.objects;
     gone = l.gone;
+    seen = l.seen;
+    told = l.told;
   }
   listing_more i _ = l
 
   -- a fence that was used
   unfenced_more : (owner : Instance) → KnowsAtLeast (without_fence site owner more) (without_fence site owner less)
   unfenced_more owner = record {
-    alone = l.alone;
+    sharing = l.sharing;
     owns = l.owns;
     turn = l.turn;
     fenced = ap (unfenced site owner) l.fenced;
@@ -467,11 +601,13 @@ module _ (more less : Knowledge) (l : KnowsAtLeast more less) (site : SiteId) wh
     maps = l.maps;
     objects = l.objects;
     gone = l.gone;
+    seen = l.seen;
+    told = l.told;
   }
 
   told_more : (image : ℕ) (change : Option HeaderView → Option HeaderView) → KnowsAtLeast (header_told site image change more) (header_told site image change less)
   told_more image change = record {
-    alone = l.alone;
+    sharing = l.sharing;
     owns = ap (λ owns. map_told owns) l.owns;
     turn = l.turn;
     fenced = l.fenced;
@@ -479,6 +615,8 @@ module _ (more less : Knowledge) (l : KnowsAtLeast more less) (site : SiteId) wh
     maps = l.maps;
     objects = l.objects;
     gone = l.gone;
+    seen = l.seen;
+    told = l.told;
   }
     where
       map_told : List Own → List Own
@@ -486,7 +624,7 @@ module _ (more less : Knowledge) (l : KnowsAtLeast more less) (site : SiteId) wh
 
   made_more : (image : ℕ) → KnowsAtLeast (without_drawn site image more) (without_drawn site image less)
   made_more image = record {
-    alone = l.alone;
+    sharing = l.sharing;
     owns = l.owns;
     turn = l.turn;
     fenced = l.fenced;
@@ -494,11 +632,13 @@ module _ (more less : Knowledge) (l : KnowsAtLeast more less) (site : SiteId) wh
     maps = l.maps;
     objects = l.objects;
     gone = l.gone;
+    seen = l.seen;
+    told = l.told;
   }
 
   removed_header_more : (image : ℕ) → KnowsAtLeast (removed_header site image more) (removed_header site image less)
   removed_header_more image = record {
-    alone = l.alone;
+    sharing = l.sharing;
     owns = ap (owns_without site image) l.owns;
     turn = l.turn;
     fenced = l.fenced;
@@ -506,11 +646,13 @@ module _ (more less : Knowledge) (l : KnowsAtLeast more less) (site : SiteId) wh
     maps = λ there place. maps_more only_there only_there more.maps less.maps site image there place (maps_themselves only_there) (l.maps there place);
     objects = l.objects;
     gone = λ there place. drawn_cons site there image place more.gone less.gone (l.gone there place) (is_at there place site image);
+    seen = l.seen;
+    told = l.told;
   }
 
   afresh_more : (image : ℕ) → KnowsAtLeast (afresh site image more) (afresh site image less)
   afresh_more image = record {
-    alone = l.alone;
+    sharing = l.sharing;
     owns = l.owns;
     turn = refl;
     fenced = l.fenced;
@@ -519,6 +661,8 @@ module _ (more less : Knowledge) (l : KnowsAtLeast more less) (site : SiteId) wh
         maps_more unmapped unmapped (unmarked more.maps) (unmarked less.maps) site image there place (maps_themselves unmapped) (unmarked_more more.maps less.maps there place (l.maps there place));
     objects = λ there place. objects_themselves (objects_known_of [] there place);
     gone = l.gone;
+    seen = l.seen;
+    told = l.told;
   }
 
   looked_more : (image : ℕ) → KnowsAtLeast (looked_behind site image more) (looked_behind site image less)
@@ -546,25 +690,30 @@ module _ (more less : Knowledge) (l : KnowsAtLeast more less) (site : SiteId) wh
   header_more image (header.LockBreak owner) answer.Changed = unfenced_more more less l site owner
   header_more image _ _ = l
 
+  own_more : (o : Op) (a : Answer) → KnowsAtLeast (learned_own more site o a) (learned_own less site o a)
+  own_more (op.Directory o) a = directory_more more less l site o a
+  own_more (op.Header image o) a = header_more image o a
+  own_more (op.Data image number o) a = object_more more less l site image number o a
+  own_more (op.BlockAdd i) a = listing_more more less l site i a
+  own_more (op.Map image o) a = map_more more less l site image o a
+  own_more _ a = l
+
   pub learned_more : (o : Op) (a : Answer) → KnowsAtLeast (learned more site o a) (learned less site o a)
-  learned_more (op.Directory o) a = directory_more more less l site o a
-  learned_more (op.Header image o) a = header_more image o a
-  learned_more (op.Data image number o) a = object_more more less l site image number o a
-  learned_more (op.BlockAdd i) a = listing_more more less l site i a
-  learned_more (op.Map image o) a = map_more more less l site image o a
-  learned_more _ a = l
+  learned_more o a = telling (learned_own more site o a) (learned_own less site o a) (own_more o a)
+      (seen_by more.seen site o a) (seen_by less.seen site o a) (seen_more more.seen less.seen l.seen site o a)
+      (told_by more.seen more.told site o a) (told_by less.seen less.told site o a) (lists_told more.seen less.seen l.seen more.told less.told l.told site o a)
 
 -- ---- what it waits for
 
 module _ (more less : Knowledge) (l : KnowsAtLeast more less) where
   held_more : (site : SiteId) (image : ℕ) → owns_when_held more site image ≡ owns_when_held less site image
   held_more site image =
-      ap (λ alone. record { site = site; image = image; alone = alone; header = None } ∷ owns_without site image more.owns) l.alone
-      ∙ ap (λ owns. record { site = site; image = image; alone = less.alone; header = None } ∷ owns_without site image owns) l.owns
+      ap (λ sharing. record { site = site; image = image; sharing = sharing; header = None } ∷ owns_without site image more.owns) l.sharing
+      ∙ ap (λ owns. record { site = site; image = image; sharing = less.sharing; header = None } ∷ owns_without site image owns) l.owns
 
   turned_more : (turn : Option ℕ) → KnowsAtLeast (record more { turn = turn; maps = unmarked more.maps; objects = [] }) (record less { turn = turn; maps = unmarked less.maps; objects = [] })
   turned_more turn = record {
-    alone = l.alone;
+    sharing = l.sharing;
     owns = l.owns;
     turn = refl;
     fenced = l.fenced;
@@ -572,11 +721,13 @@ module _ (more less : Knowledge) (l : KnowsAtLeast more less) where
     maps = λ site image. unmarked_more more.maps less.maps site image (l.maps site image);
     objects = λ site image. objects_themselves (objects_known_of [] site image);
     gone = l.gone;
+    seen = l.seen;
+    told = l.told;
   }
 
   pub waited_more : (w : Wait) → KnowsAtLeast (known_after_wait more w) (known_after_wait less w)
   waited_more (wait.Join site image sharing) = record {
-    alone = refl;
+    sharing = refl;
     owns = l.owns;
     turn = l.turn;
     fenced = l.fenced;
@@ -584,9 +735,11 @@ module _ (more less : Knowledge) (l : KnowsAtLeast more less) where
     maps = l.maps;
     objects = l.objects;
     gone = l.gone;
+    seen = l.seen;
+    told = l.told;
   }
   waited_more (wait.Hold site image) = record {
-    alone = l.alone;
+    sharing = l.sharing;
     owns = held_more site image;
     turn = l.turn;
     fenced = l.fenced;
@@ -594,11 +747,13 @@ module _ (more less : Knowledge) (l : KnowsAtLeast more less) where
     maps = l.maps;
     objects = λ there place. objects_themselves (objects_known_of [] there place);
     gone = l.gone;
+    seen = l.seen;
+    told = l.told;
   }
   waited_more (wait.Turn object) = turned_more (Some object)
   waited_more (wait.Applied site image) = turned_more None
   waited_more (wait.Leave site image) = record {
-    alone = l.alone;
+    sharing = l.sharing;
     owns = ap (owns_without site image) l.owns;
     turn = l.turn;
     fenced = l.fenced;
@@ -606,22 +761,24 @@ module _ (more less : Knowledge) (l : KnowsAtLeast more less) where
     maps = l.maps;
     objects = l.objects;
     gone = l.gone;
+    seen = l.seen;
+    told = l.told;
   }
 
 -- ---- what it may do
 
 module _ (more less : Knowledge) (l : KnowsAtLeast more less) (site : SiteId) where
-  owns_more : (image : ℕ) (needs has : (alone : Bool) → HeaderView → Type 0) → ((alone : Bool) (h : HeaderView) → has alone h → needs alone h) → OwnsBy less site image has → OwnsBy more site image needs
+  owns_more : (image : ℕ) (needs has : Sharing → HeaderView → Type 0) → ((sharing : Sharing) (h : HeaderView) → has sharing h → needs sharing h) → OwnsBy less site image has → OwnsBy more site image needs
   owns_more image needs has goes owns = record {
-    alone = owns.alone;
+    sharing = owns.sharing;
     header = owns.header;
     is = ap (λ owns. own_of owns site image) l.owns ∙ owns.is;
-    meets = goes owns.alone owns.header owns.meets;
+    meets = goes owns.sharing owns.header owns.meets;
   }
 
   alone_more : (image : ℕ) (needs has : HeaderView → Type 0) → ((h : HeaderView) → has h → needs h) → OwnsAlone less site image has → OwnsAlone more site image needs
   alone_more image needs has goes owns =
-      owns_more image (λ alone h. (alone ≡ true) × needs h) (λ alone h. (alone ≡ true) × has h) (λ alone h may. (may.0, goes h may.1)) owns
+      owns_more image (λ sharing h. (sharing ≡ Alone) × needs h) (λ sharing h. (sharing ≡ Alone) × has h) (λ sharing h may. (may.0, goes h may.1)) owns
 
   turn_more : (alone : Bool) (number : ℕ) → HasTurn alone less.turn number → HasTurn alone more.turn number
   turn_more alone number has = subst (λ turn. HasTurn alone turn number) (sym l.turn) has
@@ -698,35 +855,35 @@ module _ (more less : Knowledge) (l : KnowsAtLeast more less) (site : SiteId) wh
   may_on_object : (image number : ℕ) (o : DataOp) → PermitsOnObject less site image number o → PermitsOnObject more site image number o
   may_on_object image number (object.Read snap parts) may = tt
   may_on_object image number (object.Write context must parts bytes) may =
-      owns_more image _ _ (λ alone h has. record {
+      owns_more image _ _ (λ sharing h has. record {
         under = has.under;
         within = has.within;
         long = has.long;
-        at_turn = turn_more alone number has.at_turn;
+        at_turn = turn_more (is_alone sharing) number has.at_turn;
         raised = raised_more image number has.raised;
       }) may
   may_on_object image number (object.Zero context must parts) may =
-      owns_more image _ _ (λ alone h has. record { under = has.under; within = has.within; at_turn = turn_more alone number has.at_turn }) may
+      owns_more image _ _ (λ sharing h has. record { under = has.under; within = has.within; at_turn = turn_more (is_alone sharing) number has.at_turn }) may
   may_on_object image number (object.Empty context) may =
-      owns_more image _ _ (λ alone h has. record {
+      owns_more image _ _ (λ sharing h has. record {
         under = has.under;
         within = has.within;
-        at_turn = turn_more alone number has.at_turn;
+        at_turn = turn_more (is_alone sharing) number has.at_turn;
         raised = raised_more image number has.raised;
       }) may
   may_on_object image number (object.Remove context) (inl over) = inl (left_more image over)
   may_on_object image number (object.Remove context) (inr may) =
-      inr (owns_more image _ _ (λ alone h has. record {
+      inr (owns_more image _ _ (λ sharing h has. record {
         under = has.under;
         within = has.within;
-        at_turn = turn_more alone number has.at_turn;
+        at_turn = turn_more (is_alone sharing) number has.at_turn;
         outside = has.outside;
       }) may)
   may_on_object image number (object.WriteFull context bytes) may =
-      owns_more image _ _ (λ alone h has. record {
+      owns_more image _ _ (λ sharing h has. record {
         under = has.under;
         within = has.within;
-        at_turn = turn_more alone number has.at_turn;
+        at_turn = turn_more (is_alone sharing) number has.at_turn;
         raised = raised_more image number has.raised;
         long = has.long;
         clear = has.clear;
@@ -744,9 +901,9 @@ module _ (more less : Knowledge) (l : KnowsAtLeast more less) (site : SiteId) wh
         hold = has.hold;
       }) may
   may_on_map image (states.Set None object state) may =
-      owns_more image _ _ (λ alone h has. record {
+      owns_more image _ _ (λ sharing h has. record {
         within = has.within;
-        at_turn = turn_more alone object has.at_turn;
+        at_turn = turn_more (is_alone sharing) object has.at_turn;
         is_state = has.is_state;
         lowers = λ zero. (l.objects site image).absent object (has.lowers zero);
       }) may
@@ -763,6 +920,87 @@ module _ (more less : Knowledge) (l : KnowsAtLeast more less) (site : SiteId) wh
   permits_more (op.BlockAdd i) may = tt
   permits_more (op.Map image o) may = may_on_map image o may
   permits_more _ may = elim may [ ]
+
+-- ---- what of it isn't needed
+
+when_stays : (told : List ObjectTold) (x : ObjectTold) (dated : Bool) (t : ObjectTold) → IsAmong t told → IsAmong t (told_when dated x told)
+when_stays told x true t among = inr among
+when_stays told x false t among = among
+
+seen_stays : (seen : List HeaderSeen) (site : SiteId) (o : Op) (a : Answer) (s : HeaderSeen) → IsAmong s seen → IsAmong s (seen_by seen site o a)
+seen_stays seen site (op.Header image header.Get) (answer.Header h) s among = inr among
+seen_stays seen site _ _ s among = among
+
+told_stays : (seen : List HeaderSeen) (told : List ObjectTold) (site : SiteId) (o : Op) (a : Answer) (t : ObjectTold) → IsAmong t told → IsAmong t (told_by seen told site o a)
+told_stays seen told site (op.Data image number (object.Read (Some snap) parts)) (answer.Bytes bytes) t among = when_stays told _ (is_dated seen site image snap) t among
+told_stays seen told site (op.Data image number (object.Read (Some snap) parts)) answer.Absent t among = when_stays told _ (is_dated seen site image snap) t among
+told_stays seen told site _ _ t among = among
+
+-- what is known of the request's own is no header and no snapshot of another's
+abbrev ToldAsBefore : Knowledge → Knowledge → Type 0
+ToldAsBefore k own = (own.seen ≡ k.seen) × (own.told ≡ k.told)
+
+looked_as_before : (k : Knowledge) (site : SiteId) (image : ℕ) → ToldAsBefore k (looked_behind site image k)
+looked_as_before k site image = by (own_of k.owns site image)
+  where
+    of : (header : Option HeaderView) → ToldAsBefore k (looked_by header site image k)
+    of None = (refl, refl)
+    of (Some h) = (refl, refl)
+
+    by : (o : Option Own) → ToldAsBefore k (looked_under_lock o site image k)
+    by None = (refl, refl)
+    by (Some o) = of o.header
+
+map_as_before : (k : Knowledge) (site : SiteId) (image : ℕ) (o : MapOp) (a : Answer) → ToldAsBefore k (learned_of_map k site image o a)
+map_as_before k site image (states.Resize count) answer.Done = (refl, refl)
+map_as_before k site image (states.Get None) (answer.Bits bits) = (refl, refl)
+map_as_before k site image (states.Put (Some snap) bits) answer.Done = (refl, refl)
+map_as_before k site image (states.Set view object state) answer.Done = (refl, refl)
+map_as_before k site image (states.Remove view) answer.Done = (refl, refl)
+map_as_before k site image _ _ = (refl, refl)
+
+object_as_before : (k : Knowledge) (site : SiteId) (image number : ℕ) (o : DataOp) (a : Answer) → ToldAsBefore k (learned_of_object k site image number o a)
+object_as_before k site image number (object.Write context must parts bytes) answer.Done = (refl, refl)
+object_as_before k site image number (object.WriteFull context bytes) answer.Done = (refl, refl)
+object_as_before k site image number (object.CopyUp bytes) answer.Done = (refl, refl)
+object_as_before k site image number (object.Zero context must parts) answer.Done = (refl, refl)
+object_as_before k site image number (object.Empty context) answer.Done = (refl, refl)
+object_as_before k site image number (object.Remove context) answer.Done = (refl, refl)
+object_as_before k site image number _ _ = (refl, refl)
+
+directory_as_before : (k : Knowledge) (site : SiteId) (o : DirectoryOp) (a : Answer) → ToldAsBefore k (learned_of_directory k site o a)
+directory_as_before k site (directory.Add name) (answer.Id image) = (refl, refl)
+directory_as_before k site _ _ = (refl, refl)
+
+listing_as_before : (k : Knowledge) (site : SiteId) (i : Instance) (a : Answer) → ToldAsBefore k (learned_of_listing k site i a)
+listing_as_before k site i answer.Done = (refl, refl)
+listing_as_before k site i _ = (refl, refl)
+
+header_as_before : (k : Knowledge) (site : SiteId) (image : ℕ) (o : HeaderOp) (a : Answer) → ToldAsBefore k (learned_of_header k site image o a)
+header_as_before k site image header.Get (answer.Header h) = looked_as_before k site image
+header_as_before k site image (header.Create view) answer.Done = (refl, refl)
+header_as_before k site image (header.SetSize to) answer.Done = (refl, refl)
+header_as_before k site image header.Remove answer.Done = (refl, refl)
+header_as_before k site image (header.SnapAdd name) (answer.Snap snap) = (refl, refl)
+header_as_before k site image (header.SnapRemove snap) answer.Done = (refl, refl)
+header_as_before k site image (header.LockBreak owner) answer.Done = (refl, refl)
+header_as_before k site image (header.LockBreak owner) answer.Changed = (refl, refl)
+header_as_before k site image _ _ = (refl, refl)
+
+own_as_before : (k : Knowledge) (site : SiteId) (o : Op) (a : Answer) → ToldAsBefore k (learned_own k site o a)
+own_as_before k site (op.Directory o) a = directory_as_before k site o a
+own_as_before k site (op.Header image o) a = header_as_before k site image o a
+own_as_before k site (op.Data image number o) a = object_as_before k site image number o a
+own_as_before k site (op.BlockAdd i) a = listing_as_before k site i a
+own_as_before k site (op.Map image o) a = map_as_before k site image o a
+own_as_before k site _ a = (refl, refl)
+
+pub learned_at_least : (k : Knowledge) (site : SiteId) (o : Op) (a : Answer) → KnowsAtLeast (learned k site o a) (learned_own k site o a)
+learned_at_least k site o a =
+    let before = own_as_before k site o a in
+    telling (learned_own k site o a) (learned_own k site o a) (knows_itself (learned_own k site o a))
+    (seen_by k.seen site o a) (learned_own k site o a).seen (λ s among. seen_stays k.seen site o a s (subst (IsAmong s) before.0 among))
+    (told_by k.seen k.told site o a) (learned_own k site o a).told (λ t among. told_stays k.seen k.told site o a t (subst (IsAmong t) before.1 among))
 
 -- ---- plans
 

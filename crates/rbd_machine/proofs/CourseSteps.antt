@@ -1,7 +1,6 @@
 -- Plans that keep to their line, step by step.
-use Rattle.std.proofs.Common.{◌≡◌, ℕ, List, [], Bool, true, false, cond, Option, Some, None, refl, ap, sym, subst}
+use Rattle.std.proofs.Common.{◌≡◌, ℕ, List, [], true, false, cond, Option, Some, None, refl, ap, sym, subst}
 use Rattle.std.specs.Prelude.{◌&&◌}
-use Rattle.rbd_kinds.specs.Sharing.{is_alone}
 use Rattle.rbd_kinds.specs.declared.sharing.Sharing.{Sharing}
 use Rattle.rbd_machine.specs.Course.{Course, PlaceInLine, answered, beginning, due_of, course_past_look, objects_asked}
 use Rattle.rbd_machine.specs.Orderly.{IsOrderly}
@@ -26,31 +25,31 @@ use Rattle.rbd_machine.specs.Steps.{not_there, on_id, on_header, on_done, unless
 -- ---- a change on its way to its look under the lock
 
 -- its place, and its course up to that look
-abbrev pub place_at : (alone : Bool) → SiteId → (image : ℕ) → Stage → PlaceInLine
-place_at alone s image stage = record { site = s; image = image; alone = alone; stage = stage }
+abbrev pub place_at : (sharing : Sharing) → SiteId → (image : ℕ) → Stage → PlaceInLine
+place_at sharing s image stage = record { site = s; image = image; sharing = sharing; stage = stage }
 
-abbrev pub course_at : (alone : Bool) → SiteId → (image : ℕ) → Stage → Course
-course_at alone s image stage = record { place = Some (place_at alone s image stage); turn = None; due = []; objects = [] }
+abbrev pub course_at : (sharing : Sharing) → SiteId → (image : ℕ) → Stage → Course
+course_at sharing s image stage = record { place = Some (place_at sharing s image stage); turn = None; due = []; objects = [] }
 
 -- its course behind that look
-abbrev pub own_course : Option Extent → (alone : Bool) → SiteId → (image : ℕ) → HeaderView → Course
-own_course e alone s image h = record {
-  place = Some (place_at alone s image stage.Past);
+abbrev pub own_course : Option Extent → (sharing : Sharing) → SiteId → (image : ℕ) → HeaderView → Course
+own_course e sharing s image h = record {
+  place = Some (place_at sharing s image stage.Past);
   turn = None;
-  due = due_of (Some (place_at alone s image stage.Waiting)) (objects_asked h e);
+  due = due_of (Some (place_at sharing s image stage.Waiting)) (objects_asked h e);
   objects = [];
 }
 
 -- a look before the lock is nobody's own
-first_told : (e : Option Extent) (alone : Bool) (s : SiteId) (image : ℕ) (h : HeaderView)
-    → answered e (course_at alone s image stage.Joined) s (op.Header image header.Get) (answer.Header h) ≡ course_at alone s image stage.Joined
-first_told e alone s image h =
-    ap (λ b. cond (b && false) (course_past_look e h (course_at alone s image stage.Joined)) (course_at alone s image stage.Joined)) (at_itself s image)
+first_told : (e : Option Extent) (sharing : Sharing) (s : SiteId) (image : ℕ) (h : HeaderView)
+    → answered e (course_at sharing s image stage.Joined) s (op.Header image header.Get) (answer.Header h) ≡ course_at sharing s image stage.Joined
+first_told e sharing s image h =
+    ap (λ b. cond (b && false) (course_past_look e h (course_at sharing s image stage.Joined)) (course_at sharing s image stage.Joined)) (at_itself s image)
 
-own_told : (e : Option Extent) (alone : Bool) (s : SiteId) (image : ℕ) (h : HeaderView)
-    → answered e (course_at alone s image stage.Waiting) s (op.Header image header.Get) (answer.Header h) ≡ own_course e alone s image h
-own_told e alone s image h =
-    ap (λ b. cond (b && true) (course_past_look e h (course_at alone s image stage.Waiting)) (course_at alone s image stage.Waiting)) (at_itself s image)
+own_told : (e : Option Extent) (sharing : Sharing) (s : SiteId) (image : ℕ) (h : HeaderView)
+    → answered e (course_at sharing s image stage.Waiting) s (op.Header image header.Get) (answer.Header h) ≡ own_course e sharing s image h
+own_told e sharing s image h =
+    ap (λ b. cond (b && true) (course_past_look e h (course_at sharing s image stage.Waiting)) (course_at sharing s image stage.Waiting)) (at_itself s image)
 
 -- ---- steps
 
@@ -79,7 +78,7 @@ module _ (e : Option Extent) (at : Label → Course) where
 
   -- a change, whatever it does behind its look under the lock
   pub orderly_change : (s : SiteId) (name : List ℕ) (sharing : Sharing) (refuses : HeaderView → Option Refusal) (act : ℕ → HeaderView → Plan)
-      → ((image : ℕ) (h : HeaderView) → IsHeaderInForm h → refuses h ≡ None → IsOrderly e at true (own_course e (is_alone sharing) s image h) (act image h))
+      → ((image : ℕ) (h : HeaderView) → IsHeaderInForm h → refuses h ≡ None → IsOrderly e at true (own_course e sharing s image h) (act image h))
       → IsOrderly e at true beginning (change_plan s name sharing refuses act)
   orderly_change s name sharing refuses act acts = (
     refl,
@@ -88,15 +87,15 @@ module _ (e : Option Extent) (at : Label → Course) where
           (refl, refl),
           (
             refl,
-            orderly_on_header image (answered e (course_at (is_alone sharing) s image stage.Joined) s (op.Header image header.Get)) (steps.looked s refuses act image) (λ h form.
-                subst (λ c. IsOrderly e at true c (steps.looked s refuses act image h)) (sym (first_told e (is_alone sharing) s image h))
-                (orderly_unless (course_at (is_alone sharing) s image stage.Joined) (refuses h) (steps.holding s refuses act image) (λ may_wait. (
+            orderly_on_header image (answered e (course_at sharing s image stage.Joined) s (op.Header image header.Get)) (steps.looked s refuses act image) (λ h form.
+                subst (λ c. IsOrderly e at true c (steps.looked s refuses act image h)) (sym (first_told e sharing s image h))
+                (orderly_unless (course_at sharing s image stage.Joined) (refuses h) (steps.holding s refuses act image) (λ may_wait. (
                   (at_itself s image, refl),
                   (
                     refl,
-                    orderly_on_header image (answered e (course_at (is_alone sharing) s image stage.Waiting) s (op.Header image header.Get)) (steps.owned refuses act image) (λ own form.
-                        subst (λ c. IsOrderly e at true c (steps.owned refuses act image own)) (sym (own_told e (is_alone sharing) s image own))
-                        (orderly_unless (own_course e (is_alone sharing) s image own) (refuses own) (act image own) (acts image own form))),
+                    orderly_on_header image (answered e (course_at sharing s image stage.Waiting) s (op.Header image header.Get)) (steps.owned refuses act image) (λ own form.
+                        subst (λ c. IsOrderly e at true c (steps.owned refuses act image own)) (sym (own_told e sharing s image own))
+                        (orderly_unless (own_course e sharing s image own) (refuses own) (act image own) (acts image own form))),
                   ),
                 )))),
           ),

@@ -7,6 +7,8 @@ use Rattle.rbd_kinds.specs.declared.header.HeaderView.{HeaderView}
 use Rattle.rbd_kinds.specs.declared.id.Instance.{Instance}
 use Rattle.rbd_kinds.specs.declared.id.SiteId.{SiteId}
 use Rattle.rbd_kinds.specs.Instances.{same_instance}
+use Rattle.rbd_kinds.specs.declared.sharing.Sharing.{Sharing}
+use Rattle.rbd_kinds.specs.Sharing.{is_alone}
 use Rattle.rbd_kinds.proofs.Images.{same_site_itself}
 use Rattle.rbd_kinds.proofs.Instances.{same_instance_is, same_instance_itself}
 use Rattle.rbd_machine.specs.Knowledge.{Knowledge, Own, Fence, own_of, is_fence_of, is_fenced_by, same_site, unfenced, with_fence, without_fence}
@@ -44,7 +46,7 @@ fence_is_forgotten k site i = ap (λ b. record k { fenced = cond b k.fenced (fen
 
 abbrev alone_in : Option Own → Bool
 alone_in None = false
-alone_in (Some o) = o.alone
+alone_in (Some o) = is_alone o.sharing
 
 abbrev header_in : Option Own → Option HeaderView
 header_in None = None
@@ -54,8 +56,8 @@ module _ (k : Knowledge) (site : SiteId) (image : ℕ) (holds : HoldsUnlooked k 
   pub held_by_somebody : own_of k.owns site image ≡ None → ⊥
   held_by_somebody none = true≢false (ap alone_in (sym holds.is ∙ none))
 
-  pub held_alone : (header : Option HeaderView) → own_of k.owns site image ≡ Some (record { site = site; image = image; alone = false; header = header }) → ⊥
-  held_alone header is = true≢false (ap alone_in (sym holds.is ∙ is))
+  pub held_alone : (sharing : Sharing) (header : Option HeaderView) → is_alone sharing ≡ false → own_of k.owns site image ≡ Some (record { site = site; image = image; sharing = sharing; header = header }) → ⊥
+  held_alone sharing header shared is = true≢false (ap alone_in (sym holds.is ∙ is) ∙ shared)
 
-  pub held_unlooked : (alone : Bool) (h : HeaderView) → own_of k.owns site image ≡ Some (record { site = site; image = image; alone = alone; header = Some h }) → ⊥
-  held_unlooked alone h is = none-some h (ap header_in (sym holds.is ∙ is))
+  pub held_unlooked : (sharing : Sharing) (h : HeaderView) → own_of k.owns site image ≡ Some (record { site = site; image = image; sharing = sharing; header = Some h }) → ⊥
+  held_unlooked sharing h is = none-some h (ap header_in (sym holds.is ∙ is))

@@ -2,7 +2,6 @@
 use Rattle.std.proofs.Common.{◌≡◌, ◌⊎◌, inl, inr, ℕ, List, [], ◌∷◌, Bool, true, false, cond, not, Option, Some, None, refl, ap, ◌∙◌, subst, sym}
 use Rattle.std.specs.Prelude.{unwrap_or}
 use Rattle.std.proofs.lemmas.Bool.{true≢false}
-use Rattle.rbd_kinds.specs.Sharing.{is_alone}
 use Rattle.rbd_kinds.specs.declared.sharing.Sharing.{Sharing}
 use Rattle.rbd_kinds.specs.declared.answer.Answer.{Answer}
 use Rattle.rbd_kinds.specs.declared.answer.Answer.TheVariants as answer
@@ -19,7 +18,7 @@ use Rattle.rbd_commands.specs.declared.refusal.Refusal.{Refusal}
 use Rattle.rbd_kinds.specs.Form.{IsHeaderInForm}
 use Rattle.rbd_kinds.proofs.Images.{at_itself}
 use Rattle.rbd_machine.specs.Answers.{CanGive, CanBeFed}
-use Rattle.rbd_machine.specs.Knowledge.{Knowledge, Own, nothing_known, is_at, is_gone, own_of, header_told, first_told, owns_without, looked_under_lock, learned, known_after_wait, maps_told, unmapped, ImageMaps, MapsKnown, maps_of}
+use Rattle.rbd_machine.specs.Knowledge.{Knowledge, Own, nothing_known, is_at, is_gone, own_of, header_told, first_told, owns_without, looked_under_lock, learned, learned_own, known_after_wait, maps_told, unmapped, ImageMaps, MapsKnown, maps_of}
 use Rattle.rbd_machine.specs.Label.{Label, IsFit}
 use Rattle.rbd_machine.specs.Lawful.{CanTell, IsLawful, known_after}
 use Rattle.rbd_machine.specs.Permits.{IsLeftOver, OwnsBy}
@@ -27,7 +26,7 @@ use Rattle.rbd_machine.specs.Plan.{Plan, Ask, Await, Note, Return, Goto, past_la
 use Rattle.rbd_machine.specs.Standalone.{IsFedStandalone, IsStandalone, TellsStandalone}
 use Rattle.rbd_machine.specs.Steps.{or_else, unless, not_there, on_id, on_header, on_done, change_plan, looked, holding, owned, joining}
 use Rattle.rbd_machine.specs.Wait as wait
-use Rattle.rbd_machine.proofs.AtLeast.{lawful_by_more}
+use Rattle.rbd_machine.proofs.AtLeast.{lawful_by_more, learned_at_least}
 
 -- ---- places
 
@@ -46,34 +45,36 @@ left_here s image (o ∷ owns) = by (is_at s image o.site o.image) refl (left_he
 
 -- ---- a change at its look under the lock: it owns its image, by the header that this look told
 
-abbrev pub own_at : (alone : Bool) → SiteId → (image : ℕ) → HeaderView → Own
-own_at alone s image h = record { site = s; image = image; alone = alone; header = Some h }
+abbrev pub own_at : (sharing : Sharing) → SiteId → (image : ℕ) → HeaderView → Own
+own_at sharing s image h = record { site = s; image = image; sharing = sharing; header = Some h }
 
-abbrev pub unlooked : (alone : Bool) → SiteId → (image : ℕ) → Own
-unlooked alone s image = record { site = s; image = image; alone = alone; header = None }
+abbrev pub unlooked : (sharing : Sharing) → SiteId → (image : ℕ) → Own
+unlooked sharing s image = record { site = s; image = image; sharing = sharing; header = None }
 
-abbrev pub under_lock_known : (alone : Bool) → (turn : Option ℕ) → SiteId → (image : ℕ) → HeaderView → Knowledge
-under_lock_known alone turn s image h = record { alone = alone; owns = own_at alone s image h ∷ []; turn = turn; drawn = []; fenced = []; maps = maps_told s image unmapped []; objects = []; gone = [] }
+abbrev pub under_lock_known : (sharing : Sharing) → (turn : Option ℕ) → SiteId → (image : ℕ) → HeaderView → Knowledge
+under_lock_known sharing turn s image h = record { sharing = sharing; owns = own_at sharing s image h ∷ []; turn = turn; drawn = []; fenced = []; maps = maps_told s image unmapped []; objects = []; gone = []; seen = []; told = [] }
 
-abbrev pub holding_known : (alone : Bool) → SiteId → (image : ℕ) → Knowledge
-holding_known alone s image = record { alone = alone; owns = unlooked alone s image ∷ []; turn = None; drawn = []; fenced = []; maps = []; objects = []; gone = [] }
+abbrev pub holding_known : (sharing : Sharing) → SiteId → (image : ℕ) → Knowledge
+holding_known sharing s image = record { sharing = sharing; owns = unlooked sharing s image ∷ []; turn = None; drawn = []; fenced = []; maps = []; objects = []; gone = []; seen = []; told = [] }
 
-own_told : (alone : Bool) (s : SiteId) (image : ℕ) (h : HeaderView) → under_lock_known alone None s image h ≡ learned (holding_known alone s image) s (op.Header image header.Get) (answer.Header h)
-own_told alone s image h =
+own_told : (sharing : Sharing) (s : SiteId) (image : ℕ) (h : HeaderView) → under_lock_known sharing None s image h ≡ learned_own (holding_known sharing s image) s (op.Header image header.Get) (answer.Header h)
+own_told sharing s image h =
     ap (λ b. record {
-      alone = alone;
-      owns = cond b (own_at alone s image h) (unlooked alone s image) ∷ [];
+      sharing = sharing;
+      owns = cond b (own_at sharing s image h) (unlooked sharing s image) ∷ [];
       turn = None;
       drawn = [];
       fenced = [];
       maps = maps_told s image unmapped [];
       objects = [];
       gone = [];
-    }) (sym (at_itself s image)) ∙ ap (λ b. header_told s image (first_told h) (looked_under_lock (cond b (Some (unlooked alone s image)) None) s image (holding_known alone s image))) (sym (at_itself s image))
+      seen = [];
+      told = [];
+    }) (sym (at_itself s image)) ∙ ap (λ b. header_told s image (first_told h) (looked_under_lock (cond b (Some (unlooked sharing s image)) None) s image (holding_known sharing s image))) (sym (at_itself s image))
 
-pub own_is_found : (alone : Bool) (turn : Option ℕ) (s : SiteId) (image : ℕ) (h : HeaderView)
-    → own_of (under_lock_known alone turn s image h).owns s image ≡ Some (own_at alone s image h)
-own_is_found alone turn s image h = ap (λ b. cond b (Some (own_at alone s image h)) None) (at_itself s image)
+pub own_is_found : (sharing : Sharing) (turn : Option ℕ) (s : SiteId) (image : ℕ) (h : HeaderView)
+    → own_of (under_lock_known sharing turn s image h).owns s image ≡ Some (own_at sharing s image h)
+own_is_found sharing turn s image h = ap (λ b. cond b (Some (own_at sharing s image h)) None) (at_itself s image)
 
 -- where neither refusal holds, the second doesn't
 pub or_else_none : (r later : Option Refusal) → or_else r later ≡ None → later ≡ None
@@ -97,6 +98,14 @@ module _ (at : Label → Knowledge) where
   lawful_on_header s image known next lawful (answer.Header h) can = lawful h can.form can.standalone
   lawful_on_header s image known next lawful a can = lawful_not_there (known a) a
 
+  -- a look of which nothing is needed but what it tells of an own image
+  pub lawful_look : (s : SiteId) (image : ℕ) (k : Knowledge) (next : HeaderView → Plan)
+      → ((h : HeaderView) → IsHeaderInForm h → IsStandalone h → IsLawful at (learned_own k s (op.Header image header.Get) (answer.Header h)) (next h))
+      → (a : Answer) → CanTell (op.Header image header.Get) a → IsLawful at (learned k s (op.Header image header.Get) a) (on_header next a)
+  lawful_look s image k next lawful a can =
+      lawful_by_more at (on_header next a) (learned k s (op.Header image header.Get) a) (learned_own k s (op.Header image header.Get) a) (learned_at_least k s (op.Header image header.Get) a)
+      (lawful_on_header s image (learned_own k s (op.Header image header.Get)) next lawful a can)
+
   pub lawful_on_done : (known : Answer → Knowledge) (next : Plan) → IsLawful at (known answer.Done) next → (a : Answer) → IsLawful at (known a) (on_done next a)
   lawful_on_done known next lawful answer.Done = lawful
   lawful_on_done known next lawful a = lawful_not_there (known a) a
@@ -106,30 +115,30 @@ module _ (at : Label → Knowledge) where
   lawful_unless k (Some r) next lawful = tt
 
   pub lawful_change : (s : SiteId) (name : List ℕ) (sharing : Sharing) (refuses : HeaderView → Option Refusal) (act : ℕ → HeaderView → Plan)
-      → ((image : ℕ) (h : HeaderView) → IsHeaderInForm h → refuses h ≡ None → IsLawful at (under_lock_known (is_alone sharing) None s image h) (act image h))
+      → ((image : ℕ) (h : HeaderView) → IsHeaderInForm h → refuses h ≡ None → IsLawful at (under_lock_known sharing None s image h) (act image h))
       → IsLawful at nothing_known (change_plan s name sharing refuses act)
   lawful_change s name sharing refuses act acts = (
     tt,
     λ found can.
         lawful_on_id (learned nothing_known s (op.Directory (directory.Find name))) (joining s sharing refuses act) (λ image. (
           tt,
-          lawful_on_header s image (learned (known_after_wait nothing_known (wait.Join s image sharing)) s (op.Header image header.Get)) (looked s refuses act image) (λ h form standalone.
-              lawful_unless (record nothing_known { alone = is_alone sharing }) (refuses h) (holding s refuses act image) (λ may_wait. (
+          lawful_look s image (known_after_wait nothing_known (wait.Join s image sharing)) (looked s refuses act image) (λ h form standalone.
+              lawful_unless (record nothing_known { sharing = sharing }) (refuses h) (holding s refuses act image) (λ may_wait. (
                 tt,
-                lawful_on_header s image (learned (holding_known (is_alone sharing) s image) s (op.Header image header.Get)) (owned refuses act image) (λ own form standalone.
-                    lawful_unless (learned (holding_known (is_alone sharing) s image) s (op.Header image header.Get) (answer.Header own)) (refuses own) (act image own) (λ may.
-                    subst (λ k. IsLawful at k (act image own)) (own_told (is_alone sharing) s image own) (acts image own form may))),
+                lawful_look s image (holding_known sharing s image) (owned refuses act image) (λ own form standalone.
+                    lawful_unless (learned_own (holding_known sharing s image) s (op.Header image header.Get) (answer.Header own)) (refuses own) (act image own) (λ may.
+                    subst (λ k. IsLawful at k (act image own)) (own_told sharing s image own) (acts image own form may))),
               ))),
         )) found,
   )
 
 -- ---- what isn't owned
 
-pub not_owned : (k : Knowledge) (s : SiteId) (image : ℕ) (condition : (alone : Bool) → HeaderView → Type 0) → own_of k.owns s image ≡ None → OwnsBy k s image condition → ⊥
+pub not_owned : (k : Knowledge) (s : SiteId) (image : ℕ) (condition : Sharing → HeaderView → Type 0) → own_of k.owns s image ≡ None → OwnsBy k s image condition → ⊥
 not_owned k s image condition none owns = let is = owns.is in cc
 
 -- an object of an image that isn't gone
-pub object_not_owned : (k : Knowledge) (s : SiteId) (image : ℕ) (condition : (alone : Bool) → HeaderView → Type 0) → own_of k.owns s image ≡ None → is_gone k.gone s image ≡ false
+pub object_not_owned : (k : Knowledge) (s : SiteId) (image : ℕ) (condition : Sharing → HeaderView → Type 0) → own_of k.owns s image ≡ None → is_gone k.gone s image ≡ false
     → IsLeftOver k s image ⊎ OwnsBy k s image condition → ⊥
 object_not_owned k s image condition none remains (inl over) = true≢false (sym over.gone ∙ remains)
 object_not_owned k s image condition none remains (inr owns) = not_owned k s image condition none owns
@@ -139,9 +148,9 @@ abbrev pub header_of : Option Own → HeaderView → HeaderView
 header_of None other = other
 header_of (Some o) other = unwrap_or o.header other
 
-pub one_header : (k : Knowledge) (s : SiteId) (image : ℕ) (alone : Bool) (h : HeaderView) (condition : (alone : Bool) → HeaderView → Type 0)
-    → own_of k.owns s image ≡ Some (own_at alone s image h) → (owns : OwnsBy k s image condition) → owns.header ≡ h
-one_header k s image alone h condition is owns = ap (λ o. header_of o h) (sym owns.is ∙ is)
+pub one_header : (k : Knowledge) (s : SiteId) (image : ℕ) (sharing : Sharing) (h : HeaderView) (condition : Sharing → HeaderView → Type 0)
+    → own_of k.owns s image ≡ Some (own_at sharing s image h) → (owns : OwnsBy k s image condition) → owns.header ≡ h
+one_header k s image sharing h condition is owns = ap (λ o. header_of o h) (sym owns.is ∙ is)
 
 -- ---- a lawful request that is fed stays lawful
 

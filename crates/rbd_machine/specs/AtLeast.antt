@@ -1,6 +1,7 @@
 -- Who knows at least as much as another: it may do all that the other may.
 use Rattle.std.specs.Prelude.{◌≡◌, ℕ, true, Any, Option, Some, IfSome}
 use Rattle.rbd_kinds.specs.declared.id.SiteId.{SiteId}
+use Rattle.rbd_machine.specs.Ancestors.{HeaderSeen, IsAmong, ObjectTold}
 use Rattle.rbd_machine.specs.Knowledge.{Knowledge, MapsKnown, ObjectsKnown, is_absent, is_drawn, is_gone, is_raised, maps_of, objects_known_of}
 use Rattle.rbd_machine.specs.Permits.{IsInParts}
 
@@ -28,7 +29,7 @@ pub record AreObjectsAtLeast (more less : ObjectsKnown) : Type 0 where
 -- The one knows all that the other knows. Of headers that it relies on, of its turn and of its
 -- fences it knows just the same: these it uses up.
 pub record KnowsAtLeast (more less : Knowledge) : Type 0 where
-  pub alone : more.alone ≡ less.alone
+  pub sharing : more.sharing ≡ less.sharing
   pub owns : more.owns ≡ less.owns
   pub turn : more.turn ≡ less.turn
   pub fenced : more.fenced ≡ less.fenced
@@ -38,3 +39,5 @@ pub record KnowsAtLeast (more less : Knowledge) : Type 0 where
   pub objects : (site : SiteId) (image : ℕ)
       → AreObjectsAtLeast (objects_known_of more.objects site image) (objects_known_of less.objects site image)
   pub gone : (site : SiteId) (image : ℕ) → is_gone less.gone site image ≡ true → is_gone more.gone site image ≡ true
+  pub seen : (seen : HeaderSeen) → IsAmong seen less.seen → IsAmong seen more.seen
+  pub told : (told : ObjectTold) → IsAmong told less.told → IsAmong told more.told

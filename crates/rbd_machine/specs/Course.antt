@@ -24,7 +24,7 @@ use Rattle.rbd_machine.specs.Wait as wait
 pub record PlaceInLine : Type 0 where
   pub site : SiteId
   pub image : ℕ
-  pub alone : Bool
+  pub sharing : Sharing
   pub stage : Stage
 
 pub record Course : Type 0 where
@@ -81,7 +81,7 @@ past (Some p) = Some (record p { stage = stage.Past })
 -- a request that is alone needs no turns
 abbrev pub due_of : Option PlaceInLine → (objects : List ℕ) → List ℕ
 due_of None objects = []
-due_of (Some p) objects = if p.alone then [] else objects
+due_of (Some p) objects = if is_alone p.sharing then [] else objects
 
 -- ---- the moves of a request
 
@@ -140,7 +140,7 @@ objects_behind turn objects = objects
 
 -- where it has just joined a line
 abbrev pub newcomer : SiteId → (image : ℕ) → Sharing → PlaceInLine
-newcomer site image sharing = record { site = site; image = image; alone = is_alone sharing; stage = stage.Joined }
+newcomer site image sharing = record { site = site; image = image; sharing = sharing; stage = stage.Joined }
 
 -- at the end of its note the request gets its tickets
 abbrev pub noted : Course → Course

@@ -1,7 +1,6 @@
 -- What a request knows: what its operations were answered, and what it waited for. It names no
 -- site's state.
 use Rattle.std.specs.Prelude.{ℕ, ◌*◌, ◌==◌, ◌&&◌, Bool, true, false, not, if◌then◌else◌, List, [], ◌∷◌, length, map, filter, slice_set, Option, Some, None, option_map}
-use Rattle.rbd_kinds.specs.Sharing.{is_alone}
 use Rattle.rbd_kinds.specs.declared.answer.Answer.{Answer}
 use Rattle.rbd_kinds.specs.declared.answer.Answer.TheVariants as answer
 use Rattle.rbd_kinds.specs.declared.data_op.DataOp.{DataOp}
@@ -17,11 +16,14 @@ use Rattle.rbd_kinds.specs.declared.map_op.MapOp.{MapOp}
 use Rattle.rbd_kinds.specs.declared.map_op.MapOp.TheVariants as states
 use Rattle.rbd_kinds.specs.declared.operation.Op.{Op}
 use Rattle.rbd_kinds.specs.declared.operation.Op.TheVariants as op
+use Rattle.rbd_kinds.specs.declared.sharing.Sharing.{Sharing}
+use Rattle.rbd_kinds.specs.declared.sharing.Sharing.TheVariants.{Shared}
 pub use Rattle.rbd_kinds.specs.Images.{is_at, same_site}
 use Rattle.rbd_kinds.specs.declared.layout.Part.{Part}
 use Rattle.rbd_kinds.specs.Instances.{same_instance}
 use Rattle.rbd_header.specs.Header.{with_size, with_snap, without_snap}
 use Rattle.rbd_map.specs.States.{states_of}
+use Rattle.rbd_machine.specs.Ancestors.{HeaderSeen, ObjectTold, seen_by, told_by}
 use Rattle.rbd_machine.specs.Wait.{Wait}
 use Rattle.rbd_machine.specs.Wait as wait
 
@@ -30,12 +32,12 @@ pub record ImagePlace : Type 0 where
   pub site : SiteId
   pub image : ℕ
 
--- An image whose lock the request waited for, whether the request is alone on it, and its header:
--- what the first look behind told, with the request's own changes since.
+-- An image whose lock the request waited for, beside which others the request goes on it, and its
+-- header: what the look under it told, with the request's own changes since.
 pub record Own : Type 0 where
   pub site : SiteId
   pub image : ℕ
-  pub alone : Bool
+  pub sharing : Sharing
   pub header : Option HeaderView
 
 -- An object at a view, the head (None) or a snapshot, whose state isn't 0: this request set it.
@@ -80,8 +82,8 @@ pub record Fence : Type 0 where
   pub instance : Instance
 
 pub record Knowledge : Type 0 where
-  -- whether the request joined its line alone
-  pub alone : Bool
+  -- beside which others the request goes on the image whose line it joined
+  pub sharing : Sharing
   pub owns : List Own
   -- the object at which the request has its turn
   pub turn : Option ℕ
@@ -95,10 +97,25 @@ pub record Knowledge : Type 0 where
   pub objects : List ImageObjects
   -- images whose header the request removed
   pub gone : List ImagePlace
+  -- headers that it was told, of any image, the latest first
+  pub seen : List HeaderSeen
+  -- what it read of snapshots, the latest first
+  pub told : List ObjectTold
 
 abbrev pub nothing_known : Knowledge
 nothing_known =
-    record { alone = false; owns = []; turn = None; drawn = []; fenced = []; maps = []; objects = []; gone = [] }
+    record {
+      sharing = Shared;
+      owns = [];
+      turn = None;
+      drawn = [];
+      fenced = [];
+      maps = [];
+      objects = [];
+      gone = [];
+      seen = [];
+      told = [];
+    }
 
 -- ---- where
 
@@ -155,7 +172,7 @@ unmark m = record m { known = record m.known { raised = [] } }
 abbrev pub unmarked : List ImageMaps → List ImageMaps
 unmarked = map unmark
 
--- At its first look behind the lock the request forgets what it was told of the image's maps
+-- At its look under the lock the request forgets what it was told of the image's maps
 -- before, what it knew of objects by its own changes, and what it waited for.
 abbrev pub afresh : SiteId → (image : ℕ) → Knowledge → Knowledge
 afresh site image k = record k { turn = None; maps = maps_told site image unmapped (unmarked k.maps); objects = [] }
@@ -171,7 +188,7 @@ looked_under_lock (Some o) site image k = looked_by o.header site image k
 abbrev pub looked_behind : SiteId → (image : ℕ) → Knowledge → Knowledge
 looked_behind site image k = looked_under_lock (own_of k.owns site image) site image k
 
--- The first look behind the lock tells the header. Later ones tell nothing new.
+-- The look under the lock tells the header. Later ones tell nothing new.
 abbrev pub first_told : HeaderView → Option HeaderView → Option HeaderView
 first_told h None = Some h
 first_told h (Some own) = Some own
@@ -208,13 +225,13 @@ without_fence site i k = record k { fenced = unfenced site i k.fenced }
 abbrev pub with_maps : SiteId → (image : ℕ) → (MapsKnown → MapsKnown) → Knowledge → Knowledge
 with_maps site image change k = record k { maps = maps_told site image (change (maps_of k.maps site image)) k.maps }
 
+abbrev pub is_view : (one other : Option ℕ) → Bool
+is_view None None = true
+is_view (Some t) (Some s) = t == s
+is_view _ _ = false
+
 abbrev pub is_mark : Option ℕ → (object : ℕ) → Mark → Bool
-is_mark view object m = same_view m.view view && (m.object == object)
-  where
-    same_view : Option ℕ → Option ℕ → Bool
-    same_view None None = true
-    same_view (Some t) (Some s) = t == s
-    same_view _ _ = false
+is_mark view object m = is_view m.view view && (m.object == object)
 
 abbrev pub is_raised : Option ℕ → (object : ℕ) → List Mark → Bool
 is_raised view object [] = false
@@ -226,19 +243,24 @@ marks_after view object state raised =
     if state == 0 then filter (λ m. not (is_mark view object m)) raised
     else record { view = view; object = object } ∷ raised
 
+-- the marks of other views than one whose map was replaced
+abbrev pub marks_apart : (view : Option ℕ) → List Mark → List Mark
+marks_apart view raised = filter (λ m. not (is_view m.view view)) raised
+
 abbrev pub states_set : Option ℕ → (object state : ℕ) → Option (List ℕ) → Option (List ℕ)
 states_set None object state known = option_map (λ states. slice_set states object state) known
 states_set (Some snap) object state known = known
 
 -- The states of the head are told in bits, four objects a byte. A map that was lengthened has other
--- zeros behind its states, and one whose states changed isn't a snapshot's any more.
+-- zeros behind its states, and one whose states changed isn't a snapshot's any more. A snapshot's
+-- map that was put has none of the states that were set there before.
 abbrev pub learned_of_map : Knowledge → SiteId → (image : ℕ) → MapOp → Answer → Knowledge
 learned_of_map k site image (states.Resize count) answer.Done =
     with_maps site image (λ m. record { raised = m.raised; states = None; count = Some count; put = None }) k
 learned_of_map k site image (states.Get None) (answer.Bits bits) =
     with_maps site image (λ m. record m { states = Some (states_of bits (4 * length bits)) }) k
 learned_of_map k site image (states.Put (Some snap) bits) answer.Done =
-    with_maps site image (λ m. record m { put = Some snap }) k
+    with_maps site image (λ m. record m { raised = marks_apart (Some snap) m.raised; put = Some snap }) k
 learned_of_map k site image (states.Set view object state) answer.Done =
     with_maps site image (λ m. record {
       raised = marks_after view object state m.raised;
@@ -323,27 +345,33 @@ learned_of_header k site image (header.LockBreak owner) answer.Done = without_fe
 learned_of_header k site image (header.LockBreak owner) answer.Changed = without_fence site owner k
 learned_of_header k site image _ _ = k
 
--- what is known after an operation and its answer
+-- what is known of ids, locks and images that are the request's own
+abbrev pub learned_own : Knowledge → SiteId → Op → Answer → Knowledge
+learned_own k site (op.Directory o) a = learned_of_directory k site o a
+learned_own k site (op.Header image o) a = learned_of_header k site image o a
+learned_own k site (op.Data image number o) a = learned_of_object k site image number o a
+learned_own k site (op.BlockAdd instance) a = learned_of_listing k site instance a
+learned_own k site (op.Map image o) a = learned_of_map k site image o a
+learned_own k site _ a = k
+
+-- What is known after an operation and its answer: beside what is the request's own, each header
+-- that was told, and what was read of snapshots.
 abbrev pub learned : Knowledge → SiteId → Op → Answer → Knowledge
-learned k site (op.Directory o) a = learned_of_directory k site o a
-learned k site (op.Header image o) a = learned_of_header k site image o a
-learned k site (op.Data image number o) a = learned_of_object k site image number o a
-learned k site (op.BlockAdd instance) a = learned_of_listing k site instance a
-learned k site (op.Map image o) a = learned_of_map k site image o a
-learned k site _ a = k
+learned k site o a =
+    record (learned_own k site o a) { seen = seen_by k.seen site o a; told = told_by k.seen k.told site o a }
 
 -- ---- what a wait teaches
 
 -- A request forgets, when it has the lock, what it knew of the image before.
 abbrev pub owns_when_held : Knowledge → SiteId → (image : ℕ) → List Own
-owns_when_held k site image = record { site = site; image = image; alone = k.alone; header = None }
+owns_when_held k site image = record { site = site; image = image; sharing = k.sharing; header = None }
     ∷ owns_without site image k.owns
 
 -- What is known once the request may go on. A turn lasts up to the next one, or up to the end of
 -- the request's event. What the request knows of an object by its own changes lasts as long, since
 -- another request may lower a state, or change the object, in its own turn.
 abbrev pub known_after_wait : Knowledge → Wait → Knowledge
-known_after_wait k (wait.Join site image sharing) = record k { alone = is_alone sharing }
+known_after_wait k (wait.Join site image sharing) = record k { sharing = sharing }
 known_after_wait k (wait.Hold site image) = record k { owns = owns_when_held k site image; objects = [] }
 known_after_wait k (wait.Turn object) = record k { turn = Some object; maps = unmarked k.maps; objects = [] }
 known_after_wait k (wait.Applied site image) = record k { turn = None; maps = unmarked k.maps; objects = [] }

@@ -20,10 +20,13 @@ use Rattle.rbd_kinds.specs.declared.map_op.MapOp.{MapOp}
 use Rattle.rbd_kinds.specs.declared.map_op.MapOp.TheVariants as states
 use Rattle.rbd_kinds.specs.declared.operation.Op.{Op}
 use Rattle.rbd_kinds.specs.declared.operation.Op.TheVariants as op
+use Rattle.rbd_kinds.specs.declared.sharing.Sharing.{Sharing}
+use Rattle.rbd_kinds.specs.declared.sharing.Sharing.TheVariants.{Alone}
 use Rattle.rbd_kinds.specs.Form.{HasFewObjects, IsNewHeader}
 use Rattle.rbd_kinds.specs.Header.{snap_named}
 use Rattle.rbd_kinds.specs.Parts.{parts_len}
 use Rattle.rbd_kinds.specs.States.{HoldStates}
+use Rattle.rbd_kinds.specs.Sharing.{is_alone}
 use Rattle.rbd_kinds.specs.Striping.{byte_at, object_of, offset_of}
 use Rattle.rbd_header.specs.Header.{context_of, is_full, snap_in}
 use Rattle.rbd_layout.specs.Pieces.{IsIn, IsPart}
@@ -32,16 +35,16 @@ use Rattle.rbd_machine.specs.Knowledge.{Knowledge, MapsKnown, ObjectsKnown, own_
 
 -- The request has the image's lock, and the header that it knows, by its look under the lock and
 -- its own changes since, meets a condition.
-pub record OwnsBy (k : Knowledge) (site : SiteId) (image : ℕ) (condition : (alone : Bool) → HeaderView → Type 0)
-    : Type 0 where
-  pub alone : Bool
+pub record OwnsBy (k : Knowledge) (site : SiteId) (image : ℕ) (condition : Sharing → HeaderView → Type 0) : Type 0 where
+  pub sharing : Sharing
   pub header : HeaderView
-  pub is : own_of k.owns site image ≡ Some (record { site = site; image = image; alone = alone; header = Some header })
-  pub meets : condition alone header
+  pub is : own_of k.owns site image ≡ Some
+      (record { site = site; image = image; sharing = sharing; header = Some header })
+  pub meets : condition sharing header
 
 -- the same, of an image on which the request is alone
 abbrev pub OwnsAlone : Knowledge → SiteId → (image : ℕ) → (HeaderView → Type 0) → Type 0
-OwnsAlone k site image condition = OwnsBy k site image (λ alone h. (alone ≡ true) × condition h)
+OwnsAlone k site image condition = OwnsBy k site image (λ sharing h. (sharing ≡ Alone) × condition h)
 
 -- ---- object maps
 
@@ -124,7 +127,7 @@ pub record MayRemove (snap : ℕ) (h : HeaderView) : Type 0 where
 -- The request waited for the image's lock, alone, and hasn't looked at the header since. So it
 -- relies on no header, and may give the lock up.
 pub record HoldsUnlooked (k : Knowledge) (site : SiteId) (image : ℕ) : Type 0 where
-  pub is : own_of k.owns site image ≡ Some (record { site = site; image = image; alone = true; header = None })
+  pub is : own_of k.owns site image ≡ Some (record { site = site; image = image; sharing = Alone; header = None })
 
 -- ---- objects
 
@@ -141,11 +144,11 @@ pub record LiesBelow (h : HeaderView) (number : ℕ) (p : Part) : Type 0 where
 -- Bytes are written under the snapshot context of the own header, within its size, at the turn, and
 -- behind the object's state in the head's map.
 pub record MayWrite (m : MapsKnown) (turn : Option ℕ) (number : ℕ) (context : SnapContext) (parts : List Part)
-    (bytes : List ℕ) (alone : Bool) (h : HeaderView) : Type 0 where
+    (bytes : List ℕ) (sharing : Sharing) (h : HeaderView) : Type 0 where
   pub under : context ≡ context_of h
   pub within : All (LiesBelow h number) parts
   pub long : length bytes ≡ parts_len parts
-  pub at_turn : HasTurn alone turn number
+  pub at_turn : HasTurn (is_alone sharing) turn number
   pub raised : HasState m number
 
 -- the object has bytes of the size
@@ -154,25 +157,26 @@ IsObjectOf h number = (x : ℕ) × (x < h.size) × (object_of h.layout x ≡ num
 
 -- The state of an object of the size is set in the head's map, at the turn: to 0 only where the
 -- object isn't there.
-pub record MaySet (o : ObjectsKnown) (turn : Option ℕ) (number state : ℕ) (alone : Bool) (h : HeaderView) : Type 0 where
+pub record MaySet (o : ObjectsKnown) (turn : Option ℕ) (number state : ℕ) (sharing : Sharing) (h : HeaderView)
+    : Type 0 where
   pub within : IsObjectOf h number
-  pub at_turn : HasTurn alone turn number
+  pub at_turn : HasTurn (is_alone sharing) turn number
   pub is_state : state < 3
   pub lowers : state ≡ 0 → is_absent number o.absent ≡ true
 
 -- Parts become zeros, which makes no object that isn't there.
-pub record MayZero (turn : Option ℕ) (number : ℕ) (context : SnapContext) (parts : List Part) (alone : Bool)
+pub record MayZero (turn : Option ℕ) (number : ℕ) (context : SnapContext) (parts : List Part) (sharing : Sharing)
     (h : HeaderView) : Type 0 where
   pub under : context ≡ context_of h
   pub within : All (LiesBelow h number) parts
-  pub at_turn : HasTurn alone turn number
+  pub at_turn : HasTurn (is_alone sharing) turn number
 
 -- All bytes of an object become zeros, and it stays, behind its state in the head's map.
-pub record MayEmpty (m : MapsKnown) (turn : Option ℕ) (number : ℕ) (context : SnapContext) (alone : Bool)
+pub record MayEmpty (m : MapsKnown) (turn : Option ℕ) (number : ℕ) (context : SnapContext) (sharing : Sharing)
     (h : HeaderView) : Type 0 where
   pub under : context ≡ context_of h
   pub within : IsObjectOf h number
-  pub at_turn : HasTurn alone turn number
+  pub at_turn : HasTurn (is_alone sharing) turn number
   pub raised : HasState m number
 
 -- no byte of the object is inside the overlap
@@ -180,19 +184,19 @@ abbrev pub IsOutsideOverlap : HeaderView → (number : ℕ) → Type 0
 IsOutsideOverlap h number = (link : ParentLink) → h.parent ≡ Some link → link.overlap ≤ byte_at h.layout number 0
 
 -- An object goes, unless its parent's bytes would show then.
-pub record MayRemoveObject (turn : Option ℕ) (number : ℕ) (context : SnapContext) (alone : Bool)
+pub record MayRemoveObject (turn : Option ℕ) (number : ℕ) (context : SnapContext) (sharing : Sharing)
     (h : HeaderView) : Type 0 where
   pub under : context ≡ context_of h
   pub within : IsObjectOf h number
-  pub at_turn : HasTurn alone turn number
+  pub at_turn : HasTurn (is_alone sharing) turn number
   pub outside : IsOutsideOverlap h number
 
 -- An object becomes these bytes, of which those past the size are zeros, behind its state.
 pub record MayReplace (m : MapsKnown) (turn : Option ℕ) (number : ℕ) (context : SnapContext) (bytes : List ℕ)
-    (alone : Bool) (h : HeaderView) : Type 0 where
+    (sharing : Sharing) (h : HeaderView) : Type 0 where
   pub under : context ≡ context_of h
   pub within : IsObjectOf h number
-  pub at_turn : HasTurn alone turn number
+  pub at_turn : HasTurn (is_alone sharing) turn number
   pub raised : HasState m number
   pub long : length bytes ≤ h.layout.object
   pub clear : (x : ℕ) → h.size ≤ x → object_of h.layout x ≡ number → slice_index bytes (offset_of h.layout x) ≡ 0

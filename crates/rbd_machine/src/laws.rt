@@ -17,6 +17,7 @@ ghost use Rattle.rbd_kinds.specs.declared.header.HeaderView.{HeaderView};
 ghost use Rattle.rbd_kinds.specs.declared.id.Instance.{Instance};
 ghost use Rattle.rbd_kinds.specs.declared.id.SiteId.{SiteId};
 ghost use Rattle.rbd_kinds.specs.declared.sharing.Sharing.{Sharing};
+ghost use Rattle.rbd_kinds.specs.Sharing.{is_alone};
 ghost use Rattle.rbd_commands.specs.declared.refusal.Refusal.{Refusal};
 ghost use Rattle.rbd_kinds.specs.declared.machine.Fed.{Fed};
 ghost use Rattle.rbd_kinds.specs.declared.machine.Want.TheVariants.{Note, Op as WantsOp};
@@ -113,13 +114,13 @@ pub fn what_is_not_owned_is_left()
 /// A request that goes by its look under the lock may neither write under another snapshot context
 /// than that look's, nor remove a snapshot that the look lists as protected.
 pub fn the_look_under_lock_decides()
-    ensures context { (k : Knowledge) (site : SiteId) (image number : ℕ) (alone : Bool) (h : HeaderView)
+    ensures context { (k : Knowledge) (site : SiteId) (image number : ℕ) (sharing : Sharing) (h : HeaderView)
         (context : SnapContext) (must : Bool) (parts : List Part) (bytes : List ℕ)
-        → own_of k.owns site image ≡ Some (record { site = site; image = image; alone = alone; header = Some h })
+        → own_of k.owns site image ≡ Some (record { site = site; image = image; sharing = sharing; header = Some h })
         → Permits k site (Data image number (Write context must parts bytes)) → context ≡ context_of h }
-    ensures protected { (k : Knowledge) (site : SiteId) (image snap : ℕ) (alone : Bool) (h : HeaderView)
+    ensures protected { (k : Knowledge) (site : SiteId) (image snap : ℕ) (sharing : Sharing) (h : HeaderView)
         (listed : SnapView)
-        → own_of k.owns site image ≡ Some (record { site = site; image = image; alone = alone; header = Some h })
+        → own_of k.owns site image ≡ Some (record { site = site; image = image; sharing = sharing; header = Some h })
         → snap_in h.snaps snap ≡ Some listed → (listed.status ≡ Unprotected → ⊥)
         → Permits k site (Header image (SnapRemove snap)) → ⊥ }
 {}
@@ -144,8 +145,8 @@ pub fn maps_come_first()
         → (maps_of k.maps site image).put ≡ None → Permits k site (Header image (SnapAdd name)) → ⊥ }
     ensures making { (k : Knowledge) (site : SiteId) (image : ℕ) (view : HeaderView)
         → (maps_of k.maps site image).count ≡ None → Permits k site (Header image (Create view)) → ⊥ }
-    ensures growing { (k : Knowledge) (site : SiteId) (image to : ℕ) (alone : Bool) (h : HeaderView)
-        → own_of k.owns site image ≡ Some (record { site = site; image = image; alone = alone; header = Some h })
+    ensures growing { (k : Knowledge) (site : SiteId) (image to : ℕ) (sharing : Sharing) (h : HeaderView)
+        → own_of k.owns site image ≡ Some (record { site = site; image = image; sharing = sharing; header = Some h })
         → h.size < to
         → (maps_of k.maps site image).count ≡ None → Permits k site (Header image (SetSize to)) → ⊥ }
 {}
@@ -170,11 +171,12 @@ pub fn locks_end_by_what_is_known()
         → is_fenced_by k.fenced site owner ≡ false → Permits k site (Header image (LockBreak owner)) → ⊥ }
     ensures unheld { (k : Knowledge) (site : SiteId) (image : ℕ)
         → own_of k.owns site image ≡ None → Permits k site (Header image LockDrop) → ⊥ }
-    ensures shared { (k : Knowledge) (site : SiteId) (image : ℕ) (header : Option HeaderView)
-        → own_of k.owns site image ≡ Some (record { site = site; image = image; alone = false; header = header })
+    ensures shared { (k : Knowledge) (site : SiteId) (image : ℕ) (sharing : Sharing) (header : Option HeaderView)
+        → IsFalse (is_alone sharing)
+        → own_of k.owns site image ≡ Some (record { site = site; image = image; sharing = sharing; header = header })
         → Permits k site (Header image LockDrop) → ⊥ }
-    ensures looked { (k : Knowledge) (site : SiteId) (image : ℕ) (alone : Bool) (h : HeaderView)
-        → own_of k.owns site image ≡ Some (record { site = site; image = image; alone = alone; header = Some h })
+    ensures looked { (k : Knowledge) (site : SiteId) (image : ℕ) (sharing : Sharing) (h : HeaderView)
+        → own_of k.owns site image ≡ Some (record { site = site; image = image; sharing = sharing; header = Some h })
         → Permits k site (Header image LockDrop) → ⊥ }
 {}
 

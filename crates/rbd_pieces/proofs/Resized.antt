@@ -9,6 +9,8 @@ use Rattle.rbd_kinds.specs.declared.answer.Answer.TheVariants as answer
 use Rattle.rbd_kinds.specs.declared.header.HeaderView.{HeaderView}
 use Rattle.rbd_kinds.specs.declared.id.SiteId.{SiteId}
 use Rattle.rbd_kinds.specs.declared.layout.Layout.{Layout}
+use Rattle.rbd_kinds.specs.declared.sharing.Sharing.{Sharing}
+use Rattle.rbd_kinds.specs.declared.sharing.Sharing.TheVariants.{Alone}
 use Rattle.rbd_kinds.specs.Form.{HasFewObjects}
 use Rattle.rbd_kinds.specs.States.{state_at}
 use Rattle.rbd_kinds.specs.Striping.{IsLayout, IsObjectCount, object_of}
@@ -65,25 +67,25 @@ told_there site image change (o ∷ owns) = go (is_at site image o.site o.image)
         ∙ ap (λ b. cond b (Some o) (own_of rest site image)) elsewhere ∙ later
         ∙ sym (ap (λ b. option_map (with_header change) (cond b (Some o) (own_of owns site image))) elsewhere)
 
-size_is_told : (site : SiteId) (image : ℕ) (h : HeaderView) (alone : Bool) (to : ℕ) (k : Knowledge) → OwnsByHeader k site image alone h
-    → OwnsByHeader (learned k site (header_set_size image to) answer.Done) site image alone (with_size to h)
-size_is_told site image h alone to k owns = told_there site image (option_map (with_size to)) k.owns ∙ ap (option_map (with_header (option_map (with_size to)))) owns
+size_is_told : (site : SiteId) (image : ℕ) (h : HeaderView) (sharing : Sharing) (to : ℕ) (k : Knowledge) → OwnsByHeader k site image sharing h
+    → OwnsByHeader (learned k site (header_set_size image to) answer.Done) site image sharing (with_size to h)
+size_is_told site image h sharing to k owns = told_there site image (option_map (with_size to)) k.owns ∙ ap (option_map (with_header (option_map (with_size to)))) owns
 
 -- ---- pieces one after another
 
-lawful_zeros : (at : Label → Knowledge) (site : SiteId) (image : ℕ) (h : HeaderView) (pieces : List Piece) (k : Knowledge) (next : Plan) → OwnsByHeader k site image true h → All (IsPieceOf h) pieces
+lawful_zeros : (at : Label → Knowledge) (site : SiteId) (image : ℕ) (h : HeaderView) (pieces : List Piece) (k : Knowledge) (next : Plan) → OwnsByHeader k site image Alone h → All (IsPieceOf h) pieces
     → IsLawful at (known_behind k (pieces_zeroed site image h pieces)) next → IsLawful at k (zero_pieces site image h pieces next)
 lawful_zeros at site image h [] k next owns are lawful = lawful
 lawful_zeros at site image h (p ∷ pieces) k next owns are lawful =
     let behind = known_behind k (zeroed_steps site image h p) in
-    lawful_zero at k site image h p (zero_pieces site image h pieces next) (record { alone = true; owns = owns; turn = tt }) (All-head (IsPieceOf h) p pieces are)
-    (lawful_zeros at site image h pieces behind next (zero_owns site image h h true p k owns) (All-tail (IsPieceOf h) p pieces are)
+    lawful_zero at k site image h p (zero_pieces site image h pieces next) (record { sharing = Alone; owns = owns; turn = tt }) (All-head (IsPieceOf h) p pieces are)
+    (lawful_zeros at site image h pieces behind next (zero_owns site image h h Alone p k owns) (All-tail (IsPieceOf h) p pieces are)
     (subst (λ known. IsLawful at known next) (behind_more k (zeroed_steps site image h p) (pieces_zeroed site image h pieces)) lawful))
 
 module _ (site : SiteId) (image : ℕ) (h : HeaderView) (to : ℕ) where
   -- ---- growth
 
-  module _ (at : Label → Knowledge) (k : Knowledge) (owns : OwnsByHeader k site image true h) (objects : ℕ) (few : HasFewObjects h.layout to) (counted : IsObjectCount h.layout to objects) where
+  module _ (at : Label → Knowledge) (k : Knowledge) (owns : OwnsByHeader k site image Alone h) (objects : ℕ) (few : HasFewObjects h.layout to) (counted : IsObjectCount h.layout to objects) where
     -- the map got room
     abbrev roomy : Knowledge
     roomy = learned k site (map_resize image objects) answer.Done
@@ -93,7 +95,7 @@ module _ (site : SiteId) (image : ℕ) (h : HeaderView) (to : ℕ) where
 
     may_grow : h.size ≤ to → Permits roomy site (header_set_size image to)
     may_grow most = record {
-      alone = true;
+      sharing = Alone;
       header = h;
       is = owns;
       meets = (
@@ -113,7 +115,7 @@ module _ (site : SiteId) (image : ℕ) (h : HeaderView) (to : ℕ) where
     lawful_growing : (next : Plan) → h.size ≤ to → IsLawful at (known_behind k (grown site image to objects)) next → IsLawful at k (growing site image to objects next)
     lawful_growing next most lawful =
         lawful_own at k site (map_resize image objects) (sizing site image to next)
-        (inr (record { alone = true; header = h; is = owns; meets = (refl, few_objects h.layout to objects few counted) }))
+        (inr (record { sharing = Alone; header = h; is = owns; meets = (refl, few_objects h.layout to objects few counted) }))
         (lawful_own at roomy site (header_set_size image to) next (may_grow most) lawful)
 
   -- ---- a byte that goes
@@ -164,11 +166,11 @@ module _ (site : SiteId) (image : ℕ) (h : HeaderView) (to : ℕ) where
       all_zero : (x : ℕ) → to ≤ x → x < h.size → IsZero site image h x cut_off
       all_zero x low high = zeros_there site image h x (pieces_from h to bits) told (all_take x low high) (zero_or_left x low high)
 
-      may_shrink : OwnsByHeader k site image true h → HasFewObjects h.layout to → to < h.size → Permits cut_off site (header_set_size image to)
+      may_shrink : OwnsByHeader k site image Alone h → HasFewObjects h.layout to → to < h.size → Permits cut_off site (header_set_size image to)
       may_shrink owns few less = record {
-        alone = true;
+        sharing = Alone;
         header = h;
-        is = zeros_own site image h h true (pieces_from h to bits) told owns;
+        is = zeros_own site image h h Alone (pieces_from h to bits) told owns;
         meets = (
           refl,
           record {
@@ -179,7 +181,7 @@ module _ (site : SiteId) (image : ℕ) (h : HeaderView) (to : ℕ) where
         );
       }
 
-      lawful_cutting : (at : Label → Knowledge) (next : Plan) → OwnsByHeader k site image true h → HasFewObjects h.layout to → to < h.size → IsLawful at (known_behind k (shrunk site image h to bits)) next
+      lawful_cutting : (at : Label → Knowledge) (next : Plan) → OwnsByHeader k site image Alone h → HasFewObjects h.layout to → to < h.size → IsLawful at (known_behind k (shrunk site image h to bits)) next
           → IsLawful at told (cutting site image h to next bits)
       lawful_cutting at next owns few less lawful =
           let below : All (IsPieceOf h) (pieces_of h.layout (head_from h to)) = pieces_below h (head_from h to) is (let all : to + (h.size - to) ≤ h.size = omega (arith, less) in all) in
@@ -188,7 +190,7 @@ module _ (site : SiteId) (image : ℕ) (h : HeaderView) (to : ℕ) where
           (lawful_own at cut_off site (header_set_size image to) next (may_shrink owns few less)
           (subst (λ known. IsLawful at known next) (behind_more told (pieces_zeroed site image h (pieces_from h to bits)) (done site (header_set_size image to) ∷ [])) lawful))
 
-  lawful_shrinking : (at : Label → Knowledge) (k : Knowledge) (next : Plan) → IsLayout h.layout → OwnsByHeader k site image true h → HasFewObjects h.layout to → to < h.size
+  lawful_shrinking : (at : Label → Knowledge) (k : Knowledge) (next : Plan) → IsLayout h.layout → OwnsByHeader k site image Alone h → HasFewObjects h.layout to → to < h.size
       → ((steps : List Answered) → IsShrunk site image h to steps → IsLawful at (known_behind k steps) next) → IsLawful at k (shrinking site image h to next)
   lawful_shrinking at k next is owns few less lawful = (tt, λ a can. on a)
     where
@@ -198,35 +200,35 @@ module _ (site : SiteId) (image : ℕ) (h : HeaderView) (to : ℕ) where
 
   -- ---- either
 
-  lawful_resize_by : (grows : Bool) (at : Label → Knowledge) (k : Knowledge) (objects : ℕ) (next : Plan) → nat_le h.size to ≡ grows → IsLayout h.layout → OwnsByHeader k site image true h
+  lawful_resize_by : (grows : Bool) (at : Label → Knowledge) (k : Knowledge) (objects : ℕ) (next : Plan) → nat_le h.size to ≡ grows → IsLayout h.layout → OwnsByHeader k site image Alone h
       → HasFewObjects h.layout to → IsObjectCount h.layout to objects
       → ((steps : List Answered) → IsResizedBy grows site image h to objects steps → IsLawful at (known_behind k steps) next) → IsLawful at k (resize_by grows site image h to objects next)
   lawful_resize_by true at k objects next grows is owns few counted lawful =
       lawful_growing at k owns objects few counted next (grind (arith, nat_tests)) (lawful (grown site image to objects) refl)
   lawful_resize_by false at k objects next shrinks is owns few counted lawful = lawful_shrinking at k next is owns few (grind (arith, nat_tests)) lawful
 
-  pub lawful_resize : (at : Label → Knowledge) (k : Knowledge) (objects : ℕ) (next : Plan) → IsLayout h.layout → OwnsByHeader k site image true h → HasFewObjects h.layout to → IsObjectCount h.layout to objects
+  pub lawful_resize : (at : Label → Knowledge) (k : Knowledge) (objects : ℕ) (next : Plan) → IsLayout h.layout → OwnsByHeader k site image Alone h → HasFewObjects h.layout to → IsObjectCount h.layout to objects
       → ((steps : List Answered) → IsResized site image h to objects steps → IsLawful at (known_behind k steps) next) → IsLawful at k (resize site image h to objects next)
   lawful_resize at k objects next is owns few counted lawful = lawful_resize_by (nat_le h.size to) at k objects next refl is owns few counted lawful
 
   -- ---- whose the image is then
 
-  shrunk_owns : (k : Knowledge) (bits : List ℕ) → OwnsByHeader k site image true h → OwnsByHeader (known_behind k (shrunk site image h to bits)) site image true (with_size to h)
+  shrunk_owns : (k : Knowledge) (bits : List ℕ) → OwnsByHeader k site image Alone h → OwnsByHeader (known_behind k (shrunk site image h to bits)) site image Alone (with_size to h)
   shrunk_owns k bits owns =
       let zeros = pieces_zeroed site image h (pieces_from h to bits) in
-      subst (λ known. OwnsByHeader known site image true (with_size to h)) (sym (behind_more (told' k bits) zeros (done site (header_set_size image to) ∷ [])))
-      (size_is_told site image h true to (known_behind (told' k bits) zeros) (zeros_own site image h h true (pieces_from h to bits) (told' k bits) owns))
+      subst (λ known. OwnsByHeader known site image Alone (with_size to h)) (sym (behind_more (told' k bits) zeros (done site (header_set_size image to) ∷ [])))
+      (size_is_told site image h Alone to (known_behind (told' k bits) zeros) (zeros_own site image h h Alone (pieces_from h to bits) (told' k bits) owns))
     where
       told' : Knowledge → List ℕ → Knowledge
       told' k bits = learned k site (map_get image) (answer.Bits bits)
 
-  resized_owns_by : (grows : Bool) (k : Knowledge) (objects : ℕ) (steps : List Answered) → OwnsByHeader k site image true h → IsResizedBy grows site image h to objects steps
-      → OwnsByHeader (known_behind k steps) site image true (with_size to h)
+  resized_owns_by : (grows : Bool) (k : Knowledge) (objects : ℕ) (steps : List Answered) → OwnsByHeader k site image Alone h → IsResizedBy grows site image h to objects steps
+      → OwnsByHeader (known_behind k steps) site image Alone (with_size to h)
   resized_owns_by true k objects steps owns are =
-      subst (λ done. OwnsByHeader (known_behind k done) site image true (with_size to h)) (sym are)
-      (size_is_told site image h true to (learned k site (map_resize image objects) answer.Done) owns)
+      subst (λ done. OwnsByHeader (known_behind k done) site image Alone (with_size to h)) (sym are)
+      (size_is_told site image h Alone to (learned k site (map_resize image objects) answer.Done) owns)
   resized_owns_by false k objects steps owns is =
-      subst (λ done. OwnsByHeader (known_behind k done) site image true (with_size to h)) (sym is.are) (shrunk_owns k is.bits owns)
+      subst (λ done. OwnsByHeader (known_behind k done) site image Alone (with_size to h)) (sym is.are) (shrunk_owns k is.bits owns)
 
-  pub resized_owns : (k : Knowledge) (objects : ℕ) (steps : List Answered) → OwnsByHeader k site image true h → IsResized site image h to objects steps → OwnsByHeader (known_behind k steps) site image true (with_size to h)
+  pub resized_owns : (k : Knowledge) (objects : ℕ) (steps : List Answered) → OwnsByHeader k site image Alone h → IsResized site image h to objects steps → OwnsByHeader (known_behind k steps) site image Alone (with_size to h)
   resized_owns k objects steps owns are = resized_owns_by (nat_le h.size to) k objects steps owns are

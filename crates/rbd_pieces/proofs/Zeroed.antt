@@ -9,6 +9,7 @@ use Rattle.std.proofs.lemmas.List.FromFn.{get_or-map-range_with_len, length-map-
 use Rattle.rbd_kinds.specs.declared.answer.Answer.TheVariants as answer
 use Rattle.rbd_kinds.specs.declared.header.HeaderView.{HeaderView}
 use Rattle.rbd_kinds.specs.declared.id.SiteId.{SiteId}
+use Rattle.rbd_kinds.specs.declared.sharing.Sharing.{Sharing}
 use Rattle.rbd_kinds.specs.States.{state_at}
 use Rattle.rbd_kinds.specs.Striping.{object_of}
 use Rattle.rbd_header.specs.Header.{context_of}
@@ -51,33 +52,33 @@ behind_more k [] second = refl
 behind_more k (a ∷ first) second = behind_more (learned k a.site a.op a.answer) first second
 
 -- a piece leaves it its own, and its turn
-pub zero_owns : (site : SiteId) (image : ℕ) (h own : HeaderView) (alone : Bool) (p : Piece) (k : Knowledge) → OwnsByHeader k site image alone own → OwnsByHeader (known_behind k (zeroed_steps site image h p)) site image alone own
-zero_owns site image h own alone p k owns = by (is_whole h p) (is_inside h p.object)
+pub zero_owns : (site : SiteId) (image : ℕ) (h own : HeaderView) (sharing : Sharing) (p : Piece) (k : Knowledge) → OwnsByHeader k site image sharing own → OwnsByHeader (known_behind k (zeroed_steps site image h p)) site image sharing own
+zero_owns site image h own sharing p k owns = by (is_whole h p) (is_inside h p.object)
   where
-    by : (whole inside : Bool) → OwnsByHeader (known_behind k (zeroed_by site image (context_of h) p whole inside)) site image alone own
+    by : (whole inside : Bool) → OwnsByHeader (known_behind k (zeroed_by site image (context_of h) p whole inside)) site image sharing own
     by true true = owns
     by true false = owns
     by false true = owns
     by false false = owns
 
-full_by_owns : (site : SiteId) (image : ℕ) (h own : HeaderView) (alone : Bool) (p : Piece) (left : List ℕ) (k : Knowledge) → OwnsByHeader k site image alone own → OwnsByHeader (known_behind k (replaced_by site image h p left)) site image alone own
-full_by_owns site image h own alone p (byte ∷ left) k owns = owns
-full_by_owns site image h own alone p [] k owns = by (is_inside h p.object)
+full_by_owns : (site : SiteId) (image : ℕ) (h own : HeaderView) (sharing : Sharing) (p : Piece) (left : List ℕ) (k : Knowledge) → OwnsByHeader k site image sharing own → OwnsByHeader (known_behind k (replaced_by site image h p left)) site image sharing own
+full_by_owns site image h own sharing p (byte ∷ left) k owns = owns
+full_by_owns site image h own sharing p [] k owns = by (is_inside h p.object)
   where
-    by : (inside : Bool) → OwnsByHeader (known_behind k (all_zeroed site image (context_of h) p inside)) site image alone own
+    by : (inside : Bool) → OwnsByHeader (known_behind k (all_zeroed site image (context_of h) p inside)) site image sharing own
     by true = owns
     by false = owns
 
 -- and so does one that is replaced
-pub full_owns : (site : SiteId) (image : ℕ) (h own : HeaderView) (alone : Bool) (p : Piece) (bytes : List ℕ) (k : Knowledge) → OwnsByHeader k site image alone own → OwnsByHeader (known_behind k (replaced site image h p bytes)) site image alone own
-full_owns site image h own alone p bytes k owns = full_by_owns site image h own alone p (cut_bytes bytes) k owns
+pub full_owns : (site : SiteId) (image : ℕ) (h own : HeaderView) (sharing : Sharing) (p : Piece) (bytes : List ℕ) (k : Knowledge) → OwnsByHeader k site image sharing own → OwnsByHeader (known_behind k (replaced site image h p bytes)) site image sharing own
+full_owns site image h own sharing p bytes k owns = full_by_owns site image h own sharing p (cut_bytes bytes) k owns
 
-pub zeros_own : (site : SiteId) (image : ℕ) (h own : HeaderView) (alone : Bool) (pieces : List Piece) (k : Knowledge) → OwnsByHeader k site image alone own
-    → OwnsByHeader (known_behind k (pieces_zeroed site image h pieces)) site image alone own
-zeros_own site image h own alone [] k owns = owns
-zeros_own site image h own alone (p ∷ pieces) k owns =
-    subst (λ known. OwnsByHeader known site image alone own) (sym (behind_more k (zeroed_steps site image h p) (pieces_zeroed site image h pieces)))
-    (zeros_own site image h own alone pieces (known_behind k (zeroed_steps site image h p)) (zero_owns site image h own alone p k owns))
+pub zeros_own : (site : SiteId) (image : ℕ) (h own : HeaderView) (sharing : Sharing) (pieces : List Piece) (k : Knowledge) → OwnsByHeader k site image sharing own
+    → OwnsByHeader (known_behind k (pieces_zeroed site image h pieces)) site image sharing own
+zeros_own site image h own sharing [] k owns = owns
+zeros_own site image h own sharing (p ∷ pieces) k owns =
+    subst (λ known. OwnsByHeader known site image sharing own) (sym (behind_more k (zeroed_steps site image h p) (pieces_zeroed site image h pieces)))
+    (zeros_own site image h own sharing pieces (known_behind k (zeroed_steps site image h p)) (zero_owns site image h own sharing p k owns))
 
 -- ---- zeros
 

@@ -7,6 +7,8 @@ use Rattle.rbd_kinds.specs.declared.header.HeaderView.{HeaderView}
 use Rattle.rbd_kinds.specs.declared.header.ParentLink.{ParentLink}
 use Rattle.rbd_kinds.specs.declared.id.SiteId.{SiteId}
 use Rattle.rbd_kinds.specs.declared.operation.Op.{Op}
+use Rattle.rbd_kinds.specs.declared.sharing.Sharing.{Sharing}
+use Rattle.rbd_kinds.specs.Sharing.{is_alone}
 use Rattle.rbd_kinds.specs.Parts.{parts_len}
 use Rattle.rbd_kinds.specs.Striping.{IsLayout, byte_at, offset_of}
 use Rattle.rbd_kinds.proofs.Images.{at_itself}
@@ -72,11 +74,11 @@ cut_len bytes =
 pub lawful_own : (at : Label → Knowledge) (k : Knowledge) (site : SiteId) (o : Op) (next : Plan) → Permits k site o → IsLawful at (learned k site o answer.Done) next → IsLawful at k (own site o (on_done next))
 lawful_own at k site o next may lawful = (may, λ a can. lawful_on_done at (learned k site o) next lawful a)
 
-module _ (site : SiteId) (image : ℕ) (h : HeaderView) (p : Piece) (is : IsPieceOf h p) (alone : Bool) where
-  module _ (k : Knowledge) (owns : OwnsByHeader k site image alone h) (turn : HasTurn alone k.turn p.object) where
+module _ (site : SiteId) (image : ℕ) (h : HeaderView) (p : Piece) (is : IsPieceOf h p) (sharing : Sharing) where
+  module _ (k : Knowledge) (owns : OwnsByHeader k site image sharing h) (turn : HasTurn (is_alone sharing) k.turn p.object) where
     pub may_raise : (state : ℕ) → state < 2 → Permits k site (map_set image p.object (suc state))
     may_raise state less = record {
-      alone = alone;
+      sharing = sharing;
       header = h;
       is = owns;
       meets = record { within = is.object; at_turn = turn; is_state = omega (arith, less); lowers = λ none. absurd (omega (arith, none)) };
@@ -84,25 +86,25 @@ module _ (site : SiteId) (image : ℕ) (h : HeaderView) (p : Piece) (is : IsPiec
 
     may_lower : is_absent p.object (objects_known_of k.objects site image).absent ≡ true → Permits k site (map_set image p.object 0)
     may_lower absent = record {
-      alone = alone;
+      sharing = sharing;
       header = h;
       is = owns;
       meets = record { within = is.object; at_turn = turn; is_state = omega arith; lowers = λ none. absent };
     }
 
     may_zero : (must : Bool) → Permits k site (data_zero image (context_of h) must p)
-    may_zero must = record { alone = alone; header = h; is = owns; meets = record { under = refl; within = is.parts; at_turn = turn } }
+    may_zero must = record { sharing = sharing; header = h; is = owns; meets = record { under = refl; within = is.parts; at_turn = turn } }
 
     may_empty : HasState (maps_of k.maps site image) p.object → Permits k site (data_empty image (context_of h) p.object)
-    may_empty raised = record { alone = alone; header = h; is = owns; meets = record { under = refl; within = is.object; at_turn = turn; raised = raised } }
+    may_empty raised = record { sharing = sharing; header = h; is = owns; meets = record { under = refl; within = is.object; at_turn = turn; raised = raised } }
 
     may_remove : is_inside h p.object ≡ false → Permits k site (data_remove image (context_of h) p.object)
-    may_remove none = inr (record { alone = alone; header = h; is = owns; meets = record { under = refl; within = is.object; at_turn = turn; outside = is_outside h p.object none } })
+    may_remove none = inr (record { sharing = sharing; header = h; is = owns; meets = record { under = refl; within = is.object; at_turn = turn; outside = is_outside h p.object none } })
 
     may_replace : HasState (maps_of k.maps site image) p.object → IsLayout h.layout → is_whole h p ≡ true → (bytes : List ℕ) → length bytes ≤ parts_len p.parts
         → Permits k site (data_write_full image (context_of h) p.object bytes)
     may_replace raised layout whole bytes few = record {
-      alone = alone;
+      sharing = sharing;
       header = h;
       is = owns;
       meets = record {
@@ -117,7 +119,7 @@ module _ (site : SiteId) (image : ℕ) (h : HeaderView) (p : Piece) (is : IsPiec
       };
     }
 
-  module _ (at : Label → Knowledge) (k : Knowledge) (owns : OwnsByHeader k site image alone h) (turn : HasTurn alone k.turn p.object) (next : Plan) where
+  module _ (at : Label → Knowledge) (k : Knowledge) (owns : OwnsByHeader k site image sharing h) (turn : HasTurn (is_alone sharing) k.turn p.object) (next : Plan) where
     lawful_all : (inside : Bool) → is_inside h p.object ≡ inside → IsLawful at (known_behind k (all_zeroed site image (context_of h) p inside)) next → IsLawful at k (zero_all site image (context_of h) p inside next)
     lawful_all true there lawful =
         let raised = learned k site (map_set image p.object 1) answer.Done in
@@ -148,10 +150,10 @@ module _ (site : SiteId) (image : ℕ) (h : HeaderView) (p : Piece) (is : IsPiec
 
 module _ (at : Label → Knowledge) (k : Knowledge) (site : SiteId) (image : ℕ) (h : HeaderView) (p : Piece) where
   pub lawful_zero : (next : Plan) → OwnsObject k site image h p.object → IsPieceOf h p → IsLawful at (known_behind k (zeroed_steps site image h p)) next → IsLawful at k (zero_piece site image h p next)
-  lawful_zero next own is lawful = lawful_by site image h p is own.alone at k own.owns own.turn next (is_whole h p) (is_inside h p.object) refl lawful
+  lawful_zero next own is lawful = lawful_by site image h p is own.sharing at k own.owns own.turn next (is_whole h p) (is_inside h p.object) refl lawful
 
   pub lawful_full : (bytes : List ℕ) (next : Plan) → OwnsObject k site image h p.object → IsLayout h.layout → IsPieceOf h p → is_whole h p ≡ true → length bytes ≤ parts_len p.parts
       → IsLawful at (known_behind k (replaced site image h p bytes)) next → IsLawful at k (full_piece site image h p bytes next)
   lawful_full bytes next own layout is whole few lawful =
       let less : length (cut_bytes bytes) ≤ length bytes = cut_len bytes in
-      lawful_full_by site image h p is own.alone at k own.owns own.turn next layout whole (cut_bytes bytes) (omega (arith, less, few)) lawful
+      lawful_full_by site image h p is own.sharing at k own.owns own.turn next layout whole (cut_bytes bytes) (omega (arith, less, few)) lawful

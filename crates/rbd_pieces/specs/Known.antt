@@ -1,7 +1,9 @@
 -- What a request knows where a part begins, and where it ends.
-use Rattle.std.specs.Prelude.{◌≡◌, ℕ, Bool, List, [], ◌∷◌, All, Some}
+use Rattle.std.specs.Prelude.{◌≡◌, ℕ, List, [], ◌∷◌, All, Some}
 use Rattle.rbd_kinds.specs.declared.header.HeaderView.{HeaderView}
 use Rattle.rbd_kinds.specs.declared.id.SiteId.{SiteId}
+use Rattle.rbd_kinds.specs.declared.sharing.Sharing.{Sharing}
+use Rattle.rbd_kinds.specs.Sharing.{is_alone}
 use Rattle.rbd_layout.specs.declared.types.Piece.{Piece}
 use Rattle.rbd_machine.specs.Knowledge.{Knowledge, learned, own_of}
 use Rattle.rbd_machine.specs.Path.{Answered}
@@ -13,15 +15,15 @@ known_behind k [] = k
 known_behind k (a ∷ steps) = known_behind (learned k a.site a.op a.answer) steps
 
 -- It owns the image by this header.
-abbrev pub OwnsByHeader : Knowledge → SiteId → (image : ℕ) → (alone : Bool) → HeaderView → Type 0
-OwnsByHeader k site image alone h =
-    own_of k.owns site image ≡ Some (record { site = site; image = image; alone = alone; header = Some h })
+abbrev pub OwnsByHeader : Knowledge → SiteId → (image : ℕ) → Sharing → HeaderView → Type 0
+OwnsByHeader k site image sharing h =
+    own_of k.owns site image ≡ Some (record { site = site; image = image; sharing = sharing; header = Some h })
 
 -- It owns the image by this header, alone, or at its turn at the object.
 pub record OwnsObject (k : Knowledge) (site : SiteId) (image : ℕ) (h : HeaderView) (number : ℕ) : Type 0 where
-  pub alone : Bool
-  pub owns : OwnsByHeader k site image alone h
-  pub turn : HasTurn alone k.turn number
+  pub sharing : Sharing
+  pub owns : OwnsByHeader k site image sharing h
+  pub turn : HasTurn (is_alone sharing) k.turn number
 
 -- The piece is one of the head: its parts lie in its object, and end within the size.
 pub record IsPieceOf (h : HeaderView) (p : Piece) : Type 0 where

@@ -1,11 +1,13 @@
 //! What parts do to their end, and by how many operations, and what their definitions mean: laws,
 //! each the contract of a function that does nothing.
-ghost use Rattle.std.specs.Prelude.{◌≡◌, ℕ, ◌+◌, ◌*◌, ◌<◌, ◌≤◌, ◌↔◌, Bool, true, All, List, length};
+ghost use Rattle.std.specs.Prelude.{◌≡◌, ℕ, ◌+◌, ◌*◌, ◌<◌, ◌≤◌, ◌↔◌, true, All, List, length};
 ghost use Rattle.rbd_kinds.specs.declared.header.HeaderView.{HeaderView};
 ghost use Rattle.rbd_kinds.specs.declared.id.SiteId.{SiteId};
 ghost use Rattle.rbd_kinds.specs.declared.layout.Extent.{Extent};
 ghost use Rattle.rbd_kinds.specs.declared.machine.Fed.{Fed};
 ghost use Rattle.rbd_kinds.specs.declared.reply.Reply.TheVariants.{Done};
+ghost use Rattle.rbd_kinds.specs.declared.sharing.Sharing.{Sharing};
+ghost use Rattle.rbd_kinds.specs.declared.sharing.Sharing.TheVariants.{Alone};
 ghost use Rattle.rbd_kinds.specs.Form.{HasFewObjects};
 ghost use Rattle.rbd_kinds.specs.Parts.{parts_len};
 ghost use Rattle.rbd_kinds.specs.Striping.{IsLayout, IsObjectCount};
@@ -98,7 +100,7 @@ pub fn parts_are_lawful()
         → IsLawful at k (full_piece site image h piece bytes next) }
     ensures size { (at : Label → Knowledge) (k : Knowledge) (site : SiteId) (image : ℕ) (h : HeaderView)
         (to objects : ℕ) (next : Plan)
-        → OwnsByHeader k site image true h → IsLayout h.layout → HasFewObjects h.layout to
+        → OwnsByHeader k site image Alone h → IsLayout h.layout → HasFewObjects h.layout to
         → IsObjectCount h.layout to objects
         → ((steps : List Answered) → IsResized site image h to objects steps → IsLawful at (known_behind k steps) next)
         → IsLawful at k (resize site image h to objects next) }
@@ -106,14 +108,14 @@ pub fn parts_are_lawful()
 
 /// Behind a part the image is still the request's own; behind a size, by the header at that size.
 pub fn parts_leave_the_image_its_own()
-    ensures zero { (k : Knowledge) (site : SiteId) (image : ℕ) (alone : Bool) (h own : HeaderView) (piece : Piece)
-        → OwnsByHeader k site image alone own
-        → OwnsByHeader (known_behind k (zeroed_steps site image h piece)) site image alone own }
-    ensures full { (k : Knowledge) (site : SiteId) (image : ℕ) (alone : Bool) (h own : HeaderView) (piece : Piece)
+    ensures zero { (k : Knowledge) (site : SiteId) (image : ℕ) (sharing : Sharing) (h own : HeaderView) (piece : Piece)
+        → OwnsByHeader k site image sharing own
+        → OwnsByHeader (known_behind k (zeroed_steps site image h piece)) site image sharing own }
+    ensures full { (k : Knowledge) (site : SiteId) (image : ℕ) (sharing : Sharing) (h own : HeaderView) (piece : Piece)
         (bytes : List ℕ)
-        → OwnsByHeader k site image alone own
-        → OwnsByHeader (known_behind k (replaced site image h piece bytes)) site image alone own }
+        → OwnsByHeader k site image sharing own
+        → OwnsByHeader (known_behind k (replaced site image h piece bytes)) site image sharing own }
     ensures size { (k : Knowledge) (site : SiteId) (image : ℕ) (h : HeaderView) (to objects : ℕ) (steps : List Answered)
-        → OwnsByHeader k site image true h → IsResized site image h to objects steps
-        → OwnsByHeader (known_behind k steps) site image true (with_size to h) }
+        → OwnsByHeader k site image Alone h → IsResized site image h to objects steps
+        → OwnsByHeader (known_behind k steps) site image Alone (with_size to h) }
 {}

@@ -1,7 +1,7 @@
 -- What comes behind a stop and changes an image is what a lost line's command wanted there, by what
 -- it had learned, which is still true: so it drew the id of an image whose map it makes before
 -- there is a header, and removed the header of one of which it removes what is left.
-use Rattle.std.proofs.Common.{◌≡◌, ◌⊎◌, inl, inr, ℕ, ◌==◌, Bool, true, List, [], ◌∷◌, Option, Some, None, sym, ap, ◌∙◌, subst}
+use Rattle.std.proofs.Common.{◌≡◌, ◌⊎◌, inl, inr, ℕ, ◌==◌, true, List, [], ◌∷◌, Option, Some, None, sym, ap, ◌∙◌, subst}
 use Rattle.std.specs.Prelude.{IsFalse}
 use Rattle.std.proofs.lemmas.Bool.{true≢false, eqb-true}
 use Rattle.rbd_kinds.specs.declared.data_op.DataOp.TheVariants as object
@@ -14,6 +14,7 @@ use Rattle.rbd_kinds.specs.declared.map_op.MapOp.TheVariants as states
 use Rattle.rbd_kinds.specs.declared.operation.Op.{Op}
 use Rattle.rbd_kinds.specs.declared.operation.Op.TheVariants as op
 use Rattle.rbd_kinds.specs.declared.reply.Reply.{Reply}
+use Rattle.rbd_kinds.specs.declared.sharing.Sharing.{Sharing}
 use Rattle.rbd_machine.proofs.Lawful.{stays_lawful}
 use Rattle.rbd_machine.specs.Knowledge.{Knowledge, is_gone, learned, nothing_known, known_after_wait}
 use Rattle.rbd_machine.specs.Label.{Label, IsFit}
@@ -82,7 +83,7 @@ module _ (homes : ℕ → SiteId) (line : ℕ) (s : SiteId) (o : Op) (k : Knowle
     removed i same left = removed_by line s o k until recalls image (subst (λ n. is_gone k.gone s n ≡ true) (eqb-true i image same) left.gone)
 
     -- nobody owns it
-    let_go : (i : ℕ) (condition : (alone : Bool) → HeaderView → Type 0) → (i == image) ≡ true → IsLeftOver k s i ⊎ OwnsBy k s i condition → SomeStep (RemovedHeader s image) (steps_of line until)
+    let_go : (i : ℕ) (condition : Sharing → HeaderView → Type 0) → (i == image) ≡ true → IsLeftOver k s i ⊎ OwnsBy k s i condition → SomeStep (RemovedHeader s image) (steps_of line until)
     let_go i condition same (inl left) = removed i same left
     let_go i condition same (inr owns) = absurd (not_waiting s r me k i condition truth free owns (ap r.headers (eqb-true i image same) ∙ headless))
 

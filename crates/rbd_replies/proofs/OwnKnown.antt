@@ -1,7 +1,6 @@
 -- What a change knows at each of its operations behind its look under the lock: the header that
 -- this told, with its own changes since.
 use Rattle.std.proofs.Common.{◌≡◌, ℕ, cond, Bool, true, false, List, [], ◌∷◌, map, Option, Some, None, option_map, refl, sym, ap, ◌∙◌, subst}
-use Rattle.rbd_kinds.specs.Sharing.{is_alone}
 use Rattle.rbd_kinds.specs.declared.sharing.Sharing.{Sharing}
 use Rattle.rbd_commands.specs.declared.refusal.Refusal.{Refusal}
 use Rattle.rbd_header.specs.Header.{with_size}
@@ -22,6 +21,7 @@ use Rattle.rbd_kinds.specs.declared.operation.Op.TheVariants as op
 use Rattle.rbd_kinds.proofs.Images.{at_itself}
 use Rattle.rbd_machine.proofs.Lawful.{holding_known}
 use Rattle.rbd_machine.proofs.Settled.{settled_goto}
+use Rattle.rbd_machine.specs.Ancestors.{HeaderSeen}
 use Rattle.rbd_machine.specs.Knowledge.{Knowledge, Own, first_told, header_told, is_at, learned, learned_of_map, learned_of_object, looked_under_lock, nothing_known, own_of, known_after_wait, told_of, with_header}
 use Rattle.rbd_machine.specs.Path.{Answered, IsWalk, found, looked_at}
 use Rattle.rbd_machine.specs.Plan.{Plan, Ask, Await, Note, Return, Goto, past_label}
@@ -142,23 +142,27 @@ one_wait w next [] step rest last (none, same) = absurd (cc)
 one_wait w next (fed.Answer a ∷ more) step rest last walk = absurd walk
 one_wait w next (fed.Passed ∷ more) step rest last walk = record { more = more; are = refl; walk = walk }
 
--- the look under the lock is the first behind the lock
-own_is_told : (home : SiteId) (image : ℕ) (alone : Bool) (own : HeaderView)
-    → known_header (learned (holding_known alone home image) home (op.Header image header.Get) (answer.Header own)) home image ≡ Some own
-own_is_told home image alone own =
+-- what is known behind the wait for the lock, with the headers that were told before
+abbrev held_known : (sharing : Sharing) → SiteId → (image : ℕ) → List HeaderSeen → Knowledge
+held_known sharing home image seen = record (holding_known sharing home image) { seen = seen }
+
+-- the look under the lock tells the header that is known
+own_is_told : (home : SiteId) (image : ℕ) (sharing : Sharing) (own : HeaderView) (seen : List HeaderSeen)
+    → known_header (learned (held_known sharing home image seen) home (op.Header image header.Get) (answer.Header own)) home image ≡ Some own
+own_is_told home image sharing own seen =
     ap (λ owns. header_of_own (own_of (map (told_of home image (first_told own)) owns) home image)) (still_owns (is_at home image home image)) ∙ told (is_at home image home image) refl (at_itself home image)
   where
     u : Own
-    u = record { site = home; image = image; alone = alone; header = None }
+    u = record { site = home; image = image; sharing = sharing; header = None }
 
-    still_owns : (b : Bool) → (looked_under_lock (cond b (Some (record { site = home; image = image; alone = alone; header = None })) None) home image (holding_known alone home image)).owns
-        ≡ record { site = home; image = image; alone = alone; header = None } ∷ []
+    still_owns : (b : Bool) → (looked_under_lock (cond b (Some (record { site = home; image = image; sharing = sharing; header = None })) None) home image (held_known sharing home image seen)).owns
+        ≡ record { site = home; image = image; sharing = sharing; header = None } ∷ []
     still_owns true = refl
     still_owns false = refl
 
     told : (b : Bool) → is_at home image home image ≡ b → b ≡ true
-        → header_of_own (own_of (cond b (record { site = home; image = image; alone = alone; header = Some own }) (record { site = home; image = image; alone = alone; header = None }) ∷ []) home image) ≡ Some own
-    told true is at = ap (λ b. header_of_own (cond b (Some (record { site = home; image = image; alone = alone; header = Some own })) None)) is
+        → header_of_own (own_of (cond b (record { site = home; image = image; sharing = sharing; header = Some own }) (record { site = home; image = image; sharing = sharing; header = None }) ∷ []) home image) ≡ Some own
+    told true is at = ap (λ b. header_of_own (cond b (Some (record { site = home; image = image; sharing = sharing; header = Some own })) None)) is
     told false is at = absurd (cc)
 
 module _ (home : SiteId) (name : List ℕ) (sharing : Sharing) (refuses : HeaderView → Option Refusal) (act : ℕ → HeaderView → Plan) where
@@ -177,15 +181,17 @@ module _ (home : SiteId) (name : List ℕ) (sharing : Sharing) (refuses : Header
       let four = one_wait (wait.Hold home image) (under_lock home refuses act image) three.more again steps last goes_on in
       let five = one_step home reason.Own (op.Header image header.Get) (on_header (owned refuses act image)) four.more again steps last four.walk in
       let acts : IsWalk Goto (past_label Goto (act image own)) five.more steps last = subst (λ r. IsWalk Goto (past_label Goto (unless r (act image own))) five.more steps last) may five.walk in
-      let k : Knowledge = learned (holding_known (is_alone sharing) home image) home (op.Header image header.Get) (answer.Header own) in
+      let seen : List HeaderSeen = record { site = home; image = image; header = first } ∷ [] in
+      let joined : Knowledge = record (known_after_wait nothing_known (wait.Join home image sharing)) { seen = seen } in
+      let k : Knowledge = learned (held_known sharing home image seen) home (op.Header image header.Get) (answer.Header own) in
       let known : known_along Goto nothing_known (change_plan home name sharing refuses act) feds ≡ known_along Goto k (past_label Goto (act image own)) five.more =
       ap (known_along Goto nothing_known (change_plan home name sharing refuses act)) one.are
       ∙ ap (known_along Goto nothing_known (joining home sharing refuses act image)) two.are
       ∙ ap (known_along Goto (known_after_wait nothing_known (wait.Join home image sharing)) (looking home refuses act image)) three.are
-      ∙ ap (λ r. known_along Goto (known_after_wait nothing_known (wait.Join home image sharing)) (past_label Goto (unless r (holding home refuses act image))) three.more) may_wait
-      ∙ ap (known_along Goto (known_after_wait nothing_known (wait.Join home image sharing)) (holding home refuses act image)) four.are
-      ∙ ap (known_along Goto (holding_known (is_alone sharing) home image) (under_lock home refuses act image)) five.are
+      ∙ ap (λ r. known_along Goto joined (past_label Goto (unless r (holding home refuses act image))) three.more) may_wait
+      ∙ ap (known_along Goto joined (holding home refuses act image)) four.are
+      ∙ ap (known_along Goto (held_known sharing home image seen) (under_lock home refuses act image)) five.are
       ∙ ap (λ r. known_along Goto k (past_label Goto (unless r (act image own))) five.more) may in
       ap (λ (x : Knowledge). known_header x home image) known
       ∙ known_behind home image five.more (past_label Goto (act image own)) steps last k (subst (KeepsOwn home image) (sym (settled_goto (act image own))) keeps) acts
-      ∙ ap (sized image steps) (own_is_told home image (is_alone sharing) own)
+      ∙ ap (sized image steps) (own_is_told home image sharing own seen)

@@ -18,6 +18,7 @@ use Rattle.rbd_kinds.specs.declared.map_op.MapOp.TheVariants as states
 use Rattle.rbd_kinds.specs.declared.operation.Op.{Op}
 use Rattle.rbd_kinds.specs.declared.operation.Op.TheVariants as op
 use Rattle.rbd_kinds.specs.declared.reply.Reply.{Reply}
+use Rattle.rbd_kinds.specs.declared.sharing.Sharing.{Sharing}
 use Rattle.rbd_machine.specs.Knowledge.{Knowledge, is_drawn, is_gone}
 use Rattle.rbd_machine.specs.Path.{Answered}
 use Rattle.rbd_machine.specs.Permits.{IsLeftOver, MayMakeMap, OwnsBy, Permits, PermitsOnHeader, PermitsOnMap, PermitsOnObject}
@@ -60,7 +61,7 @@ turned : (i image : ℕ) → (i == image) ≡ true → (image == i) ≡ true
 turned i image same = grind (arith, nat_tests)
 
 module _ (s : SiteId) (r : Records) (me : Instance) (k : Knowledge) (truth : IsTrueAt s r me k) (free : IsFalse (is_fenced r me)) where
-  owned_here : (image : ℕ) (condition : (alone : Bool) → HeaderView → Type 0) → OwnsBy k s image condition → IsHere (r.headers image)
+  owned_here : (image : ℕ) (condition : Sharing → HeaderView → Type 0) → OwnsBy k s image condition → IsHere (r.headers image)
   owned_here image condition owns = let there = owned_there s r me k image condition truth free owns in record { view = there.view; is = there.is }
 
   header_here : (image : ℕ) (o : HeaderOp) → PermitsOnHeader k s image o → changes_header o ≡ true → IsHere (r.headers image)

@@ -1,5 +1,5 @@
 -- The plans do what they may.
-use Rattle.std.proofs.Common.{ℕ, List, true, cond, Option, Some, None, ap}
+use Rattle.std.proofs.Common.{ℕ, List, cond, Option, Some, None, ap}
 use Rattle.rbd_kinds.specs.declared.sharing.Sharing.TheVariants as sharing
 use Rattle.rbd_kinds.specs.declared.answer.Answer.{Answer}
 use Rattle.rbd_kinds.specs.declared.answer.Answer.TheVariants as answer
@@ -25,10 +25,10 @@ known_nowhere label = nothing_known
 module _ (site : SiteId) (image : ℕ) where
   -- what a close knows once it may drop the lock
   abbrev waited : Knowledge
-  waited = holding_known true site image
+  waited = holding_known sharing.Alone site image
 
   holds_unlooked : HoldsUnlooked waited site image
-  holds_unlooked = record { is = ap (λ b. cond b (Some (record { site = site; image = image; alone = true; header = None })) None) (at_itself site image) }
+  holds_unlooked = record { is = ap (λ b. cond b (Some (record { site = site; image = image; sharing = sharing.Alone; header = None })) None) (at_itself site image) }
 
   lawful_unwatching : IsLawful known_nowhere waited (unwatching site image)
   lawful_unwatching = (tt, λ a can. lawful_on_done known_nowhere (λ answered. waited) replies_done tt a)

@@ -24,7 +24,7 @@ starts label = beginning
 module _ (site : SiteId) (image : ℕ) where
   -- where a close waits, and does what it does
   abbrev waiting : Course
-  waiting = course_at true site image stage.Waiting
+  waiting = course_at sharing.Alone site image stage.Waiting
 
   orderly_unwatching : IsOrderly None starts true waiting (unwatching site image)
   orderly_unwatching = (refl, λ a can. orderly_on_done None starts waiting replies_done tt a)

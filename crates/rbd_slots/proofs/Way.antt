@@ -138,7 +138,7 @@ waiting_not_past stage.Past is = sym is
 
 due_apart : (place : Option PlaceInLine) (objects : List ℕ) → AreApart objects → AreApart (due_of place objects)
 due_apart None objects apart = tt
-due_apart (Some p) objects apart = go p.alone
+due_apart (Some p) objects apart = go (is_alone p.sharing)
   where
     go : (b : Bool) → AreApart (cond b [] objects)
     go true = tt

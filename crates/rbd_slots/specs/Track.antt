@@ -1,7 +1,6 @@
 -- Where a request stands in its session: the line that it is in, its turn, and what becomes of them
 -- on its way.
 use Rattle.std.specs.Prelude.{ℕ, if◌then◌else◌, List, [], ◌∷◌, ◌++◌, Option, Some, None}
-use Rattle.rbd_kinds.specs.Sharing.{is_alone}
 use Rattle.rbd_machine.specs.Course.{Course, Moves, PlaceInLine, due_of, moved_by_answer, moved_by_wait, objects_asked}
 use Rattle.rbd_kinds.specs.declared.answer.Answer.{Answer}
 use Rattle.rbd_kinds.specs.declared.header.HeaderView.{HeaderView}
@@ -50,7 +49,7 @@ line_in (Some p) lines = lines p.site p.image
 
 abbrev pub place_in : Option ImageAt → Option Member → Option PlaceInLine
 place_in (Some p) (Some m) = Some
-    (record { site = p.site; image = p.image; alone = is_alone m.sharing; stage = m.stage })
+    (record { site = p.site; image = p.image; sharing = m.sharing; stage = m.stage })
 place_in _ _ = None
 
 -- how the request goes through its line, without the other members

@@ -65,7 +65,7 @@ named_by_id (u ∷ snaps) most name s rise is = (named_first u snaps name s (nam
 
 -- the head's states were told
 abbrev told_known : SiteId → (image : ℕ) → HeaderView → (bits : List ℕ) → Knowledge
-told_known site image h bits = learned (under_lock_known true None site image h) site (op.Map image (states.Get None)) (answer.Bits bits)
+told_known site image h bits = learned (under_lock_known sharing.Alone None site image h) site (op.Map image (states.Get None)) (answer.Bits bits)
 
 -- and put as the map of the next snapshot
 abbrev put_known : SiteId → (image : ℕ) → HeaderView → (bits : List ℕ) → Knowledge
@@ -73,7 +73,7 @@ put_known site image h bits = learned (told_known site image h bits) site (op.Ma
 
 -- a snapshot was removed
 abbrev removed_known : SiteId → (image id : ℕ) → HeaderView → Knowledge
-removed_known site image id h = learned (under_lock_known true None site image h) site (op.Header image (header.SnapRemove id)) answer.Done
+removed_known site image id h = learned (under_lock_known sharing.Alone None site image h) site (op.Header image (header.SnapRemove id)) answer.Done
 
 -- a snapshot was taken
 abbrev taken_known : SiteId → (snap : List ℕ) → (image : ℕ) → HeaderView → (bits : List ℕ) → (taken : ℕ) → Knowledge
@@ -83,10 +83,10 @@ taken_known site snap image h bits taken = learned (put_known site image h bits)
 abbrev unmapped_known : SiteId → (image id : ℕ) → HeaderView → (gone : Answer) → Knowledge
 unmapped_known site image id h gone = learned (removed_known site image id h) site (op.Map image (states.Remove (Some id))) gone
 
-own_is_changed : (site : SiteId) (image id : ℕ) (h : HeaderView) → own_of (removed_known site image id h).owns site image ≡ Some (own_at true site image (without_snap id h))
+own_is_changed : (site : SiteId) (image id : ℕ) (h : HeaderView) → own_of (removed_known site image id h).owns site image ≡ Some (own_at sharing.Alone site image (without_snap id h))
 own_is_changed site image id h =
-    ap (λ b. own_of (cond b (own_at true site image (without_snap id h)) (own_at true site image h) ∷ []) site image) (at_itself site image)
-    ∙ own_is_found true None site image (without_snap id h)
+    ap (λ b. own_of (cond b (own_at sharing.Alone site image (without_snap id h)) (own_at sharing.Alone site image h) ∷ []) site image) (at_itself site image)
+    ∙ own_is_found sharing.Alone None site image (without_snap id h)
 
 module _ (at : Label → Knowledge) where
   lawful_on_snap : (known : Answer → Knowledge) (next : Plan) → ((taken : ℕ) → IsLawful at (known (answer.Snap taken)) next) → (a : Answer) → IsLawful at (known a) (on_snap next a)
@@ -102,9 +102,9 @@ module _ (at : Label → Knowledge) where
       → ((taken : ℕ) → IsLawful at (taken_known site snap image h bits taken) next) → IsLawful at (put_known site image h bits) (taking_snap site snap image next)
   lawful_taking site snap image h bits next may lawful = (
     record {
-      alone = true;
+      sharing = sharing.Alone;
       header = h;
-      is = own_is_found true None site image h;
+      is = own_is_found sharing.Alone None site image h;
       meets = (refl, may_take (maps_of (put_known site image h bits).maps site image) snap h may (ap (λ (m : MapsKnown). m.put) (told_first site image _ (told_known site image h bits).maps)));
     },
     λ a can. lawful_on_snap (learned (put_known site image h bits) site (op.Header image (header.SnapAdd snap))) next lawful a,
@@ -114,10 +114,10 @@ module _ (at : Label → Knowledge) where
       → ((taken : ℕ) → IsLawful at (taken_known site snap image h bits taken) next) → IsLawful at (told_known site image h bits) (putting site snap image (h.snap_seq + 1) next bits)
   lawful_putting site snap image h bits next may hold lawful = (
     record {
-      alone = true;
+      sharing = sharing.Alone;
       header = h;
-      is = own_is_found true None site image h;
-      meets = (refl, record { next = refl; told = ap (λ (m : MapsKnown). m.states) (told_first site image _ (under_lock_known true None site image h).maps); hold = hold });
+      is = own_is_found sharing.Alone None site image h;
+      meets = (refl, record { next = refl; told = ap (λ (m : MapsKnown). m.states) (told_first site image _ (under_lock_known sharing.Alone None site image h).maps); hold = hold });
     },
     λ a can. lawful_on_done at (learned (told_known site image h bits) site (op.Map image (states.Put (Some (h.snap_seq + 1)) bits))) (taking_snap site snap image next) (lawful_taking site snap image h bits next may lawful) a,
   )
@@ -125,37 +125,37 @@ module _ (at : Label → Knowledge) where
   -- the part that takes a snapshot, by the look under the lock
   lawful_copying : (site : SiteId) (snap : List ℕ) (image : ℕ) (h : HeaderView) (next : Plan) → create_refuses snap h ≡ None
       → ((bits : List ℕ) (taken : ℕ) → IsLawful at (taken_known site snap image h bits taken) next)
-      → IsLawful at (under_lock_known true None site image h) (copying site snap image (h.snap_seq + 1) next)
+      → IsLawful at (under_lock_known sharing.Alone None site image h) (copying site snap image (h.snap_seq + 1) next)
   lawful_copying site snap image h next may lawful = (
     tt,
-    lawful_on_bits at (learned (under_lock_known true None site image h) site (op.Map image (states.Get None))) image (putting site snap image (h.snap_seq + 1) next)
+    lawful_on_bits at (learned (under_lock_known sharing.Alone None site image h) site (op.Map image (states.Get None))) image (putting site snap image (h.snap_seq + 1) next)
         (λ bits hold. lawful_putting site snap image h bits next may hold (lawful bits)),
   )
 
   lawful_unmapping : (site : SiteId) (image id : ℕ) (h : HeaderView) (next : Plan) → ((gone : Answer) → IsGone gone → IsLawful at (unmapped_known site image id h gone) next)
       → IsLawful at (removed_known site image id h) (unmapping site image id next)
   lawful_unmapping site image id h next lawful = (
-    inr (record { alone = true; header = without_snap id h; is = own_is_changed site image id h; meets = (refl, removed_is_unlisted h.snaps id) }),
+    inr (record { sharing = sharing.Alone; header = without_snap id h; is = own_is_changed site image id h; meets = (refl, removed_is_unlisted h.snaps id) }),
     λ a can. lawful_on_gone (learned (removed_known site image id h) site (op.Map image (states.Remove (Some id)))) next lawful a,
   )
 
   -- the part that removes a snapshot, by the look under the lock
   lawful_removing : (site : SiteId) (image : ℕ) (h : HeaderView) (listed : SnapView) (next : Plan) → snap_in h.snaps listed.id ≡ Some listed → removal_refusal (Some listed) ≡ None
       → ((gone : Answer) → IsGone gone → IsLawful at (unmapped_known site image listed.id h gone) next)
-      → IsLawful at (under_lock_known true None site image h) (removing site image listed.id next)
+      → IsLawful at (under_lock_known sharing.Alone None site image h) (removing site image listed.id next)
   lawful_removing site image h listed next is may lawful = (
     record {
-      alone = true;
+      sharing = sharing.Alone;
       header = h;
-      is = own_is_found true None site image h;
+      is = own_is_found sharing.Alone None site image h;
       meets = (refl, record { view = listed; listed = is; unprotected = unprotected listed.status may });
     },
-    λ a can. lawful_on_done at (learned (under_lock_known true None site image h) site (op.Header image (header.SnapRemove listed.id))) (unmapping site image listed.id next)
+    λ a can. lawful_on_done at (learned (under_lock_known sharing.Alone None site image h) site (op.Header image (header.SnapRemove listed.id))) (unmapping site image listed.id next)
         (lawful_unmapping site image listed.id h next lawful) a,
   )
 
   lawful_remove_listed : (site : SiteId) (snap : List ℕ) (image : ℕ) (h : HeaderView) → IsHeaderInForm h → (listed : Option SnapView)
-      → snap_named h.snaps snap ≡ listed → removal_refusal listed ≡ None → IsLawful at (under_lock_known true None site image h) (remove_listed site snap image listed)
+      → snap_named h.snaps snap ≡ listed → removal_refusal listed ≡ None → IsLawful at (under_lock_known sharing.Alone None site image h) (remove_listed site snap image listed)
   lawful_remove_listed site snap image h form None is may = tt
   lawful_remove_listed site snap image h form (Some listed) is may =
       lawful_removing site image h listed (applied site image) (named_by_id h.snaps h.snap_seq snap listed form.rising is) may (λ gone is_gone. tt)

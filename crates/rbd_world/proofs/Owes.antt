@@ -25,6 +25,7 @@ use Rattle.rbd_kinds.specs.declared.map_op.MapOp.TheVariants as states
 use Rattle.rbd_kinds.specs.declared.operation.Op.{Op}
 use Rattle.rbd_kinds.specs.declared.operation.Op.TheVariants as op
 use Rattle.rbd_kinds.specs.declared.reply.Reply.{Reply}
+use Rattle.rbd_kinds.specs.Sharing.{is_alone}
 use Rattle.rbd_kinds.proofs.Images.{same_site_itself}
 use Rattle.rbd_knowledge.specs.Knowing.{KnowsBy, KnowsIn}
 use Rattle.rbd_machine.specs.Knowledge.{Knowledge, is_gone, learned, same_site}
@@ -229,7 +230,7 @@ record KnowsAlone (k : Knowledge) (s : SiteId) (image : ℕ) : Type 0 where
 taker_alone : (k : Knowledge) (s : SiteId) (o : Op) (image : ℕ) → Permits k s o → takes_snap image o ≡ true → KnowsAlone k s image
 taker_alone k s (op.Header i (header.SnapAdd name)) image permits takes =
     subst (KnowsAlone k s) (eqb-true i image takes)
-    (record { alone = ap is_own_alone permits.is ∙ permits.meets.0; header = ap (λ o. is_some (header_of_own o)) permits.is })
+    (record { alone = ap is_own_alone permits.is ∙ ap is_alone permits.meets.0; header = ap (λ o. is_some (header_of_own o)) permits.is })
 taker_alone k s (op.Header i _) image permits takes = absurd (true≢false (sym takes))
 taker_alone k s _ image permits takes = absurd (true≢false (sym takes))
 

@@ -15,6 +15,7 @@ use Rattle.rbd_kinds.specs.declared.map_op.MapOp.{MapOp}
 use Rattle.rbd_kinds.specs.declared.map_op.MapOp.TheVariants as states
 use Rattle.rbd_kinds.specs.declared.operation.Op.{Op}
 use Rattle.rbd_kinds.specs.declared.operation.Op.TheVariants as op
+use Rattle.rbd_kinds.specs.declared.sharing.Sharing.{Sharing}
 use Rattle.rbd_machine.specs.Knowledge.{Knowledge}
 use Rattle.rbd_machine.specs.Permits.{IsLeftOver, OwnsBy, Permits, PermitsOnHeader, PermitsOnMap, PermitsOnObject}
 use Rattle.rbd_interference.specs.Locks.{KnowsByLock}
@@ -36,7 +37,7 @@ module _ (site : SiteId) (r : Records) (me : Instance) (k : Knowledge) (t : IsTr
       by true is done = absurd (true≢false (sym done))
       by false is done = is
 
-  owns : (image : ℕ) (condition : (alone : Bool) → HeaderView → Type 0) → OwnsBy k site image condition → IsFalse (is_fenced r me) → IsOwner (r.headers image) me
+  owns : (image : ℕ) (condition : Sharing → HeaderView → Type 0) → OwnsBy k site image condition → IsFalse (is_fenced r me) → IsOwner (r.headers image) me
   owns image condition by free =
       is_owner r me image (locks image (subst IsSome (sym (ap header_of_own by.is)) refl) free)
 

@@ -7,6 +7,7 @@ use Rattle.rbd_client.specs.Client.{ClientView}
 use Rattle.rbd_client.specs.Sound.{IsSoundClient, WaitsForLook}
 use Rattle.rbd_knowledge.proofs.Drops.{alone_goes_first, may, membership, waiting}
 use Rattle.rbd_kinds.specs.declared.id.SiteId.{SiteId}
+use Rattle.rbd_kinds.specs.Sharing.{is_alone}
 use Rattle.rbd_knowledge.specs.Knowing.{AllKnow}
 use Rattle.rbd_queue.specs.Line.{Member, is_past, may_pass, member_of}
 use Rattle.rbd_machine.specs.Knowledge.{Knowledge}
@@ -46,7 +47,7 @@ module _ {R : Type 0} (stands : R → Standing) (c : ClientView R) (sound : IsSo
       record {
         member = there.member;
         found = there.found;
-        alone = sym there.alone;
+        alone = sym (ap is_alone there.sharing);
         waits = ap is_past (waiting stands c knows sound all slot s image wanted holds);
         may = may stands c knows sound all slot s image wanted holds;
       }

@@ -10,7 +10,7 @@ pub returns-clause-unheld : goal.returns-clause-unheld
 returns-clause-unheld c = λ k site image none permits. held_by_somebody k site image permits none
 
 pub returns-clause-shared : goal.returns-clause-shared
-returns-clause-shared c = λ k site image header is permits. held_alone k site image permits header is
+returns-clause-shared c = λ k site image sharing header shared is permits. held_alone k site image permits sharing header shared is
 
 pub returns-clause-looked : goal.returns-clause-looked
-returns-clause-looked c = λ k site image alone h is permits. held_unlooked k site image permits alone h is
+returns-clause-looked c = λ k site image sharing h is permits. held_unlooked k site image permits sharing h is
