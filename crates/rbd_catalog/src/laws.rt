@@ -28,7 +28,7 @@ ghost use Rattle.rbd_machine.specs.Orderly.{IsOrderlyFrom};
 ghost use Rattle.rbd_meaning.specs.Meant.{IsMeantBy};
 ghost use Rattle.rbd_data.specs.Read.{is_read};
 ghost use Rattle.rbd_catalog.specs.InLine.{ChangesInLine, KeepsTo, LabelsKeepTo, turn_along};
-ghost use Rattle.rbd_catalog.specs.Looking.{LooksOnce};
+ghost use Rattle.rbd_catalog.specs.Looking.{HoldsNoMore, LooksOnce};
 ghost use Rattle.rbd_catalog.specs.Plans.{IsPlanFor};
 ghost use Rattle.rbd_catalog.specs.Profile.{extent_beside, is_nothing, more_by, most_operations, profile};
 ghost use Rattle.rbd_catalog.specs.Touched.{AsksAtMost, HasAtMost, TakesTurns};
@@ -95,10 +95,17 @@ pub fn looks_refuse_what_isnt_there()
 {}
 
 /// Where a request that isn't a read looks at a header, it either waits for the lock of its image
-/// next, or looks at no header any more. So it goes one way to a lock at most.
+/// next, and then looks at the header of that image first, or it looks at no header and waits for no
+/// lock any more. Nor does a piece that begins again wait for one. So it goes one way to a lock at
+/// most.
 pub fn commands_look_once()
-    ensures { (seat : Seat) (command : Command) (s : Standing) (feds : List Fed) (steps : List Answered) (last : Plan)
+    ensures walk { (seat : Seat) (command : Command) (s : Standing) (feds : List Fed) (steps : List Answered)
+        (last : Plan)
         → IsPlanFor seat command s → is_read command ≡ false → IsWalk s.labels s.plan feds steps last → LooksOnce last }
+    ensures piece { (seat : Seat) (command : Command) (s : Standing) (site : SiteId) (image : ℕ) (h : HeaderView)
+        (bits : List ℕ) (number : ℕ)
+        → IsPlanFor seat command s → is_read command ≡ false
+        → HoldsNoMore (s.labels (Piece site image h bits number)) }
 {}
 
 /// The request of a command that changes an extent goes beside others: it looks its image up first,

@@ -38,7 +38,7 @@ use Rattle.rbd_world.proofs.KeptAhead.{KeepsAhead, answer_keeps, end_keeps}
 
 module _ {R : Type 0} (stands : R → Standing) where
   -- it goes further, and has no reply
-  came_further : (slot : ℕ) (labels : Label → Plan) (plan : Plan) (t : Track) (result : Option Reply) (r q : Running R) (lines : LinesView) → result ≡ None
+  pub came_further : (slot : ℕ) (labels : Label → Plan) (plan : Plan) (t : Track) (result : Option Reply) (r q : Running R) (lines : LinesView) → result ≡ None
       → AdvancesTo stands slot labels plan t result r q lines → GoesFurther stands slot (record { labels = labels; plan = plan }) t result r q lines
   came_further slot labels (Return reply) t result r q lines none comes = absurd (none-some reply (sym none ∙ comes.reply))
   came_further slot labels (Ask s why o next) t result r q lines none comes = comes
