@@ -18,3 +18,4 @@ pub mod FollowsAll
 pub mod Consequences
 pub mod Asking
 pub mod Wrong
+pub mod Again

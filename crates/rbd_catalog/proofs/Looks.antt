@@ -2,11 +2,13 @@
 use Rattle.std.proofs.Common.{◌≡◌, ℕ, List, [], ◌∷◌, true, false, sym, ◌∙◌, subst}
 use Rattle.rbd_commands.specs.declared.command.Command.{Command}
 use Rattle.rbd_kinds.specs.declared.answer.Answer.{Answer}
+use Rattle.rbd_kinds.specs.declared.header.HeaderView.{HeaderView}
 use Rattle.rbd_kinds.specs.declared.header_op.HeaderOp.TheVariants as header
 use Rattle.rbd_kinds.specs.declared.id.SiteId.{SiteId}
 use Rattle.rbd_kinds.specs.declared.machine.Fed.{Fed}
 use Rattle.rbd_kinds.specs.declared.machine.Fed.TheVariants as fed
 use Rattle.rbd_kinds.specs.declared.operation.Op.TheVariants as op
+use Rattle.rbd_machine.specs.Label as label
 use Rattle.rbd_machine.specs.Path.{Answered, IsWalk}
 use Rattle.rbd_machine.specs.Plan.{Plan, Ask, Await, Note, Return, Goto, Standing, past_label}
 use Rattle.rbd_machine.specs.Steps.{EndsIt, not_there}
@@ -22,8 +24,8 @@ use Rattle.rbd_data.specs.Discard.{discard_plan}
 use Rattle.rbd_image.specs.Remove.{remove_plan}
 use Rattle.rbd_image.specs.Resize.{resize_plan}
 use Rattle.rbd_snap.specs.Rollback.{rollback_plan}
-use Rattle.rbd_catalog.specs.Looking.{LooksOnce}
-use Rattle.rbd_catalog.proofs.LooksWell.{LooksWell, once_of}
+use Rattle.rbd_catalog.specs.Looking.{HoldsNoMore, LooksOnce}
+use Rattle.rbd_catalog.proofs.LooksWell.{LooksWell, once_of, well_behind}
 use Rattle.rbd_catalog.proofs.LooksOf.{at_close_plan, at_create, at_discard_plan, at_listing, at_remove_plan, at_resize_plan, at_rollback_plan, at_snap_plan, at_write_plan}
 use Rattle.rbd_catalog.specs.EachRequest.{HoldsOfEach, is_one_read, of_command}
 use Rattle.rbd_catalog.specs.Plans.{IsPlanFor}
@@ -37,7 +39,7 @@ at_end : (feds : List Fed) (plan : Plan) (steps : List Answered) (last : Plan) �
 at_end [] plan steps last well walk = subst LooksWell (sym walk.1) well
 at_end (fed.Answer a ∷ more) (Ask site why o next) steps last well (first, walk) = at_end more (past_label Goto (next a)) first.rest last (at_settled (next a) (well.1 a).1) walk
 at_end (fed.Passed ∷ more) (Ask site why o next) steps last well walk = absurd walk
-at_end (fed.Passed ∷ more) (Await wait next) steps last well walk = at_end more (past_label Goto next) steps last (at_settled next well) walk
+at_end (fed.Passed ∷ more) (Await wait next) steps last well walk = at_end more (past_label Goto next) steps last (at_settled next (well_behind wait next well)) walk
 at_end (fed.Answer a ∷ more) (Await wait next) steps last well walk = absurd walk
 at_end (fed.Passed ∷ more) (Note site image event next) steps last well walk = at_end more (past_label Goto next) steps last (at_settled next well) walk
 at_end (fed.Answer a ∷ more) (Note site image event next) steps last well walk = absurd walk
@@ -73,7 +75,32 @@ pub looks_refuse : (seat : Seat) (c : Command) (s : Standing) (feds : List Fed) 
     → EndsIt a → next a ≡ not_there a
 looks_refuse seat c s feds steps site why image next a is other walk ends = (looks_well seat feds steps (Ask site why (op.Header image header.Get) next) c s is other walk).0 a ends
 
--- and behind its look it waits for the lock, or looks at none any more
+-- behind its look it waits for the lock, or looks at none and waits for none any more
 pub looks_once : (seat : Seat) (c : Command) (s : Standing) (feds : List Fed) (steps : List Answered) (last : Plan)
     → IsPlanFor seat c s → is_read c ≡ false → IsWalk s.labels s.plan feds steps last → LooksOnce last
 looks_once seat c s feds steps last is other walk = once_of last (looks_well seat feds steps last c s is other walk)
+
+-- ---- from its labels
+
+module _ (seat : Seat) where
+  abbrev HoldsNoMoreFrom : Command → Standing → Type 0
+  HoldsNoMoreFrom c s = is_read c ≡ false → (site : SiteId) (image : ℕ) (h : HeaderView) (bits : List ℕ) (number : ℕ) → HoldsNoMore (s.labels (label.Piece site image h bits number))
+
+  each_holds_no_more : HoldsOfEach seat HoldsNoMoreFrom
+  each_holds_no_more = record {
+    writes = λ c is other site image h bits number. tt;
+    discards = λ c is other site image h bits number. tt;
+    reads = λ c s is other. let no : false ≡ true = sym other ∙ is_one_read seat.home c s is in cc;
+    creates = λ c plan is other site image h bits number. tt;
+    lists = λ c is other site image h bits number. tt;
+    snaps = λ c is other site image h bits number. tt;
+    resizes = λ c is other site image h bits number. tt;
+    rollbacks = λ c is other site image h bits number. tt;
+    removes = λ c is other site image h bits number. tt;
+    closes = λ c is other site image h bits number. tt;
+  }
+
+-- a piece that begins again waits for no lock
+pub pieces_hold_no_more : (seat : Seat) (c : Command) (s : Standing) (site : SiteId) (image : ℕ) (h : HeaderView) (bits : List ℕ) (number : ℕ) → IsPlanFor seat c s → is_read c ≡ false
+    → HoldsNoMore (s.labels (label.Piece site image h bits number))
+pieces_hold_no_more seat c s site image h bits number is other = of_command seat (HoldsNoMoreFrom seat) (each_holds_no_more seat) c s is other site image h bits number

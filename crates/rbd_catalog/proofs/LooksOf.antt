@@ -21,7 +21,7 @@ use Rattle.rbd_layout.specs.declared.types.Piece.{Piece}
 use Rattle.rbd_header.specs.Header.{new_header}
 use Rattle.rbd_machine.specs.Plan.{Plan, Return}
 use Rattle.rbd_machine.specs.Refused.{refuses_none}
-use Rattle.rbd_machine.specs.Steps.{unless, on_header, change_plan, joining as change_joining, looked, holding, owned, applied}
+use Rattle.rbd_machine.specs.Steps.{unless, not_there, on_header, change_plan, joining as change_joining, looked, holding, owned, applied}
 use Rattle.rbd_meaning.specs.Listings.{shown_snaps, used_among}
 use Rattle.rbd_meaning.specs.Range.{extent_at}
 use Rattle.rbd_meaning.specs.Snaps.{create_refuses, remove_refuses}
@@ -44,8 +44,8 @@ use Rattle.rbd_image.specs.Remove.{holding_it, joining_its_line, looked_at_it, o
 use Rattle.rbd_image.specs.Resize.{resize_plan, set_size}
 use Rattle.rbd_snap.specs.Rollback.{roll_back_to, rollback_plan}
 use Rattle.rbd_catalog.specs.NoLooks.{removal_has_none}
-use Rattle.rbd_catalog.specs.Looking.{Holds, HoldsNext, IsLast, Looked, LookedIf, LooksNoMore}
-use Rattle.rbd_catalog.proofs.LooksNone.{none_ends, none_each, none_listed, none_resize, none_zeroed}
+use Rattle.rbd_catalog.specs.Looking.{Holds, HoldsNext, Looked, LookedIf, LooksNoMore}
+use Rattle.rbd_catalog.proofs.LooksNone.{ActsOnly, acts_end, looked_last, looks_none, none_ends, none_each, none_listed, none_resize, none_zeroed}
 use Rattle.rbd_catalog.proofs.LooksWell.{LooksWell, at_none, header_ends}
 use Rattle.rbd_catalog.proofs.PlanSteps.{at_watchers, at_not_there, at_done, at_unless, at_header, at_id, at_bits, at_drawn, at_names, at_renamed, at_snap, at_gone}
 
@@ -54,22 +54,26 @@ use Rattle.rbd_catalog.proofs.PlanSteps.{at_watchers, at_not_there, at_done, at_
 well_ends : (r : Reply) → LooksWell (Return r)
 well_ends r = tt
 
+-- who acts only looks at none
+at_acts : (p : Plan) → ActsOnly p → LooksWell p
+at_acts p acts = at_none p (looks_none p acts)
+
 -- ---- a change
 
-module _ (site : SiteId) (refuses : HeaderView → Option Refusal) (act : ℕ → HeaderView → Plan) (acts : (image : ℕ) (h : HeaderView) → LooksNoMore (act image h)) (image : ℕ) where
-  none_owned : (a : Answer) → LooksNoMore (on_header (owned refuses act image) a)
-  none_owned = at_header LooksNoMore none_ends (owned refuses act image) (λ h. at_unless LooksNoMore none_ends (refuses h) (act image h) (acts image h))
+module _ (site : SiteId) (refuses : HeaderView → Option Refusal) (act : ℕ → HeaderView → Plan) (acts : (image : ℕ) (h : HeaderView) → ActsOnly (act image h)) (image : ℕ) where
+  none_owned : (a : Answer) → ActsOnly (on_header (owned refuses act image) a)
+  none_owned = at_header ActsOnly acts_end (owned refuses act image) (λ h. at_unless ActsOnly acts_end (refuses h) (act image h) (acts image h))
 
   well_held : LooksWell (holding site refuses act image)
-  well_held = (header_ends (owned refuses act image), λ a. (IsLast (none_owned a), at_none (on_header (owned refuses act image) a) (none_owned a)))
+  well_held = ((refl, refl), (header_ends (owned refuses act image), λ a. (looked_last (on_header (owned refuses act image) a) (none_owned a), at_acts (on_header (owned refuses act image) a) (none_owned a))))
 
   looked_so : (r : Option Refusal) → Looked (unless r (holding site refuses act image))
   looked_so None = Holds tt
-  looked_so (Some r) = IsLast tt
+  looked_so (Some r) = looked_last (unless (Some r) (holding site refuses act image)) tt
 
   looked_then : (a : Answer) → Looked (on_header (looked site refuses act image) a)
   looked_then (answer.Header h) = looked_so (refuses h)
-  looked_then a = IsLast (at_not_there LooksNoMore none_ends a)
+  looked_then a = looked_last (not_there a) (at_not_there ActsOnly acts_end a)
 
   well_so : (r : Option Refusal) → LooksWell (unless r (holding site refuses act image))
   well_so None = well_held
@@ -79,15 +83,15 @@ module _ (site : SiteId) (refuses : HeaderView → Option Refusal) (act : ℕ �
   well_joining a = (looked_then a, at_header LooksWell well_ends (looked site refuses act image) (λ h. well_so (refuses h)) a)
 
 at_change : (site : SiteId) (name : List ℕ) (sharing : _) (refuses : HeaderView → Option Refusal) (act : ℕ → HeaderView → Plan)
-    → ((image : ℕ) (h : HeaderView) → LooksNoMore (act image h)) → LooksWell (change_plan site name sharing refuses act)
+    → ((image : ℕ) (h : HeaderView) → ActsOnly (act image h)) → LooksWell (change_plan site name sharing refuses act)
 at_change site name sharing refuses act acts = (tt, λ a. (tt, at_id LooksWell well_ends (change_joining site sharing refuses act) (λ image. (header_ends (looked site refuses act image), well_joining site refuses act acts image)) a))
 
 -- ---- write, fill
 
-none_pieces : (pieces : List Piece) (site : SiteId) (image : ℕ) (h : HeaderView) (from : ℕ) (bytes : List ℕ) → LooksNoMore (write_pieces site image h from bytes pieces (applied site image))
+none_pieces : (pieces : List Piece) (site : SiteId) (image : ℕ) (h : HeaderView) (from : ℕ) (bytes : List ℕ) → ActsOnly (write_pieces site image h from bytes pieces (applied site image))
 none_pieces [] site image h from bytes = tt
 none_pieces (p ∷ pieces) site image h from bytes =
-    (tt, at_done LooksNoMore none_ends _ (tt, at_done LooksNoMore none_ends (write_pieces site image h from bytes pieces (applied site image)) (none_pieces pieces site image h from bytes)))
+    (tt, at_done ActsOnly acts_end _ (tt, at_done ActsOnly acts_end (write_pieces site image h from bytes pieces (applied site image)) (none_pieces pieces site image h from bytes)))
 
 at_write : (site : SiteId) (name : List ℕ) (from : ℕ) (bytes : List ℕ) → LooksWell (write site name from bytes)
 at_write site name from bytes =
@@ -109,15 +113,15 @@ at_discard_plan site _ = tt
 
 -- ---- create
 
-none_drawing : (site : SiteId) (name : List ℕ) (objects : ℕ) (h : HeaderView) → LooksNoMore (drawing site name objects h)
+none_drawing : (site : SiteId) (name : List ℕ) (objects : ℕ) (h : HeaderView) → ActsOnly (drawing site name objects h)
 none_drawing site name objects h =
-    (tt, at_drawn LooksNoMore none_ends (mapping site objects h) (λ image. (tt, at_done LooksNoMore none_ends (making site h image) (tt, at_done LooksNoMore none_ends (Return reply.Done) tt))))
+    (tt, at_drawn ActsOnly acts_end (mapping site objects h) (λ image. (tt, at_done ActsOnly acts_end (making site h image) (tt, at_done ActsOnly acts_end (Return reply.Done) tt))))
 
 at_is_create : (site : SiteId) (name : List ℕ) (size : ℕ) (shape : Shape) (plan : Plan) → IsCreate site name size shape plan → LooksWell plan
 at_is_create site name size shape plan is = go (limits_or_not (layout_of shape) size)
   where
     go : KeepsLimits (layout_of shape) size ⊎ (KeepsLimits (layout_of shape) size → ⊥) → LooksWell plan
-    go (inl keeps) = subst LooksWell (sym (is.within keeps)) (at_none (drawing site name is.objects (new_header (layout_of shape) size)) (none_drawing site name is.objects (new_header (layout_of shape) size)))
+    go (inl keeps) = subst LooksWell (sym (is.within keeps)) (at_acts (drawing site name is.objects (new_header (layout_of shape) size)) (none_drawing site name is.objects (new_header (layout_of shape) size)))
     go (inr fails) = subst LooksWell (sym (is.outside fails)) tt
 
 pub at_create : (site : SiteId) (c : Command) (plan : Plan) → IsCreatePlan site c plan → LooksWell plan
@@ -133,39 +137,39 @@ at_show_header site name shows = (
     tt,
     at_id LooksWell well_ends (showing site shows) (λ image. (
       header_ends (λ h. Return (shows h)),
-      λ b. let none = at_header LooksNoMore none_ends (λ h. Return (shows h)) (λ h. tt) b in (IsLast none, at_none (on_header (λ h. Return (shows h)) b) none),
+      λ b. let none = at_header ActsOnly acts_end (λ h. Return (shows h)) (λ h. tt) b in (looked_last (on_header (λ h. Return (shows h)) b) none, at_acts (on_header (λ h. Return (shows h)) b) none),
     )) a,
   ),
 )
 
 at_show_used : (site : SiteId) (name : List ℕ) → LooksWell (show_used site name)
-at_show_used site name = (tt, λ a. (tt, at_id LooksWell well_ends (measuring site) (λ i. (header_ends (counted i), λ b. (IsLast (none_counted i b), at_none (on_header (counted i) b) (none_counted i b)))) a))
+at_show_used site name = (tt, λ a. (tt, at_id LooksWell well_ends (measuring site) (λ i. (header_ends (counted i), λ b. (looked_last (on_header (counted i) b) (none_counted i b), at_acts (on_header (counted i) b) (none_counted i b)))) a))
   where
     counted : (i : ℕ) → HeaderView → Plan
     counted i h = counting site i (object_count h.layout h.size)
 
-    none_counted : (i : ℕ) (b : Answer) → LooksNoMore (on_header (counted i) b)
+    none_counted : (i : ℕ) (b : Answer) → ActsOnly (on_header (counted i) b)
     none_counted i =
-        at_header LooksNoMore none_ends (counted i) (λ h. (tt, at_bits LooksNoMore none_ends (λ bits. Return (reply.Used (used_among (object_count h.layout h.size) bits) (object_count h.layout h.size))) (λ bits. tt)))
+        at_header ActsOnly acts_end (counted i) (λ h. (tt, at_bits ActsOnly acts_end (λ bits. Return (reply.Used (used_among (object_count h.layout h.size) bits) (object_count h.layout h.size))) (λ bits. tt)))
 
 pub at_listing : (site : SiteId) (c : Command) → LooksWell (listing_plan site c)
-at_listing site command.List = at_none (list_names site) (tt, at_names LooksNoMore none_ends (λ names. Return (reply.Names names)) (λ names. tt))
+at_listing site command.List = at_acts (list_names site) (tt, at_names ActsOnly acts_end (λ names. Return (reply.Names names)) (λ names. tt))
 at_listing site (command.Info image) = at_show_header site image reply.Info
 at_listing site (command.SnapList image) = at_show_header site image shown_snaps
 at_listing site (command.Used image) = at_show_used site image
-at_listing site (command.Rename from to) = at_none (rename site from to) (tt, at_renamed LooksNoMore none_ends)
+at_listing site (command.Rename from to) = at_acts (rename site from to) (tt, at_renamed ActsOnly acts_end)
 at_listing site _ = tt
 
 -- ---- snap create, snap rm
 
-none_removal : (site : SiteId) (snap : List ℕ) (image : ℕ) (listed : Option SnapView) → LooksNoMore (remove_listed site snap image listed)
+none_removal : (site : SiteId) (snap : List ℕ) (image : ℕ) (listed : Option SnapView) → ActsOnly (remove_listed site snap image listed)
 none_removal site snap image None = tt
-none_removal site snap image (Some listed) = (tt, at_done LooksNoMore none_ends (unmapping site image listed.id (applied site image)) (tt, at_gone LooksNoMore none_ends (applied site image) tt))
+none_removal site snap image (Some listed) = (tt, at_done ActsOnly acts_end (unmapping site image listed.id (applied site image)) (tt, at_gone ActsOnly acts_end (applied site image) tt))
 
 pub at_snap_plan : (site : SiteId) (c : Command) → LooksWell (snap_plan site c)
 at_snap_plan site (command.SnapCreate image snap) =
     at_change site image sharing.Alone (create_refuses snap) (take site snap)
-    (λ i h. (tt, at_bits LooksNoMore none_ends _ (λ bits. (tt, at_done LooksNoMore none_ends (taking_snap site snap i (applied site i)) (tt, at_snap LooksNoMore none_ends (applied site i) tt)))))
+    (λ i h. (tt, at_bits ActsOnly acts_end _ (λ bits. (tt, at_done ActsOnly acts_end (taking_snap site snap i (applied site i)) (tt, at_snap ActsOnly acts_end (applied site i) tt)))))
 at_snap_plan site (command.SnapRemove image snap) =
     at_change site image sharing.Alone (remove_refuses snap) (remove_snap_plan site snap) (λ i h. none_removal site snap i (snap_named h.snaps snap))
 at_snap_plan site _ = tt
@@ -184,22 +188,22 @@ at_rollback_plan site _ = tt
 
 -- ---- rm
 
-none_unwatched : (site : SiteId) (session image : ℕ) (next : Plan) → LooksNoMore next → LooksNoMore (unless_watched site session image next)
-none_unwatched site session image next none = (tt, at_watchers LooksNoMore none_ends session next none)
+none_unwatched : (site : SiteId) (session image : ℕ) (next : Plan) → ActsOnly next → ActsOnly (unless_watched site session image next)
+none_unwatched site session image next none = (tt, at_watchers ActsOnly acts_end session next none)
 
 module _ (site : SiteId) (session image : ℕ) where
-  none_removing : (h : HeaderView) → LooksNoMore (remove_owned site session image h)
+  none_removing : (h : HeaderView) → ActsOnly (remove_owned site session image h)
   none_removing h =
       none_unwatched site session image (of_remove.removal_plan site image h (Return reply.Done))
-      (tt, at_bits LooksNoMore none_ends (λ bits. remove_each site (removal image h bits) (Return reply.Done)) (λ bits. none_each site (removal image h bits) (removal_has_none image h bits)))
+      (tt, at_bits ActsOnly acts_end (λ bits. remove_each site (removal image h bits) (Return reply.Done)) (λ bits. none_each site (removal image h bits) (removal_has_none image h bits)))
 
-  none_removed_owned : (a : Answer) → LooksNoMore (on_header (owned image_removal_refuses (remove_owned site session) image) a)
-  none_removed_owned = at_header LooksNoMore none_ends (owned image_removal_refuses (remove_owned site session) image) (λ h. at_unless LooksNoMore none_ends (image_removal_refuses h) (remove_owned site session image h) (none_removing h))
+  none_removed_owned : (a : Answer) → ActsOnly (on_header (owned image_removal_refuses (remove_owned site session) image) a)
+  none_removed_owned = at_header ActsOnly acts_end (owned image_removal_refuses (remove_owned site session) image) (λ h. at_unless ActsOnly acts_end (image_removal_refuses h) (remove_owned site session image h) (none_removing h))
 
   well_removing : LooksWell (holding_it site session image)
   well_removing =
       let own = owned image_removal_refuses (remove_owned site session) image in
-      (header_ends own, λ a. (IsLast (none_removed_owned a), at_none (on_header own a) (none_removed_owned a)))
+      ((refl, refl), (header_ends own, λ a. (looked_last (on_header own a) (none_removed_owned a), at_acts (on_header own a) (none_removed_owned a))))
 
   -- whoever watches, it isn't refused where nobody does
   holds_unwatched : HoldsNext (unless_watched site session image (holding_it site session image))
@@ -221,8 +225,8 @@ module _ (site : SiteId) (session image : ℕ) where
     where
       by : (r : Option Refusal) → Looked (unless r (unless_watched site session image (holding_it site session image)))
       by None = Holds holds_unwatched
-      by (Some r) = IsLast tt
-  removal_looked a = IsLast (at_not_there LooksNoMore none_ends a)
+      by (Some r) = looked_last (unless (Some r) (unless_watched site session image (holding_it site session image))) tt
+  removal_looked a = looked_last (not_there a) (at_not_there ActsOnly acts_end a)
 
   well_joined : LooksWell (joining_its_line site session image)
   well_joined = (header_ends (looked_at_it site session image), λ a. (removal_looked a, at_header LooksWell well_ends (looked_at_it site session image) (λ h. by (image_removal_refuses h)) a))

@@ -1,29 +1,34 @@
 //! What the requests of all commands keep to: laws, each the contract of a function that does
 //! nothing.
-ghost use Rattle.std.specs.Prelude.{◌≡◌, ℕ, ◌+◌, ◌*◌, ◌≤◌, List, length, IsSome, Some, false, true};
+ghost use Rattle.std.specs.Prelude.{◌≡◌, ℕ, ◌+◌, ◌*◌, ◌≤◌, List, length, Option, IsSome, Some, false, true};
 ghost use Rattle.rbd_commands.specs.declared.command.Command.{Command};
+ghost use Rattle.rbd_commands.specs.declared.refusal.Refusal.{Refusal};
 ghost use Rattle.rbd_kinds.specs.declared.answer.Answer.{Answer};
+ghost use Rattle.rbd_kinds.specs.declared.header.HeaderView.{HeaderView};
 ghost use Rattle.rbd_kinds.specs.declared.header_op.HeaderOp.TheVariants.{Get};
 ghost use Rattle.rbd_kinds.specs.declared.id.SiteId.{SiteId};
 ghost use Rattle.rbd_kinds.specs.declared.layout.Extent.{Extent};
 ghost use Rattle.rbd_kinds.specs.declared.machine.Fed.{Fed};
 ghost use Rattle.rbd_kinds.specs.declared.operation.Op.TheVariants.{Header};
 ghost use Rattle.rbd_kinds.specs.declared.reply.Reply.{Reply};
+ghost use Rattle.rbd_kinds.specs.declared.sharing.Sharing.{Sharing};
+ghost use Rattle.rbd_kinds.specs.Sharing.{is_alone};
+ghost use Rattle.rbd_machine.specs.Label.{Label, Piece};
 ghost use Rattle.rbd_machine.specs.Lawful.{IsLawfulRequest};
 ghost use Rattle.rbd_machine.specs.Passes.{jumps};
 ghost use Rattle.rbd_machine.specs.Path.{Answered, IsWalk};
 ghost use Rattle.rbd_machine.specs.Plan.{Plan, Ask, Return, Standing, IsClosed};
 ghost use Rattle.rbd_machine.specs.Refused.{AreGiven};
 ghost use Rattle.rbd_machine.specs.Standalone.{TellAllStandalone};
-ghost use Rattle.rbd_machine.specs.Steps.{EndsIt, not_there};
+ghost use Rattle.rbd_machine.specs.Steps.{EndsIt, change_plan, not_there};
 ghost use Rattle.rbd_machine.specs.declared.reason.Reason.{Reason};
 ghost use Rattle.rbd_machine.specs.declared.seat.Seat.{Seat};
 ghost use Rattle.rbd_machine.specs.Course.{beginning};
 ghost use Rattle.rbd_machine.specs.Orderly.{IsOrderlyFrom};
 ghost use Rattle.rbd_meaning.specs.Meant.{IsMeantBy};
 ghost use Rattle.rbd_data.specs.Read.{is_read};
-ghost use Rattle.rbd_catalog.specs.InLine.{ChangesInLine};
-ghost use Rattle.rbd_catalog.specs.Looking.{LooksOnce};
+ghost use Rattle.rbd_catalog.specs.InLine.{ChangesInLine, KeepsTo, LabelsKeepTo, turn_along};
+ghost use Rattle.rbd_catalog.specs.Looking.{HoldsNoMore, LooksOnce};
 ghost use Rattle.rbd_catalog.specs.Plans.{IsPlanFor};
 ghost use Rattle.rbd_catalog.specs.Profile.{extent_beside, is_nothing, more_by, most_operations, profile};
 ghost use Rattle.rbd_catalog.specs.Touched.{AsksAtMost, HasAtMost, TakesTurns};
@@ -90,15 +95,45 @@ pub fn looks_refuse_what_isnt_there()
 {}
 
 /// Where a request that isn't a read looks at a header, it either waits for the lock of its image
-/// next, or looks at no header any more. So it goes one way to a lock at most.
+/// next, and then looks at the header of that image first, or it looks at no header and waits for no
+/// lock any more. Nor does a piece that begins again wait for one. So it goes one way to a lock at
+/// most.
 pub fn commands_look_once()
-    ensures { (seat : Seat) (command : Command) (s : Standing) (feds : List Fed) (steps : List Answered) (last : Plan)
+    ensures walk { (seat : Seat) (command : Command) (s : Standing) (feds : List Fed) (steps : List Answered)
+        (last : Plan)
         → IsPlanFor seat command s → is_read command ≡ false → IsWalk s.labels s.plan feds steps last → LooksOnce last }
+    ensures piece { (seat : Seat) (command : Command) (s : Standing) (site : SiteId) (image : ℕ) (h : HeaderView)
+        (bits : List ℕ) (number : ℕ)
+        → IsPlanFor seat command s → is_read command ≡ false
+        → HoldsNoMore (s.labels (Piece site image h bits number)) }
 {}
 
 /// The request of a command that changes an extent goes beside others: it looks its image up first,
-/// joins the image's line, and behind that keeps to it, whatever header it is told.
+/// joins the image's line, and behind that keeps to it, whatever header it is told, however
+/// often it begins a piece again.
 pub fn extents_change_in_line()
     ensures { (seat : Seat) (command : Command) (s : Standing) → IsPlanFor seat command s
         → IsSome (extent_beside (profile command)) → ChangesInLine seat.home s }
+{}
+
+/// A change goes through the line of its image, however often it begins a piece again, where each
+/// piece of that image keeps to the line from its label on, with the turn that it has there.
+pub fn changes_may_begin_pieces_again()
+    ensures { (home : SiteId) (name : List ℕ) (sharing : Sharing) (refuses : HeaderView → Option Refusal)
+        (act : (image : ℕ) → HeaderView → Plan) (labels : Label → Plan) (turn_at : Label → Option ℕ)
+        → is_alone sharing ≡ false
+        → ((image : ℕ) (h : HeaderView) (turn : Option ℕ) → KeepsTo home image turn_at turn (act image h))
+        → ((image : ℕ) (h : HeaderView) (bits : List ℕ) (number : ℕ)
+        → KeepsTo home image turn_at (turn_at (Piece home image h bits number)) (labels (Piece home image h bits number)))
+        → ChangesInLine home (record { labels = labels; plan = change_plan home name sharing refuses act }) }
+{}
+
+/// Wherever a walk of a plan that keeps to a line stands, it keeps to the line there, at the turn
+/// that it waited for last, however often it began a piece again.
+pub fn walks_keep_to_their_line()
+    ensures { (site : SiteId) (image : ℕ) (turn_at : Label → Option ℕ) (labels : Label → Plan) (turn : Option ℕ)
+        (plan : Plan) (feds : List Fed) (steps : List Answered) (last : Plan)
+        → LabelsKeepTo site image turn_at labels → KeepsTo site image turn_at turn plan
+        → IsWalk labels plan feds steps last
+        → KeepsTo site image turn_at (turn_along labels turn plan feds) last }
 {}

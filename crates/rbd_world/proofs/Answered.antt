@@ -42,7 +42,7 @@ use Rattle.rbd_world.proofs.Walks.{IsLed, given_more, standalone_more, led_on, l
 
 -- ---- who waits for nothing stays in no line
 
-calm_place : (slot : ℕ) (p : Plan) (t : Track) → IsCalm p → (run_on slot p t).place ≡ t.place
+pub calm_place : (slot : ℕ) (p : Plan) (t : Track) → IsCalm p → (run_on slot p t).place ≡ t.place
 calm_place slot (Ask s why o next) t calm = refl
 calm_place slot (Await wait next) t calm = absurd calm
 calm_place slot (Note s image event next) t calm = absurd calm
@@ -58,7 +58,7 @@ answered_place slot e t s (op.Header image header.Get) (answer.Header h) = by (l
     by false = refl
 answered_place slot e t s o a = refl
 
-calm_next : (s : SiteId) (why : Reason) (o : Op) (next : Answer → Plan) (a : Answer) (p : Plan) → p ≡ Ask s why o next → IsCalm p → IsCalm (next a)
+pub calm_next : (s : SiteId) (why : Reason) (o : Op) (next : Answer → Plan) (a : Answer) (p : Plan) → p ≡ Ask s why o next → IsCalm p → IsCalm (next a)
 calm_next s why o next a p is calm = subst IsCalm is calm a
 
 module _ {R : Type 0} (stands : R → Standing) where

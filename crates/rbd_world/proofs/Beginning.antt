@@ -48,7 +48,7 @@ module _ {R : Type 0} (stands : R → Standing) where
       sound = fresh.sound;
       know = λ slot. subst (λ o. KnowsIn stands slot (running_in o) c.session.lines nothing_known) (sym (fresh.slots slot)) refl;
       held = λ slot. subst (IsHeldRightly stands (seat_of_home session there) c.session.instance run) (sym (fresh.slots slot)) tt;
-      ways = λ slot. subst (λ o. KeepsToItsWay stands run (slot_state slot c.slots).way (running_in o)) (sym (fresh.slots slot)) tt;
+      ways = λ slot. subst (λ o. KeepsToItsWay stands run slot c.session.lines (slot_state slot c.slots).way (running_in o)) (sym (fresh.slots slot)) tt;
       learned = λ slot. subst (λ o. HasLearnedIf stands run (running_in o) nothing_known) (sym (fresh.slots slot)) tt;
       releases = fresh.release ∙ sym none ∙ ap (λ i. release_of i run) (sym fresh.instance);
       watches = record {

@@ -14,6 +14,7 @@ use Rattle.rbd_slots.specs.declared.running.Occupant.{Occupant}
 use Rattle.rbd_slots.specs.declared.running.Occupant.TheVariants as occupant
 use Rattle.rbd_slots.specs.Session.{SessionView, held_in, running_at, running_in, script_line}
 use Rattle.rbd_slots.specs.Lines.{lines_of}
+use Rattle.rbd_slots.specs.OnTrack.{LeavesOthers}
 use Rattle.rbd_world.specs.declared.event.Event.{Event}
 use Rattle.rbd_world.specs.Closes.{StandsFirst, StandsFirstIf}
 use Rattle.rbd_world.specs.LetGo.{moves_house, release_of}
@@ -28,7 +29,7 @@ use Rattle.rbd_world.proofs.LetGo.{still_releases}
 use Rattle.rbd_world.proofs.Quiet.{IsQuiet, held_on, learned_on}
 use Rattle.rbd_world.proofs.StaysFirst.{first_on}
 use Rattle.rbd_world.proofs.Watching.{EndsNone, counts_on}
-use Rattle.rbd_world.proofs.Ways.{ways_on}
+use Rattle.rbd_world.proofs.Ways.{ways_in, ways_on}
 
 -- ---- this slot, or another one
 
@@ -271,7 +272,7 @@ module _ {R : Type 0} (stands : R → Standing) where
       sound = living.sound;
       know = living.know;
       held = λ x. held_on stands (seat_of_home session home) c.session.instance h run (held_in x c.session.slots) (quiet x) (living.held x);
-      ways = λ x. ways_on stands h run (slot_state x c.slots).way (held_in x c.session.slots) (quiet x) (living.ways x);
+      ways = λ x. ways_on stands h run x c.session.lines (slot_state x c.slots).way (held_in x c.session.slots) (quiet x) (living.ways x);
       learned = λ x. learned_on stands (seat_of_home session home) c.session.instance h run (held_in x c.session.slots) (knows x) (quiet x) (living.learned x);
       releases = living.releases ∙ sym (still_releases c.session.instance h run still.0);
       watches = counts_on c.session.instance h run c still.1 living.watches;
@@ -283,12 +284,12 @@ module _ {R : Type 0} (stands : R → Standing) where
         → AreSlotsBut slot c.session d.session → AreStatesBut slot c d → IsSameClient c.session d.session
         → ((x line : ℕ) → x ≢ slot → script_line (held_in x c.session.slots) ≡ Some line → IsQuiet line h)
         → IsSoundClient stands d → AllKnow stands knows' d.session → IsHeldRightly stands (seat_of_home session home) c.session.instance (h ∷ run) (held_in slot d.session.slots)
-        → KeepsToItsWay stands (h ∷ run) (slot_state slot d.slots).way (running_at slot d.session)
+        → KeepsToItsWay stands (h ∷ run) slot d.session.lines (slot_state slot d.slots).way (running_at slot d.session)
         → ((x : ℕ) → x ≢ slot → knows' x ≡ knows x) → HasLearnedIf stands (h ∷ run) (running_at slot d.session) (knows' slot) → d.release ≡ release_of c.session.instance (h ∷ run)
         → CountsItsWatches c.session.instance (h ∷ run) d → StandsFirstIf (h ∷ run) slot d.session.lines (running_at slot d.session)
         → ((x : ℕ) → x ≢ slot → (s : SiteId) (image : ℕ) → StandsFirst x (lines_of c.session.lines s image) → StandsFirst x (lines_of d.session.lines s image))
-        → IsLiving stands home session (h ∷ run) knows' d
-    living_of knows knows' slot c d living slots states client quiet sound know own keeps others learns release watches first stay_first = record {
+        → LeavesOthers slot (lines_of c.session.lines) (lines_of d.session.lines) → IsLiving stands home session (h ∷ run) knows' d
+    living_of knows knows' slot c d living slots states client quiet sound know own keeps others learns release watches first stay_first leaves = record {
       whose = ap (λ (i : Instance). i.session) client.instance ∙ living.whose;
       runs = subst (λ i. IsRunning i (h ∷ run)) (sym client.instance) (running_on c.session.instance h run lifeless living.runs);
       at_home = client.home ∙ living.at_home;
@@ -315,12 +316,13 @@ module _ {R : Type 0} (stands : R → Standing) where
             (subst (HasLearnedIf stands (h ∷ run) (running_at x c.session)) (sym (others x differ))
             (learned_on stands (seat_of_home session home) c.session.instance h run (held_in x c.session.slots) (knows x) (λ line is. quiet x line differ is) (living.learned x)))
 
-        way_by : (x : ℕ) → (x ≡ slot) ⊎ (x ≢ slot) → KeepsToItsWay stands (h ∷ run) (slot_state x d.slots).way (running_at x d.session)
-        way_by x (inl here) = subst (λ i. KeepsToItsWay stands (h ∷ run) (slot_state i d.slots).way (running_at i d.session)) (sym here) keeps
+        way_by : (x : ℕ) → (x ≡ slot) ⊎ (x ≢ slot) → KeepsToItsWay stands (h ∷ run) x d.session.lines (slot_state x d.slots).way (running_at x d.session)
+        way_by x (inl here) = subst (λ i. KeepsToItsWay stands (h ∷ run) i d.session.lines (slot_state i d.slots).way (running_at i d.session)) (sym here) keeps
         way_by x (inr differ) =
-            subst (λ o. KeepsToItsWay stands (h ∷ run) (slot_state x d.slots).way (running_in o)) (sym (slots x differ))
-            (subst (λ (s : SlotState). KeepsToItsWay stands (h ∷ run) s.way (running_at x c.session)) (sym (states x differ))
-            (ways_on stands h run (slot_state x c.slots).way (held_in x c.session.slots) (λ line is. quiet x line differ is) (living.ways x)))
+            subst (λ o. KeepsToItsWay stands (h ∷ run) x d.session.lines (slot_state x d.slots).way (running_in o)) (sym (slots x differ))
+            (subst (λ (s : SlotState). KeepsToItsWay stands (h ∷ run) x d.session.lines s.way (running_at x c.session)) (sym (states x differ))
+            (ways_in stands (h ∷ run) x c.session.lines d.session.lines (leaves x differ) (slot_state x c.slots).way (held_in x c.session.slots)
+            (ways_on stands h run x c.session.lines (slot_state x c.slots).way (held_in x c.session.slots) (λ line is. quiet x line differ is) (living.ways x))))
 
         by : (x : ℕ) → (x ≡ slot) ⊎ (x ≢ slot) → IsHeldRightly stands (seat_of_home session home) c.session.instance (h ∷ run) (held_in x d.session.slots)
         by x (inl here) = subst (λ i. IsHeldRightly stands (seat_of_home session home) c.session.instance (h ∷ run) (held_in i d.session.slots)) (sym here) own

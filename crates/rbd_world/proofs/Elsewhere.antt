@@ -42,7 +42,7 @@ module _ {R : Type 0} (stands : R → Standing) (home : SiteId) (session : ℕ) 
     sound = living.sound;
     know = living.know;
     held = λ x. held_on stands (seat_of_home session home) c.session.instance h run (held_in x c.session.slots) (quiet x) (living.held x);
-    ways = λ x. ways_on stands h run (slot_state x c.slots).way (held_in x c.session.slots) (quiet x) (living.ways x);
+    ways = λ x. ways_on stands h run x c.session.lines (slot_state x c.slots).way (held_in x c.session.slots) (quiet x) (living.ways x);
     learned = λ x. learned_on stands (seat_of_home session home) c.session.instance h run (held_in x c.session.slots) (knows x) (quiet x) (living.learned x);
     releases = living.releases ∙ sym (still_releases c.session.instance h run unmoved.0);
     watches = counts_on c.session.instance h run c unmoved.1 living.watches;

@@ -78,8 +78,8 @@ module _ {R : Type 0} (stands : R → Standing) (old new : WorldView R) (w : IsS
     know = subst (AllKnow stands knew) (sym hears.session) still.know;
     held = subst (λ (v : SessionView R). (x : ℕ) → IsHeldRightly stands (seat_at w.told.homes session) v.instance (Heard notice ∷ w.told.run) (held_in x v.slots)) (sym hears.session) still.held;
     ways = λ x.
-        subst (λ ss. KeepsToItsWay stands (Heard notice ∷ w.told.run) (slot_state x ss).way (running_at x d.session)) (sym hears.slots)
-        (subst (λ (v : SessionView R). KeepsToItsWay stands (Heard notice ∷ w.told.run) (slot_state x c.slots).way (running_at x v)) (sym hears.session) (still.ways x));
+        subst (λ ss. KeepsToItsWay stands (Heard notice ∷ w.told.run) x d.session.lines (slot_state x ss).way (running_at x d.session)) (sym hears.slots)
+        (subst (λ (v : SessionView R). KeepsToItsWay stands (Heard notice ∷ w.told.run) x v.lines (slot_state x c.slots).way (running_at x v)) (sym hears.session) (still.ways x));
     learned = λ x. subst (λ (v : SessionView R). HasLearnedIf stands (Heard notice ∷ w.told.run) (running_at x v) (knew x)) (sym hears.session) (still.learned x);
     releases = hears.release ∙ still.releases ∙ ap (λ i. release_of i (Heard notice ∷ w.told.run)) (sym same_who);
     watches =

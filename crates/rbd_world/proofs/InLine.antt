@@ -17,6 +17,7 @@ use Rattle.rbd_queue.specs.Line.{Member, member_of, is_member, ahead, holds_tick
 use Rattle.rbd_queue.specs.Steady.{IsSteady}
 use Rattle.rbd_queue.proofs.Passing.{held_is_steady, passed_is_steady}
 use Rattle.rbd_machine.specs.Knowledge.{is_at}
+use Rattle.rbd_machine.specs.Label.{Label}
 use Rattle.rbd_machine.specs.Path.{at_operation}
 use Rattle.rbd_machine.specs.Plan.{Plan, Ask, Await, Note, Return, Goto}
 use Rattle.rbd_machine.specs.Wait as wait
@@ -24,7 +25,7 @@ use Rattle.rbd_kinds.specs.declared.image_at.ImageAt.{ImageAt}
 use Rattle.rbd_slots.specs.Track.{Track, Lines, answered_by, line_changed_at, course_of, done_with, ended_by, given_tickets, line_in, track_looked, place_in, track_noted, run, waited_by}
 use Rattle.rbd_slots.proofs.Track.{changed_here, done_steady, given_steady}
 use Rattle.rbd_world.specs.InLine.{IsPastWithout}
-use Rattle.rbd_catalog.specs.InLine.{KeepsTo}
+use Rattle.rbd_catalog.specs.InLine.{KeepsTo, LabelsKeepTo}
 use Rattle.rbd_world.proofs.Ahead.{TakesNone, ahead_changed, ahead_left, member_changed, member_left, without_changed}
 use Rattle.rbd_knowledge.proofs.Firsts.{no_more_first}
 
@@ -104,42 +105,47 @@ stays_changed slot p t f steady there turn due none takes = record {
   without = λ nothing number is. without_here slot number f steady (takes nothing number) t.place p there t.lines is;
 }
 
-pub record Advances (slot : ℕ) (p : ImageAt) (plan : Plan) (old new : Track) : Type 0 where
+pub record Advances (slot : ℕ) (p : ImageAt) (labels : Label → Plan) (turn_at : Label → Option ℕ) (plan : Plan) (old new : Track) : Type 0 where
   pub stays : StaysInLine slot p old new
-  pub keeps : KeepsTo p.site p.image new.turn (at_operation Goto plan)
+  pub keeps : KeepsTo p.site p.image turn_at new.turn (at_operation labels plan)
 
 module _ (slot : ℕ) (p : ImageAt) where
-  further : (next plan : Plan) (a b c : Track) → at_operation Goto plan ≡ at_operation Goto next → StaysInLine slot p a b → Advances slot p next b c → Advances slot p plan a c
-  further next plan a b c same one two = record {
-    stays = stays_then slot p a b c one two.stays;
-    keeps = subst (KeepsTo p.site p.image c.turn) (sym same) two.keeps;
-  }
-
   still : (t : Track) → t.place ≡ Some p → StaysInLine slot p t t
   still t there = record { place = there; same = same_lines t.lines; due = λ none. none; without = λ none number is. is }
 
-  pub run_stays : (plan : Plan) (t : Track) → t.place ≡ Some p → KeepsTo p.site p.image t.turn plan → Advances slot p plan t (run slot plan t)
-  run_stays (Ask s why o next) t there keeps = record { stays = still t there; keeps = keeps }
-  run_stays (Return reply) t there keeps = record { stays = still t there; keeps = tt }
-  run_stays (Goto label) t there keeps = absurd keeps
-  run_stays (Await (wait.Hold s i) next) t there keeps =
-      further next (Await (wait.Hold s i) next) t (waited_by slot t (wait.Hold s i)) (run slot next (waited_by slot t (wait.Hold s i))) refl
-      (stays_changed slot p t held held_is_steady there t.turn t.due (λ none. none) (λ none number. held_takes number))
-      (run_stays next (waited_by slot t (wait.Hold s i)) there keeps)
-  run_stays (Await (wait.Turn number) next) t there keeps =
-      further next (Await (wait.Turn number) next) t (waited_by slot t (wait.Turn number)) (run slot next (waited_by slot t (wait.Turn number))) refl
-      (stays_changed slot p t (done_with t.turn) (done_steady t.turn) there (Some number) t.due (λ none. none) (λ none n. done_takes n t.turn))
-      (run_stays next (waited_by slot t (wait.Turn number)) there keeps)
-  run_stays (Await (wait.Applied s i) next) t there keeps =
-      further next (Await (wait.Applied s i) next) t (waited_by slot t (wait.Applied s i)) (run slot next (waited_by slot t (wait.Applied s i))) refl
-      (stays_changed slot p t (done_with t.turn) (done_steady t.turn) there None t.due (λ none. none) (λ none n. done_takes n t.turn))
-      (run_stays next (waited_by slot t (wait.Applied s i)) there keeps)
-  run_stays (Await (wait.Join s i sharing) next) t there keeps = absurd keeps
-  run_stays (Await (wait.Leave s i) next) t there keeps = absurd keeps
-  run_stays (Note s i event next) t there keeps =
-      further next (Note s i event next) t (track_noted slot t) (run slot next (track_noted slot t)) refl
-      (stays_changed slot p t (given_tickets t.due) (given_steady t.due) there t.turn [] (λ none. refl) (λ none number. given_takes number t.due none))
-      (run_stays next (track_noted slot t) there keeps)
+  module _ (labels : Label → Plan) (turn_at : Label → Option ℕ) (behind : LabelsKeepTo p.site p.image turn_at labels) where
+    further : (next plan : Plan) (a b c : Track) → at_operation labels plan ≡ at_operation labels next → StaysInLine slot p a b → Advances slot p labels turn_at next b c
+        → Advances slot p labels turn_at plan a c
+    further next plan a b c same one two = record {
+      stays = stays_then slot p a b c one two.stays;
+      keeps = subst (KeepsTo p.site p.image turn_at c.turn) (sym same) two.keeps;
+    }
+
+    pub run_stays : (plan : Plan) (t : Track) → t.place ≡ Some p → KeepsTo p.site p.image turn_at t.turn plan → Advances slot p labels turn_at plan t (run slot plan t)
+    run_stays (Ask s why o next) t there keeps = record { stays = still t there; keeps = keeps }
+    run_stays (Return reply) t there keeps = record { stays = still t there; keeps = tt }
+    run_stays (Goto label) t there keeps = record {
+      stays = still t there;
+      keeps = subst (λ turn. KeepsTo p.site p.image turn_at turn (labels label)) (sym keeps.1) (behind label keeps.0);
+    }
+    run_stays (Await (wait.Hold s i) next) t there keeps =
+        further next (Await (wait.Hold s i) next) t (waited_by slot t (wait.Hold s i)) (run slot next (waited_by slot t (wait.Hold s i))) refl
+        (stays_changed slot p t held held_is_steady there t.turn t.due (λ none. none) (λ none number. held_takes number))
+        (run_stays next (waited_by slot t (wait.Hold s i)) there keeps)
+    run_stays (Await (wait.Turn number) next) t there keeps =
+        further next (Await (wait.Turn number) next) t (waited_by slot t (wait.Turn number)) (run slot next (waited_by slot t (wait.Turn number))) refl
+        (stays_changed slot p t (done_with t.turn) (done_steady t.turn) there (Some number) t.due (λ none. none) (λ none n. done_takes n t.turn))
+        (run_stays next (waited_by slot t (wait.Turn number)) there keeps)
+    run_stays (Await (wait.Applied s i) next) t there keeps =
+        further next (Await (wait.Applied s i) next) t (waited_by slot t (wait.Applied s i)) (run slot next (waited_by slot t (wait.Applied s i))) refl
+        (stays_changed slot p t (done_with t.turn) (done_steady t.turn) there None t.due (λ none. none) (λ none n. done_takes n t.turn))
+        (run_stays next (waited_by slot t (wait.Applied s i)) there keeps)
+    run_stays (Await (wait.Join s i sharing) next) t there keeps = absurd keeps
+    run_stays (Await (wait.Leave s i) next) t there keeps = absurd keeps
+    run_stays (Note s i event next) t there keeps =
+        further next (Note s i event next) t (track_noted slot t) (run slot next (track_noted slot t)) refl
+        (stays_changed slot p t (given_tickets t.due) (given_steady t.due) there t.turn [] (λ none. refl) (λ none number. given_takes number t.due none))
+        (run_stays next (track_noted slot t) there keeps)
 
   -- ---- an answer
 
@@ -185,17 +191,18 @@ module _ (slot : ℕ) (p : ImageAt) where
     answered_same s o a = same_lines t.lines
 
     -- what an answer comes to, up to the next operation
-    pub record GoesOn (to : Plan) (new : Track) : Type 0 where
+    pub record GoesOn (labels : Label → Plan) (turn_at : Label → Option ℕ) (to : Plan) (new : Track) : Type 0 where
       pub place : new.place ≡ Some p
-      pub keeps : KeepsTo p.site p.image new.turn (at_operation Goto to)
+      pub keeps : KeepsTo p.site p.image turn_at new.turn (at_operation labels to)
       pub same : AreSameMembers t.lines new.lines
       pub without : t.due ≡ [] → (m : Member) → member_of slot (t.lines p.site p.image) ≡ Some m → (number : ℕ)
           → IsPastWithout slot number (t.lines p.site p.image) → IsPastWithout slot number (new.lines p.site p.image)
 
-    pub answer_goes : (to : Plan) (s : SiteId) (o : Op) (a : Answer) → KeepsTo p.site p.image t.turn to → GoesOn to (run slot to (answered_by slot e t s o a))
-    answer_goes to s o a keeps =
+    pub answer_goes : (labels : Label → Plan) (turn_at : Label → Option ℕ) → LabelsKeepTo p.site p.image turn_at labels → (to : Plan) (s : SiteId) (o : Op) (a : Answer)
+        → KeepsTo p.site p.image turn_at t.turn to → GoesOn labels turn_at to (run slot to (answered_by slot e t s o a))
+    answer_goes labels turn_at behind to s o a keeps =
         let after = answered_by slot e t s o a in
-        let on = run_stays to after (answered_place s o a ∙ there) (subst (λ turn. KeepsTo p.site p.image turn to) (sym (answered_turn s o a)) keeps) in
+        let on = run_stays labels turn_at behind to after (answered_place s o a ∙ there) (subst (λ turn. KeepsTo p.site p.image turn_at turn to) (sym (answered_turn s o a)) keeps) in
         record {
           place = on.stays.place;
           keeps = on.keeps;
@@ -203,7 +210,7 @@ module _ (slot : ℕ) (p : ImageAt) where
           without = λ none m found number is.
               let same = past_answered m found (is m found).0 s o a in
               subst (λ (u : Track). IsPastWithout slot number ((run slot to u).lines p.site p.image)) (sym same)
-              ((run_stays to t there keeps).stays.without none number is);
+              ((run_stays labels turn_at behind to t there keeps).stays.without none number is);
         }
 
   -- ---- its end

@@ -30,7 +30,7 @@ use Rattle.rbd_slots.specs.Advance.{AdvancesTo, GoesFurther, fed_by, track_of}
 use Rattle.rbd_slots.specs.Lines.{LinesView, lines_of}
 use Rattle.rbd_slots.specs.Session.{SessionView, ComesToIn, held_in, running_at, running_in, script_line}
 use Rattle.rbd_slots.specs.Track.{Track, answered_by, ended_by, run}
-use Rattle.rbd_catalog.specs.InLine.{IsAtTurn, KeepsTo, ChangesInLine}
+use Rattle.rbd_catalog.specs.InLine.{IsAtTurn, KeepsTo, LabelsKeepTo, ChangesInLine}
 use Rattle.rbd_world.specs.Order.{tells_image, writes_object}
 use Rattle.rbd_world.proofs.KeptAhead.{KeepsAhead, answer_keeps, end_keeps}
 
@@ -38,7 +38,7 @@ use Rattle.rbd_world.proofs.KeptAhead.{KeepsAhead, answer_keeps, end_keeps}
 
 module _ {R : Type 0} (stands : R → Standing) where
   -- it goes further, and has no reply
-  came_further : (slot : ℕ) (labels : Label → Plan) (plan : Plan) (t : Track) (result : Option Reply) (r q : Running R) (lines : LinesView) → result ≡ None
+  pub came_further : (slot : ℕ) (labels : Label → Plan) (plan : Plan) (t : Track) (result : Option Reply) (r q : Running R) (lines : LinesView) → result ≡ None
       → AdvancesTo stands slot labels plan t result r q lines → GoesFurther stands slot (record { labels = labels; plan = plan }) t result r q lines
   came_further slot labels (Return reply) t result r q lines none comes = absurd (none-some reply (sym none ∙ comes.reply))
   came_further slot labels (Ask s why o next) t result r q lines none comes = comes
@@ -140,7 +140,7 @@ joins home sharing refuses act = joining home sharing refuses act
 abbrev pub looks : SiteId → (refuses : HeaderView → Option Refusal) → (act : (image : ℕ) → HeaderView → Plan) → (image : ℕ) → Plan
 looks home refuses act = looking home refuses act
 
-pub record LooksUp (home s : SiteId) (o : Op) (next : Answer → Plan) : Type 0 where
+pub record LooksUp (home s : SiteId) (o : Op) (next : Answer → Plan) (from : Label → Plan) : Type 0 where
   pub name : List ℕ
   pub sharing : Sharing
   pub refuses : HeaderView → Option Refusal
@@ -148,10 +148,12 @@ pub record LooksUp (home s : SiteId) (o : Op) (next : Answer → Plan) : Type 0 
   pub site_is : s ≡ home
   pub op_is : o ≡ op.Directory (directory.Find name)
   pub next_is : next ≡ on_id (joins home sharing refuses act)
-  pub keeps : (image : ℕ) (h : HeaderView) (turn : Option ℕ) → KeepsTo home image turn (act image h)
+  pub turn_at : Label → Option ℕ
+  pub keeps : (image : ℕ) (h : HeaderView) (turn : Option ℕ) → KeepsTo home image turn_at turn (act image h)
+  pub labels : (image : ℕ) → LabelsKeepTo home image turn_at from
 
 looks_up_so : (home s : SiteId) (why : Reason) (o : Op) (next : Answer → Plan) (st : Standing) (changes : ChangesInLine home st) → Ask s why o next ≡ find home changes.name (joins home changes.sharing changes.refuses changes.act)
-    → LooksUp home s o next
+    → LooksUp home s o next st.labels
 looks_up_so home s why o next st changes is = record {
   name = changes.name;
   sharing = changes.sharing;
@@ -160,11 +162,13 @@ looks_up_so home s why o next st changes is = record {
   site_is = ap (site_asked s) is;
   op_is = ap (operation_asked o) is;
   next_is = ap (next_asked next) is;
+  turn_at = changes.turn_at;
   keeps = changes.keeps;
+  labels = changes.labels;
 }
 
-pub looks_up : (home s : SiteId) (why : Reason) (o : Op) (next : Answer → Plan) (st : Standing) → st.plan ≡ Ask s why o next → ChangesInLine home st → LooksUp home s o next
-looks_up home s why o next st asks changes = looks_up_so home s why o next st changes (sym asks ∙ ap (λ (x : Standing). x.plan) changes.stand)
+pub looks_up : (home s : SiteId) (why : Reason) (o : Op) (next : Answer → Plan) (st : Standing) → st.plan ≡ Ask s why o next → ChangesInLine home st → LooksUp home s o next st.labels
+looks_up home s why o next st asks changes = looks_up_so home s why o next st changes (sym asks ∙ changes.plan)
 
 pub record Told (a : Answer) : Type 0 where
   pub image : ℕ
@@ -176,5 +180,5 @@ told_it labels next (answer.Id image) further = record { image = image; is = ref
 told_it labels next answer.Fenced further = absurd further
 told_it labels next _ further = absurd further
 
-pub up_writes_none : (home s : SiteId) (o : Op) (next : Answer → Plan) → LooksUp home s o next → (i number : ℕ) → writes_object i number o ≡ false
-up_writes_none home s o next up i number = ap (writes_object i number) up.op_is
+pub up_writes_none : (home s : SiteId) (o : Op) (next : Answer → Plan) (from : Label → Plan) → LooksUp home s o next from → (i number : ℕ) → writes_object i number o ≡ false
+up_writes_none home s o next from up i number = ap (writes_object i number) up.op_is

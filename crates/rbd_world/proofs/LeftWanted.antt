@@ -29,7 +29,7 @@ use Rattle.rbd_slots.specs.Session.{held_in, is_look_at, kind_asked, look_under_
 use Rattle.rbd_world.specs.Run.{Asked, Doer, Itself, OnWay, House, Happening, asked_by, is_line_among, is_for, steps_of, way_of}
 use Rattle.rbd_world.specs.Seats.{seat_at}
 use Rattle.rbd_world.specs.Sending.{doer_at}
-use Rattle.rbd_world.specs.Sound.{HasLearned, HasLearnedIf, IsHeldRightly, IsLedTo, IsStillSent, IsLiving, IsUnderWay, KeepsToItsWay, Recalls, RecallsBy, TakesAlone}
+use Rattle.rbd_world.specs.Sound.{HasLearned, HasLearnedIf, IsHeldRightly, IsLedTo, IsStillSent, IsLiving, IsUnderWay, KeepsToItsWay, Recalls, RecallsBy, TakesAlone, place_of_request}
 use Rattle.rbd_world.specs.Ways.{AgreesWithWay, IsNextOfRelease}
 use Rattle.rbd_world.proofs.LetGo.{next_of_release}
 use Rattle.rbd_world.proofs.Watching.{takes_behind_watch, way_watched}
@@ -72,8 +72,8 @@ module _ {R : Type 0} (stands : R → Standing) (homes : ℕ → SiteId) (sessio
     way : IsUnderWay stands (seat_at homes session) who run r
     way = subst (IsHeldRightly stands (seat_at homes session) who run) holds (living.held x)
 
-    keeps : AgreesWithWay (stands r.request).plan (slot_state x c.slots).way (way_of r.line run)
-    keeps = subst (KeepsToItsWay stands run (slot_state x c.slots).way) runs (living.ways x)
+    keeps : AgreesWithWay (stands r.request) (place_of_request x c.session.lines r) (slot_state x c.slots).way (way_of r.line run)
+    keeps = (subst (KeepsToItsWay stands run x c.session.lines (slot_state x c.slots).way) runs (living.ways x)).1
 
     is_mine : (asked : Asked) → asked_by r.line run ≡ Some asked → who ≡ asked.who
     is_mine asked is = sym (ap (λ (a : Asked). a.who) (same_Some asked way.begun.asked (sym is ∙ way.begun.is)) ∙ way.mine)

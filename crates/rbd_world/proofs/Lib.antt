@@ -77,3 +77,4 @@ pub mod WritesFirst
 pub mod SeenLives
 pub mod SeenParts
 pub mod SeenWorld
+pub mod OwnLook

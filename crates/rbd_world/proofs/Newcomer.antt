@@ -25,6 +25,10 @@ use Rattle.rbd_catalog.proofs.Plans.{has_plan}
 use Rattle.rbd_slots.specs.declared.running.Occupant.{Occupant}
 use Rattle.rbd_slots.specs.declared.running.Occupant.TheVariants as occupant
 use Rattle.rbd_slots.specs.Lines.{LinesView, lines_of}
+use Rattle.rbd_queue.specs.Line.{member_of}
+use Rattle.rbd_slots.specs.Advance.{track_of}
+use Rattle.rbd_slots.proofs.Way.{nowhere_course}
+use Rattle.rbd_world.specs.Ways.{LooksAtItsOwn}
 use Rattle.rbd_slots.specs.Session.{IsNewcomer, held_in, running_at, running_in, script_line}
 use Rattle.rbd_world.specs.declared.event.Event.TheVariants as event
 use Rattle.rbd_world.specs.Order.{AreWritesInOrder}
@@ -157,10 +161,13 @@ module _ {R : Type 0} (stands : R → Standing) (old new : WorldView R) (w : IsS
       λ s image gone. absurd (true≢false (sym gone ∙ ap (has_let_go s image) (ap (λ l. steps_of l (does_begin ∷ w.told.run)) begins.is_line ∙ no_steps)))
 
   -- its way isn't begun
-  begins_no_way : (o : Option (Occupant R)) → IsNew o → KeepsToItsWay stands (does_begin ∷ w.told.run) way.Unbegun (running_in o)
-  begins_no_way None is = tt
-  begins_no_way (Some (occupant.Refused number refusal)) is = tt
-  begins_no_way (Some (occupant.Running r)) begins = inl (ap (λ l. way_of l (does_begin ∷ w.told.run)) begins.is_line ∙ ap (λ xs. xs ++ []) unknown.way)
+  begins_no_way : (lines : LinesView) (o : Option (Occupant R)) → IsNew o → KeepsToItsWay stands (does_begin ∷ w.told.run) lowest lines way.Unbegun (running_in o)
+  begins_no_way lines None is = tt
+  begins_no_way lines (Some (occupant.Refused number refusal)) is = tt
+  begins_no_way lines (Some (occupant.Running r)) begins = (
+    subst (λ place. LooksAtItsOwn place (stands r.request).plan) (sym (nowhere_course lowest (track_of r lines) begins.place)) tt,
+    inl (ap (λ l. way_of l (does_begin ∷ w.told.run)) begins.is_line ∙ ap (λ xs. xs ++ []) unknown.way),
+  )
 
   knows_in : (lines : LinesView) (o : Option (Occupant R)) → IsNew o → KnowsIn stands lowest (running_in o) lines (knew lowest)
   knows_in lines None is = absurd is
@@ -244,10 +251,11 @@ module _ {R : Type 0} (stands : R → Standing) (old new : WorldView R) (w : IsS
         (where_standing w.told.homes w.told.run w.told.right) due (λ s. (stays s).whole (whole_in stands old w s))
         (living_of stands home session does_begin w.told.run (λ m l. refl) knew knew lowest c d living begins.slots became.states begins.client (λ x other apart is. quiet x other is)
         (subst (IsSoundIf stands) (client_is old new session c d goes) (sound session)) all (holds_rightly (held_in lowest d.session.slots) is_new)
-        (subst (λ (s : SlotState). KeepsToItsWay stands (does_begin ∷ w.told.run) s.way (running_at lowest d.session)) (sym became.state) (begins_no_way (held_in lowest d.session.slots) is_new))
+        (subst (λ (s : SlotState). KeepsToItsWay stands (does_begin ∷ w.told.run) lowest d.session.lines s.way (running_at lowest d.session)) (sym became.state) (begins_no_way d.session.lines (held_in lowest d.session.slots) is_new))
         (λ x differ. refl) (learned_new (held_in lowest d.session.slots) is_new) (became.house.release ∙ living.releases)
         (counts_but me (does_begin ∷ w.told.run) c d lowest became.house.locks became.states (ap (λ (s : SlotState). s.way) became.state) (counts_on me does_begin w.told.run c (λ s image. refl) living.watches))
-        (first_new d.session.lines (held_in lowest d.session.slots) is_new) (λ x differ s image first. subst (λ ls. StandsFirst x (lines_of ls s image)) (sym begins.lines) first))
+        (first_new d.session.lines (held_in lowest d.session.slots) is_new) (λ x differ s image first. subst (λ ls. StandsFirst x (lines_of ls s image)) (sym begins.lines) first)
+        (λ x differ s image. ap (λ ls. member_of x (lines_of ls s image)) begins.lines))
         quiet_others begun_apart (λ l now. slots_then l now (line == l) refl)
         (λ s. (stays s).clients d.session.instance knew d
         (subst (λ i. IsTrueOf s (records_in s old.sites) i knew d) (sym begins.client.instance)

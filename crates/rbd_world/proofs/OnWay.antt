@@ -30,7 +30,7 @@ use Rattle.rbd_world.specs.declared.event.Event.TheVariants as event
 use Rattle.rbd_world.specs.Order.{AreWritesInOrder}
 use Rattle.rbd_world.specs.Run.{Asked, OnWay, Happening, Did, Operation, asked_by, ends, step_of, steps_of, way_of}
 use Rattle.rbd_world.specs.Seats.{seat_at}
-use Rattle.rbd_world.specs.Sound.{IsRightlyDone, IsDue, IsHeldRightly, IsInSlot, IsLedTo, IsLiving, IsOpen, IsSoundWorld, IsUnderWay, KeepsToItsWay, StandsAtLook, has_ended, held_of, known_in, HasLearned, HasLearnedIf, TakesAlone}
+use Rattle.rbd_world.specs.Sound.{IsRightlyDone, IsDue, IsHeldRightly, IsInSlot, IsLedTo, IsLiving, IsOpen, IsSoundWorld, IsUnderWay, KeepsToItsWay, StandsAtLook, has_ended, held_of, known_in, HasLearned, HasLearnedIf, TakesAlone, place_of_request}
 use Rattle.rbd_world.specs.Step.{Does, DoesAtSites, Goes, IsSoundIf, operation_at, reply_on_way}
 use Rattle.rbd_world.specs.Ways.{AgreesWithWay, IsWayThere}
 use Rattle.rbd_world.specs.World.{WorldView, client_in, records_in, session_of_client, site_in}
@@ -87,11 +87,14 @@ module _ {R : Type 0} (stands : R → Standing) (old new : WorldView R) (w : IsS
   way : IsUnderWay stands (seat_at w.told.homes session) me w.told.run r
   way = subst (IsHeldRightly stands (seat_at w.told.homes session) me w.told.run) holds (living.held slot)
 
+  keeps : KeepsToItsWay stands w.told.run slot c.session.lines (slot_state slot c.slots).way (Some r)
+  keeps = subst (KeepsToItsWay stands w.told.run slot c.session.lines (slot_state slot c.slots).way) runs (living.ways slot)
+
   -- its way stands where it acts
   stands_there : IsWayThere a.site a.image (way_of r.line w.told.run) (rest_of_acquire a (Return reply.Done))
   stands_there =
       way_acts stands slot c living.sound r runs (way_of r.line w.told.run)
-      (subst (KeepsToItsWay stands w.told.run (slot_state slot c.slots).way) runs (living.ways slot)) a acts
+      keeps.1 a acts
 
   -- where it takes the lock, no open line of the instance let go of it
   gone_beside_it : (image line : ℕ) → op_of a ≡ lock_take image → (begun : IsOpen line w.told.run) → begun.asked.who ≡ me → has_let_go a.site image (steps_of line w.told.run) ≡ true → ⊥
@@ -193,14 +196,17 @@ module _ {R : Type 0} (stands : R → Standing) (old new : WorldView R) (w : IsS
     steps_now : way_of r.line (does_it ∷ w.told.run) ≡ way_of r.line w.told.run ++ step_of operation ∷ []
     steps_now = ap (λ b. way_of r.line w.told.run ++ cond b (step_of operation ∷ []) []) (eq-eqb r.line r.line refl)
 
-    still_on_way : (x : Option Reply) → result ≡ x → GoesItsWay slot x c.session d.session → KeepsToItsWay stands (does_it ∷ w.told.run) (slot_state slot d.slots).way (running_at slot d.session)
+    still_on_way : (x : Option Reply) → result ≡ x → GoesItsWay slot x c.session d.session → KeepsToItsWay stands (does_it ∷ w.told.run) slot d.session.lines (slot_state slot d.slots).way (running_at slot d.session)
     still_on_way (Some reply) is gives_up =
-        subst (λ o. KeepsToItsWay stands (does_it ∷ w.told.run) (slot_state slot d.slots).way (running_in o)) (sym (gives_up.free (subst IsSome (sym runs) refl))) tt
+        subst (λ o. KeepsToItsWay stands (does_it ∷ w.told.run) slot d.session.lines (slot_state slot d.slots).way (running_in o)) (sym (gives_up.free (subst IsSome (sym runs) refl))) tt
     still_on_way None is same =
-        subst (λ o. KeepsToItsWay stands (does_it ∷ w.told.run) (slot_state slot d.slots).way o) (sym (ap (λ (s : SessionView R). running_at slot s) same ∙ runs))
-        (subst (AgreesWithWay (stands r.request).plan (slot_state slot d.slots).way) (sym steps_now)
-        (way_goes_on a (way_of r.line w.told.run) stands_there told (stands r.request).plan (slot_state slot d.slots).way
-        (subst (λ x. WayComesTo a (fed.Answer told) x (slot_state slot d.slots).way) is is_fed.comes)))
+        subst (λ (v : SessionView R). KeepsToItsWay stands (does_it ∷ w.told.run) slot v.lines (slot_state slot d.slots).way (running_at slot v)) (sym same)
+        (subst (KeepsToItsWay stands (does_it ∷ w.told.run) slot c.session.lines (slot_state slot d.slots).way) (sym runs) (
+          keeps.0,
+          subst (AgreesWithWay (stands r.request) (place_of_request slot c.session.lines r) (slot_state slot d.slots).way) (sym steps_now)
+              (way_goes_on a (way_of r.line w.told.run) stands_there told (stands r.request) (place_of_request slot c.session.lines r) (slot_state slot d.slots).way
+              (subst (λ x. WayComesTo a (fed.Answer told) x (slot_state slot d.slots).way) is is_fed.comes)),
+        ))
 
     line_stays : (x : Option Reply) → GoesItsWay slot x c.session d.session → x ≡ None → script_line (held_in slot d.session.slots) ≡ Some r.line
     line_stays None same none = ap (λ (s : SessionView R). script_line (held_in slot s.slots)) same ∙ ap script_line holds
@@ -250,7 +256,7 @@ module _ {R : Type 0} (stands : R → Standing) (old new : WorldView R) (w : IsS
         (others_know stands old new w session slot c there a.site (op_of a) wanted (OnWay r.line) result d became at_sites sound_then)
         (still_learned result refl is_fed.session) (is_fed.release ∙ living.releases)
         (counts_fed stands slot c me w.told.run living.watches operation result refl d became.states (λ x b on. way_ends_none a me a.site me told b.site b.image) wanted became.fed)
-        (first_still result refl is_fed.session) (λ x apart s image. stays_first result is_fed.session x apart s image)
+        (first_still result refl is_fed.session) (λ x apart s image. stays_first result is_fed.session x apart s image) became.others
 
     -- its line stays in its slot, unless it has its reply
     slots_then : (l : ℕ) → IsOpen l (does_it ∷ w.told.run) → (b : Bool) → (r.line == l) ≡ b → IsInSlot l new.lives

@@ -25,7 +25,9 @@ use Rattle.rbd_machine.specs.declared.reason.Reason.{Reason}
 use Rattle.rbd_slots.specs.declared.running.Occupant.{Occupant}
 use Rattle.rbd_slots.specs.declared.running.Occupant.TheVariants as occupant
 use Rattle.rbd_slots.specs.declared.running.Running.{Running}
-use Rattle.rbd_slots.specs.Advance.{track_of}
+use Rattle.rbd_machine.specs.Course.{PlaceInLine}
+use Rattle.rbd_slots.specs.Advance.{AdvancesTo, GoesFurther, fed_by, track_of}
+use Rattle.rbd_slots.specs.Track.{Track, answered_by, course_of, run as run_on}
 use Rattle.rbd_slots.specs.Session.{ComesToIn, OfRunning, going_in, held_in, of_going, op_asked, look_under_lock_at, running_at, running_in, script_line}
 use Rattle.rbd_slots.specs.Waits.{waits}
 use Rattle.rbd_slots.proofs.LooksUnderLockStay.{feeding_may}
@@ -36,16 +38,16 @@ use Rattle.rbd_world.specs.declared.event.Event.TheVariants as event
 use Rattle.rbd_world.specs.Order.{AreWritesInOrder, IsWriterOf}
 use Rattle.rbd_world.specs.Run.{Asked, Itself, Happening, Did, Operation, asked_by, replies_to, step_of, steps_in, steps_of, way_of}
 use Rattle.rbd_world.specs.Seats.{seat_at}
-use Rattle.rbd_world.specs.Sound.{IsDue, IsHeldRightly, IsInSlot, IsLiving, IsOpen, IsSoundWorld, IsUnderWay, KeepsToItsWay, held_of, known_in, HasLearned, HasLearnedIf, Recalls}
+use Rattle.rbd_world.specs.Sound.{IsDue, IsHeldRightly, IsInSlot, IsLiving, IsOpen, IsSoundWorld, IsUnderWay, KeepsToItsWay, held_of, known_in, HasLearned, HasLearnedIf, Recalls, place_of_request}
 use Rattle.rbd_world.specs.Step.{Does, DoesAtSites, Goes, IsSoundIf, next_number, operation_at, reply_at}
-use Rattle.rbd_world.specs.Ways.{AgreesWithWay}
+use Rattle.rbd_world.specs.Ways.{AgreesWithWay, LooksAtItsOwn}
 use Rattle.rbd_world.specs.World.{WorldView, client_in, records_in, session_of_client, site_in}
 use Rattle.rbd_world.proofs.Acting.{alone, all_know, beside_now, beside_of_others, can, done_so, knows_now, permits, sending_now, standing, truth_now, truth_of_others, whole, new_now, others_know}
 use Rattle.rbd_world.proofs.Answered.{answer_due, answer_held, answer_line, went_on, answer_learned}
 use Rattle.rbd_world.proofs.Carried.{IsCarried}
 use Rattle.rbd_world.proofs.Changed.{GoesOnAs, apart_of, client_is, has_become, line_apart, living_of}
 use Rattle.rbd_world.proofs.GoesOn.{goes_carries}
-use Rattle.rbd_world.proofs.InOrder.{came, line_stays}
+use Rattle.rbd_world.proofs.InOrder.{came, came_further, line_stays}
 use Rattle.rbd_world.proofs.Ordered.{did_order, in_turn}
 use Rattle.rbd_world.proofs.OrderedWorld.{running_line}
 use Rattle.rbd_world.proofs.Owes.{own_owes}
@@ -55,7 +57,7 @@ use Rattle.rbd_world.proofs.Closing.{first_behind, ways_spared}
 use Rattle.rbd_world.proofs.StaysFirst.{drops_first, stands_still}
 use Rattle.rbd_world.proofs.Unowned.{lets_go_image, lets_go_there}
 use Rattle.rbd_world.proofs.Watching.{counts_fed, ends_own_is, others_end_none}
-use Rattle.rbd_world.proofs.Ways.{goes_on_itself, way_is_over}
+use Rattle.rbd_world.proofs.Ways.{goes_on_itself, own_behind, way_is_over}
 use Rattle.rbd_world.specs.Closes.{StandsFirst, StandsFirstIf, has_let_go, lets_lock_go}
 use Rattle.rbd_slots.specs.Lines.{lines_of}
 use Rattle.rbd_client.specs.declared.slot_state.Way.TheVariants as way_of_slot
@@ -101,8 +103,8 @@ module _ {R : Type 0} (stands : R → Standing) (old new : WorldView R) (w : IsS
   way = subst (IsHeldRightly stands (seat_at w.told.homes session) me w.told.run) holds (living.held slot)
 
   -- its way goes with its slot's state
-  keeps : AgreesWithWay (stands r.request).plan (slot_state slot c.slots).way (way_of r.line w.told.run)
-  keeps = subst (KeepsToItsWay stands w.told.run (slot_state slot c.slots).way) runs (living.ways slot)
+  keeps : KeepsToItsWay stands w.told.run slot c.session.lines (slot_state slot c.slots).way (Some r)
+  keeps = subst (KeepsToItsWay stands w.told.run slot c.session.lines (slot_state slot c.slots).way) runs (living.ways slot)
 
   -- its line is the instance's
   is_mine : (asked : Asked) → asked_by r.line w.told.run ≡ Some asked → asked.who ≡ me
@@ -156,23 +158,43 @@ module _ {R : Type 0} (stands : R → Standing) (old new : WorldView R) (w : IsS
     due =
         answer_due stands w.told.homes session slot w.told.run me living.whose r way s why o next asks a can_give tells_alone (next_number (site_in s old.sites)) (effect_of (records_in s old.sites) (done.Op o) a)
         (done_so stands old new w session slot c there s o wanted (Itself r.line) result d became at_sites sound_then recalls (λ asked is. sym (is_mine asked is))
-        (way_is_over stands slot c living.sound r runs (way_of r.line w.told.run) keeps acts))
+        (way_is_over stands slot c living.sound r runs (way_of r.line w.told.run) keeps.1 acts))
 
     -- its way isn't begun, or over, and it is past its look under the lock then
     still_over : (n : Option (Occupant R)) → ComesToIn stands slot c.session.lines (fed.Answer a) result r n d.session.lines
-        → KeepsToItsWay stands (does_it ∷ w.told.run) (slot_state slot d.slots).way (running_in n)
+        → KeepsToItsWay stands (does_it ∷ w.told.run) slot d.session.lines (slot_state slot d.slots).way (running_in n)
     still_over None behind = tt
     still_over (Some (occupant.Refused line refusal)) behind = absurd behind
     still_over (Some (occupant.Running q)) behind =
-        let on = went_on stands slot (stands r.request).labels _ _ result r q d.session.lines behind.0 behind.1 in
-        subst (λ (p : Plan). AgreesWithWay p (slot_state slot d.slots).way (way_of q.line w.told.run ++ []))
-        (ap (λ p. at_operation (stands r.request).labels (plan_after p (fed.Answer a))) (sym asks) ∙ sym (ap (λ (st : Standing). st.plan) on.stand))
-        (subst (λ (xs : List Answered). AgreesWithWay (at_operation (stands r.request).labels (next a)) (slot_state slot d.slots).way xs)
-        (sym (append-nil (way_of r.line w.told.run)) ∙ ap (λ l. way_of l w.told.run ++ []) (sym on.line))
-        (subst (λ (s : SlotState). AgreesWithWay (at_operation (stands r.request).labels (next a)) s.way (way_of r.line w.told.run))
-        (sym (is_fed.state ∙ ap (λ x. state_behind (is_some x) (is_some (look_under_lock_at stands slot c.session)) (slot_state slot c.slots)) behind.0))
-        (goes_on_itself stands slot c living.sound r runs (seat_at w.told.homes session) me w.told.run way a (subst (λ p. CanBeFed p (fed.Answer a)) (sym asks) can_give.can) (way_of r.line w.told.run) keeps acts
-        (subst (OfRunning (λ q. waits slot (track_of q c.session.lines) ≡ false)) (sym holds) goes) s why o next asks (stands r.request).labels)))
+        subst (λ (st : Standing). LooksAtItsOwn (place_of_request slot d.session.lines q) st.plan × AgreesWithWay st (place_of_request slot d.session.lines q) (slot_state slot d.slots).way (way_of q.line w.told.run ++ []))
+        (sym on.request)
+        (subst (λ place. LooksAtItsOwn place left.plan × AgreesWithWay left place (slot_state slot d.slots).way (way_of q.line w.told.run ++ [])) (sym (ap (λ (t : Track). (course_of slot t).place) on.track)) (
+          own_behind stands slot c living.sound r runs (seat_at w.told.homes session) me w.told.run way a fed_so s why o next asks keeps.0,
+          subst (λ (xs : List Answered). AgreesWithWay left place_then (slot_state slot d.slots).way xs) (sym (append-nil (way_of r.line w.told.run)) ∙ ap (λ l. way_of l w.told.run ++ []) (sym on.line))
+              (subst (λ (s : SlotState). AgreesWithWay left place_then s.way (way_of r.line w.told.run))
+              (sym (is_fed.state ∙ ap (λ x. state_behind (is_some x) (is_some (look_under_lock_at stands slot c.session)) (slot_state slot c.slots)) behind.0))
+              (goes_on_itself stands slot c living.sound r runs (seat_at w.told.homes session) me w.told.run way a fed_so (way_of r.line w.told.run) keeps.0 keeps.1 acts
+              (subst (OfRunning (λ q. waits slot (track_of q c.session.lines) ≡ false)) (sym holds) goes) s why o next asks on.asks)),
+        ))
+      where
+        left : Standing
+        left = record { labels = (stands r.request).labels; plan = at_operation (stands r.request).labels (next a) }
+
+        after : Track
+        after = run_on slot (next a) (answered_by slot r.extent (track_of r c.session.lines) s o a)
+
+        place_then : Option PlaceInLine
+        place_then = (course_of slot after).place
+
+        fed_so : CanBeFed (stands r.request).plan (fed.Answer a)
+        fed_so = subst (λ p. CanBeFed p (fed.Answer a)) (sym asks) can_give.can
+
+        on : GoesFurther stands slot left after result r q d.session.lines
+        on =
+            came_further stands slot (stands r.request).labels (at_operation (stands r.request).labels (next a)) after result r q d.session.lines behind.0
+            (subst
+            (λ p. AdvancesTo stands slot (stands r.request).labels (at_operation (stands r.request).labels (plan_after p (fed.Answer a)))
+            (run_on slot (plan_after p (fed.Answer a)) (fed_by slot r.extent (track_of r c.session.lines) p (fed.Answer a))) result r q d.session.lines) asks behind.1)
 
     -- it knows then what it was taught
     knows_behind : result ≡ None → knows_now stands old new w session slot c there s o wanted (Itself r.line) result d became at_sites sound_then slot
@@ -240,7 +262,7 @@ module _ {R : Type 0} (stands : R → Standing) (old new : WorldView R) (w : IsS
         (others_know stands old new w session slot c there s o wanted (Itself r.line) result d became at_sites sound_then)
         (learned_then (held_in slot d.session.slots) comes) (is_fed.release ∙ living.releases)
         (counts_fed stands slot c me w.told.run living.watches operation result refl d became.states spares wanted became.fed)
-        (first_then (held_in slot d.session.slots) comes) stays_first
+        (first_then (held_in slot d.session.slots) comes) stays_first became.others
 
     -- its line stays in its slot, unless it has its reply
     slots_then : (l : ℕ) → IsOpen l (does_it ∷ w.told.run) → (b : Bool) → (r.line == l) ≡ b → IsInSlot l new.lives

@@ -35,7 +35,7 @@ use Rattle.rbd_slots.specs.Waits.{waits}
 use Rattle.rbd_slots.proofs.Consequences.{members_run_there}
 use Rattle.rbd_slots.proofs.Members.{not_found}
 use Rattle.rbd_world.specs.InLine.{IsPastWithout}
-use Rattle.rbd_catalog.specs.InLine.{IsAtTurn, KeepsTo}
+use Rattle.rbd_catalog.specs.InLine.{IsAtTurn, KeepsTo, LabelsKeepTo}
 use Rattle.rbd_world.specs.Order.{IsBeforeFinding, IsBehindFinding, IsFirstToWrite, AreWritesInOrder, IsInTurn, IsWriterOf, KeepsOrder, finds_in, found_before, has_found, has_written, tells_image, writes_in, writes_object}
 use Rattle.rbd_world.specs.Run.{Asked, Itself, Happening, Did, Operation, asked_by, steps_in, step_of}
 use Rattle.rbd_world.specs.Sound.{IsDue, IsRight}
@@ -88,14 +88,14 @@ module _ {R : Type 0} (stands : R → Standing) (homes : ℕ → SiteId) (home :
 
   -- ---- a write that hasn't found its image looks it up
 
-  up : IsBeforeFinding stands home rn r → LooksUp home s o next
+  up : IsBeforeFinding stands home rn r → LooksUp home s o next (stands r.request).labels
   up b = looks_up home s why o next (stands r.request) asks b.changes
 
   -- ---- one that has found it writes at its turn
 
   module _ (b : IsBehindFinding stands rn r) where
-    keeps_here : IsAtTurn b.site b.image r.turn s o × ((answer : Answer) → KeepsTo b.site b.image r.turn (next answer))
-    keeps_here = subst (KeepsTo b.site b.image r.turn) asks b.keeps
+    keeps_here : IsAtTurn b.site b.image r.turn s o × ((answer : Answer) → KeepsTo b.site b.image b.turn_at r.turn (next answer))
+    keeps_here = subst (KeepsTo b.site b.image b.turn_at r.turn) asks b.keeps
 
     finds_none : (line : ℕ) (t : SiteId) (i : ℕ) → finds_in line t i does ≡ false
     finds_none line t i =
@@ -131,7 +131,7 @@ module _ {R : Type 0} (stands : R → Standing) (homes : ℕ → SiteId) (home :
     first_of i n writes is = by (old.comes slot r runs writes)
       where
         by : (IsBeforeFinding stands home rn r) ⊎ (IsBehindFinding stands rn r) → IsFirstToWrite who r.line s i n rn
-        by (inl b) = absurd (true≢false (sym is ∙ up_writes_none home s o next (up b) i n))
+        by (inl b) = absurd (true≢false (sym is ∙ up_writes_none home s o next (stands r.request).labels (up b) i n))
         by (inr b) =
             let w = writes_at_turn b.site b.image r.turn s o (keeps_here b).0 i n is in
             subst (λ t. IsFirstToWrite who r.line t i n rn) (sym w.site_is)
@@ -194,8 +194,8 @@ module _ {R : Type 0} (stands : R → Standing) (homes : ℕ → SiteId) (home :
       track_place p is = ap (λ (t : Track). t.place) further.track ∙ is
 
       module _ (b : IsBehindFinding stands rn r) where
-        goes_on : GoesOn slot (place_of_image b.site b.image) r.extent (track_of r c.lines) b.place (next a) there
-        goes_on = answer_goes slot (place_of_image b.site b.image) r.extent (track_of r c.lines) b.place (next a) s o a ((keeps_here b).1 a)
+        goes_on : GoesOn slot (place_of_image b.site b.image) r.extent (track_of r c.lines) b.place labels b.turn_at (next a) there
+        goes_on = answer_goes slot (place_of_image b.site b.image) r.extent (track_of r c.lines) b.place labels b.turn_at b.labels (next a) s o a ((keeps_here b).1 a)
 
         behind_then : IsBehindFinding stands (does ∷ rn) q
         behind_then = record {
@@ -204,11 +204,11 @@ module _ {R : Type 0} (stands : R → Standing) (homes : ℕ → SiteId) (home :
           place = track_place (place_of_image b.site b.image) goes_on.place;
           found = ap (λ f. f || has_found q.line b.site b.image rn) (finds_none b q.line b.site b.image) ∙ ap (λ l. has_found l b.site b.image rn) further.line ∙ b.found;
           only = λ t i is. b.only t i (sym (ap (λ f. f || has_found q.line t i rn) (finds_none b q.line t i) ∙ ap (λ l. has_found l t i rn) further.line) ∙ is);
-          labels = ap (λ (x : Standing). x.labels) further.request ∙ b.labels;
+          turn_at = b.turn_at;
           keeps =
-              subst (λ turn. KeepsTo b.site b.image turn (stands q.request).plan) (sym (ap (λ (t : Track). t.turn) further.track))
-              (subst (λ (x : Standing). KeepsTo b.site b.image there.turn x.plan) (sym further.request)
-              (subst (λ ls. KeepsTo b.site b.image there.turn (at_operation ls (next a))) (sym b.labels) goes_on.keeps));
+              subst (λ turn. KeepsTo b.site b.image b.turn_at turn (stands q.request).plan) (sym (ap (λ (t : Track). t.turn) further.track))
+              (subst (λ (x : Standing). KeepsTo b.site b.image b.turn_at there.turn x.plan) (sym further.request) goes_on.keeps);
+          labels = subst (λ (x : Standing). LabelsKeepTo b.site b.image b.turn_at x.labels) (sym further.request) b.labels;
         }
 
       module _ (b : IsBeforeFinding stands home rn r) where
@@ -249,10 +249,11 @@ module _ {R : Type 0} (stands : R → Standing) (homes : ℕ → SiteId) (home :
           place = track_place (place_of_image home image) (ap (λ (t : Track). t.place) track_then);
           found = ap (λ l. has_found l home image (does ∷ rn)) further.line ∙ ap (λ f. f || has_found r.line home image rn) finds_it;
           only = λ t i is. found_only t i (sym (ap (λ l. has_found l t i (does ∷ rn)) further.line) ∙ is);
-          labels = ap (λ (x : Standing). x.labels) further.request ∙ ap (λ (x : Standing). x.labels) b.changes.stand;
+          turn_at = (up b).turn_at;
           keeps =
-              subst (λ (x : Standing). KeepsTo home image q.turn x.plan) (sym further.request)
-              (subst (KeepsTo home image q.turn) (sym plan_then) (look_keeps home image q.turn (up b).refuses (up b).act (up b).keeps));
+              subst (λ (x : Standing). KeepsTo home image (up b).turn_at q.turn x.plan) (sym further.request)
+              (subst (KeepsTo home image (up b).turn_at q.turn) (sym plan_then) (look_keeps home image (up b).turn_at q.turn (up b).refuses (up b).act (up b).keeps));
+          labels = subst (λ (x : Standing). LabelsKeepTo home image (up b).turn_at x.labels) (sym further.request) ((up b).labels image);
         }
 
       come_then : (IsBeforeFinding stands home rn r) ⊎ (IsBehindFinding stands rn r) → (IsBeforeFinding stands home (does ∷ rn) q) ⊎ (IsBehindFinding stands (does ∷ rn) q)
@@ -373,7 +374,7 @@ module _ {R : Type 0} (stands : R → Standing) (homes : ℕ → SiteId) (home :
         own_writes = subst IsSome (sym (old.extents slot r runs own_writer.asked own_writer.is)) own_writer.writes
 
         earlier_one : x ≢ slot → running_at x c ≡ Some q → (IsBeforeFinding stands home rn r) ⊎ (IsBehindFinding stands rn r) → IsPastWithout x n (lines_of c.lines t i)
-        earlier_one differ is (inl b) = absurd (true≢false (sym (done_by_line other t done (writes_object i n o) now).so ∙ up_writes_none home s o next (up b) i n))
+        earlier_one differ is (inl b) = absurd (true≢false (sym (done_by_line other t done (writes_object i n o) now).so ∙ up_writes_none home s o next (stands r.request).labels (up b) i n))
         earlier_one differ is (inr b) =
             let by = done_by_line other t done (writes_object i n o) now in
             let w = writes_at_turn b.site b.image r.turn s o (keeps_here b).0 i n by.so in

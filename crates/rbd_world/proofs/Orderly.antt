@@ -10,7 +10,7 @@ use Rattle.rbd_slots.specs.Advance.{IsSameStand}
 use Rattle.rbd_slots.specs.Lines.{lines_of}
 use Rattle.rbd_slots.specs.Session.{SessionView, running_at}
 use Rattle.rbd_world.specs.InLine.{IsPastWithout}
-use Rattle.rbd_catalog.specs.InLine.{KeepsTo, ChangesInLine}
+use Rattle.rbd_catalog.specs.InLine.{KeepsTo, LabelsKeepTo, ChangesInLine}
 use Rattle.rbd_world.specs.Order.{IsBeforeFinding, IsBehindFinding, AreWritesInOrder, IsWriterOf, found_before, has_found, has_written, writes_in}
 use Rattle.rbd_world.specs.Run.{Happening, asked_by, or_asked, steps_in}
 use Rattle.rbd_world.specs.Sound.{IsDue, IsRight}
@@ -37,8 +37,9 @@ module _ {R : Type 0} (stands : R → Standing) (home : SiteId) (h : Happening) 
     place = b.place;
     found = found_still r.line h run none b.site b.image ∙ b.found;
     only = λ s i is. b.only s i (sym (found_still r.line h run none s i) ∙ is);
-    labels = b.labels;
+    turn_at = b.turn_at;
     keeps = b.keeps;
+    labels = b.labels;
   }
 
   pub comes_still : (IsBeforeFinding stands home run r) ⊎ (IsBehindFinding stands run r) → (IsBeforeFinding stands home (h ∷ run) r) ⊎ (IsBehindFinding stands (h ∷ run) r)
@@ -87,10 +88,11 @@ module _ {R : Type 0} (stands : R → Standing) (home : SiteId) (who : Instance)
     place = same.place ∙ b.place;
     found = ap (λ l. has_found l b.site b.image run) same.line ∙ b.found;
     only = λ s i is. b.only s i (sym (ap (λ l. has_found l s i run) same.line) ∙ is);
-    labels = ap (λ (x : Standing). x.labels) same.same ∙ b.labels;
+    turn_at = b.turn_at;
     keeps =
-        subst (λ turn. KeepsTo b.site b.image turn (stands q.request).plan) (sym same.turn)
-        (subst (λ (x : Standing). KeepsTo b.site b.image r.turn x.plan) (sym same.same) b.keeps);
+        subst (λ turn. KeepsTo b.site b.image b.turn_at turn (stands q.request).plan) (sym same.turn)
+        (subst (λ (x : Standing). KeepsTo b.site b.image b.turn_at r.turn x.plan) (sym same.same) b.keeps);
+    labels = subst (λ (x : Standing). LabelsKeepTo b.site b.image b.turn_at x.labels) (sym same.same) b.labels;
   }
 
   comes_same : (r q : Running R) → IsSameStand stands r q → (IsBeforeFinding stands home run r) ⊎ (IsBehindFinding stands run r) → (IsBeforeFinding stands home run q) ⊎ (IsBehindFinding stands run q)

@@ -34,6 +34,7 @@ use Rattle.rbd_world.proofs.Rest.{StaysTrue, same_true, still_may_come, where_st
 use Rattle.rbd_world.proofs.Slots.{not_open, open_back, other_slots}
 use Rattle.rbd_world.proofs.Watching.{counts_but, counts_on}
 use Rattle.rbd_world.specs.Closes.{StandsFirst, StandsFirstIf}
+use Rattle.rbd_queue.specs.Line.{member_of}
 use Rattle.rbd_slots.specs.Lines.{lines_of}
 
 module _ {R : Type 0} (stands : R → Standing) (old new : WorldView R) (w : IsSoundWorld stands old) (session slot : ℕ) (c : ClientView R) (there : client_in session old.lives ≡ Some c)
@@ -106,12 +107,12 @@ module _ {R : Type 0} (stands : R → Standing) (old new : WorldView R) (w : IsS
         (where_standing w.told.homes w.told.run w.told.right) refusal_meant (λ s. (stays s).whole (whole_in stands old w s))
         (living_of stands home session does_refuse w.told.run (λ m l. refl) knew knew slot c d living serves.slots serves.states serves.client quiet
         (subst (IsSoundIf stands) (client_is old new session c d goes) (sound session)) all (subst (IsHeldRightly stands (seat_at w.told.homes session) me (does_refuse ∷ w.told.run)) (sym serves.held) tt)
-        (subst (λ o. KeepsToItsWay stands (does_refuse ∷ w.told.run) (slot_state slot d.slots).way (running_in o)) (sym serves.held) tt)
+        (subst (λ o. KeepsToItsWay stands (does_refuse ∷ w.told.run) slot d.session.lines (slot_state slot d.slots).way (running_in o)) (sym serves.held) tt)
         (λ x differ. refl) (subst (λ o. HasLearnedIf stands (does_refuse ∷ w.told.run) (running_in o) (knew slot)) (sym serves.held) tt) (serves.house.release ∙ living.releases)
         (counts_but me (does_refuse ∷ w.told.run) c d slot serves.house.locks serves.states
         (ap (λ (s : SlotState). s.way) ((subst (IsSoundIf stands) (client_is old new session c d goes) (sound session)).free slot serves.held)) (counts_on me does_refuse w.told.run c (λ s image. refl) living.watches))
         (subst (λ o. StandsFirstIf (does_refuse ∷ w.told.run) slot d.session.lines (running_in o)) (sym serves.held) tt)
-        (λ x differ s image first. subst (λ ls. StandsFirst x (lines_of ls s image)) (sym serves.lines) first))
+        (λ x differ s image first. subst (λ ls. StandsFirst x (lines_of ls s image)) (sym serves.lines) first) (λ x differ s image. ap (λ ls. member_of x (lines_of ls s image)) serves.lines))
         quiet_others (apart_of old new session c d goes slot serves.slots w.apart (λ l is. absurd (none-some l (sym (ap script_line serves.held) ∙ is))))
         (λ l now. slots_then l now (line == l) refl)
         (λ s. (stays s).clients d.session.instance knew d

@@ -86,13 +86,13 @@ module _ {R : Type 0} (stands : R → Standing) (old new : WorldView R) (w : IsS
         (knows_now stands old new w session slot c there x.site (release_op x) wanted House None d became at_sites sound_then) slot c d living became.slots became.states became.client (λ y line apart is. quiet line)
         sound_then (all_know stands old new w session slot c there x.site (release_op x) wanted House None d became at_sites sound_then)
         (subst (IsHeldRightly stands (seat_at w.told.homes session) me (does_it ∷ w.told.run)) (sym still_free) tt)
-        (subst (λ o. KeepsToItsWay stands (does_it ∷ w.told.run) (slot_state slot d.slots).way (running_in o)) (sym still_free) tt)
+        (subst (λ o. KeepsToItsWay stands (does_it ∷ w.told.run) slot d.session.lines (slot_state slot d.slots).way (running_in o)) (sym still_free) tt)
         (others_know stands old new w session slot c there x.site (release_op x) wanted House None d became at_sites sound_then)
         (subst (λ o. HasLearnedIf stands (does_it ∷ w.told.run) (running_in o) (knows_now stands old new w session slot c there x.site (release_op x) wanted House None d became at_sites sound_then slot)) (sym still_free) tt)
         (is_fed.release ∙ sym (releases_then operation None w.told.run x refl refl refl))
         (counts_fed stands slot c me w.told.run living.watches operation None refl d became.states (λ y b on. release_ends_none x me x.site me told b.site b.image) wanted became.fed)
         (subst (λ o. StandsFirstIf (does_it ∷ w.told.run) slot d.session.lines (running_in o)) (sym still_free) tt)
-        (λ y apart s image first. subst (λ (v : SessionView R). StandsFirst y (lines_of v.lines s image)) (sym is_fed.session) first)
+        (λ y apart s image first. subst (λ (v : SessionView R). StandsFirst y (lines_of v.lines s image)) (sym is_fed.session) first) became.others
 
     release_carries : IsCarried stands old new w does_it
     release_carries =

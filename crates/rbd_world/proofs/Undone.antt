@@ -33,17 +33,18 @@ use Rattle.rbd_world.specs.Run.{Happening, AreCalls, asked_by, log_of, records_a
 use Rattle.rbd_machine.specs.Standalone.{TellAllStandalone}
 use Rattle.rbd_machine.specs.declared.seat.Seat.{Seat}
 use Rattle.rbd_world.specs.Seats.{seat_of_home}
-use Rattle.rbd_world.specs.Sound.{HasLearnedIf, AreLivesOf, AreStrangers, Holder, InSlot, Sending, IsHeldRightly, IsLiving, IsRunning, IsSoundWorld, IsUnderWay, KeepsToItsWay, MayStillCome, has_ended, held_of, known_in, line_at}
+use Rattle.rbd_world.specs.Sound.{HasLearnedIf, AreLivesOf, AreStrangers, Holder, InSlot, Sending, IsHeldRightly, IsLiving, IsRunning, IsSoundWorld, IsUnderWay, KeepsToItsWay, MayStillCome, has_ended, held_of, known_in, line_at, place_of_request}
 use Rattle.rbd_world.specs.Step.{AreLivesAlike, IsAlikeOf, IsClientAlikeIf, IsSoundIf, IsUndone}
 use Rattle.rbd_world.specs.Watched.{CountsItsWatches}
-use Rattle.rbd_world.specs.Ways.{AgreesWithWay}
+use Rattle.rbd_world.specs.Ways.{AgreesWithWay, LooksAtItsOwn}
 use Rattle.rbd_world.specs.World.{LateView, LivesView, WorldView, client_in, late_at, late_of, lives_in, records_in, running_of, sent_in, session_of_client, site_in}
 use Rattle.rbd_world.proofs.OrderedWorld.{alike_order_if}
 use Rattle.rbd_world.proofs.Slots.{same_slots}
 use Rattle.rbd_world.proofs.Watching.{counts_alike}
 use Rattle.rbd_world.specs.Closes.{StandsFirst, StandsFirstIf, has_let_go}
 use Rattle.rbd_slots.specs.Lines.{LinesView, lines_of}
-use Rattle.rbd_slots.specs.Track.{Lines}
+use Rattle.rbd_queue.specs.Line.{member_of}
+use Rattle.rbd_slots.specs.Track.{Lines, line_in, place_in}
 
 module _ {R : Type 0} (stands : R → Standing) where
   -- ---- a slot
@@ -85,13 +86,20 @@ module _ {R : Type 0} (stands : R → Standing) where
     alike_held None p alike held = subst (IsHeldRightly stands seat who run) (sym alike) held
 
   -- and its way stands where it did
-  alike_ways : (run : List Happening) (w : Way) (o p : Option (Occupant R)) → IsAlikeIn stands o p → KeepsToItsWay stands run w (running_in o) → KeepsToItsWay stands run w (running_in p)
-  alike_ways run w (Some (occupant.Running r)) (Some (occupant.Running q)) alike keeps =
-      subst (λ (s : Standing). AgreesWithWay s.plan w (way_of q.line run)) (sym alike.same) (subst (λ line. AgreesWithWay (stands r.request).plan w (way_of line run)) (sym alike.line) keeps)
-  alike_ways run w (Some (occupant.Running r)) (Some (occupant.Refused line refusal)) alike keeps = tt
-  alike_ways run w (Some (occupant.Running r)) None alike keeps = tt
-  alike_ways run w (Some (occupant.Refused line refusal)) p alike keeps = subst (λ x. KeepsToItsWay stands run w (running_in x)) (sym alike) keeps
-  alike_ways run w None p alike keeps = subst (λ x. KeepsToItsWay stands run w (running_in x)) (sym alike) keeps
+  alike_ways : (run : List Happening) (slot : ℕ) (old new : LinesView) → lines_of new ≡ lines_of old → (w : Way) (o p : Option (Occupant R)) → IsAlikeIn stands o p
+      → KeepsToItsWay stands run slot old w (running_in o) → KeepsToItsWay stands run slot new w (running_in p)
+  alike_ways run slot old new lines w (Some (occupant.Running r)) (Some (occupant.Running q)) alike keeps =
+      subst (λ (s : Standing). LooksAtItsOwn (place_of_request slot new q) s.plan × AgreesWithWay s (place_of_request slot new q) w (way_of q.line run)) (sym alike.same)
+      (subst (λ line. LooksAtItsOwn (place_of_request slot new q) (stands r.request).plan × AgreesWithWay (stands r.request) (place_of_request slot new q) w (way_of line run)) (sym alike.line)
+      (subst (λ place. LooksAtItsOwn place (stands r.request).plan × AgreesWithWay (stands r.request) place w (way_of r.line run)) (sym place_is) keeps))
+    where
+      place_is : place_of_request slot new q ≡ place_of_request slot old r
+      place_is =
+          ap (λ p. place_in p (member_of slot (line_in p (lines_of new)))) alike.place ∙ ap (λ (ls : Lines). place_in r.place (member_of slot (line_in r.place ls))) lines
+  alike_ways run slot old new lines w (Some (occupant.Running r)) (Some (occupant.Refused line refusal)) alike keeps = tt
+  alike_ways run slot old new lines w (Some (occupant.Running r)) None alike keeps = tt
+  alike_ways run slot old new lines w (Some (occupant.Refused line refusal)) p alike keeps = subst (λ x. KeepsToItsWay stands run slot new w (running_in x)) (sym alike) tt
+  alike_ways run slot old new lines w None p alike keeps = subst (λ x. KeepsToItsWay stands run slot new w (running_in x)) (sym alike) tt
 
   alike_learned : (run : List Happening) (k : Knowledge) (o p : Option (Occupant R)) → IsAlikeIn stands o p → HasLearnedIf stands run (running_in o) k → HasLearnedIf stands run (running_in p) k
   alike_learned run k (Some (occupant.Running r)) (Some (occupant.Running q)) same has = record {
@@ -138,8 +146,8 @@ module _ {R : Type 0} (stands : R → Standing) where
         subst (λ i. IsHeldRightly stands (seat_of_home session home) i run (held_in slot d.session.slots)) (sym alike.session.instance)
         (alike_held (seat_of_home session home) c.session.instance run (held_in slot c.session.slots) (held_in slot d.session.slots) (alike.session.slots slot) (living.held slot));
     ways = λ slot.
-        subst (λ ss. KeepsToItsWay stands run (slot_state slot ss).way (running_at slot d.session)) (sym alike.slots)
-        (alike_ways run (slot_state slot c.slots).way (held_in slot c.session.slots) (held_in slot d.session.slots) (alike.session.slots slot) (living.ways slot));
+        subst (λ ss. KeepsToItsWay stands run slot d.session.lines (slot_state slot ss).way (running_at slot d.session)) (sym alike.slots)
+        (alike_ways run slot c.session.lines d.session.lines alike.session.lines (slot_state slot c.slots).way (held_in slot c.session.slots) (held_in slot d.session.slots) (alike.session.slots slot) (living.ways slot));
     learned = λ slot. alike_learned run (knows slot) (held_in slot c.session.slots) (held_in slot d.session.slots) (alike.session.slots slot) (living.learned slot);
     releases = alike.release ∙ living.releases ∙ ap (λ i. release_of i run) (sym alike.session.instance);
     watches =

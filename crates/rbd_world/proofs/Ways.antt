@@ -13,10 +13,11 @@ use Rattle.rbd_client.specs.Feeding.{GoesOnItsWay, RefusesIt, TakesTheLock, WayC
 use Rattle.rbd_client.specs.Sound.{IsSoundClient, IsWellOnWay, WaitsForLook}
 use Rattle.rbd_client.proofs.OnWay.{is_way, way_or, way_waits, releases_no_way}
 use Rattle.rbd_client.proofs.Requests.{acts_by_way, is_request, stands_at_look}
-use Rattle.rbd_machine.specs.Course.{Course, answered, is_newcomer_at, has_just_joined, looks_under_lock_at, course_past_look, past}
+use Rattle.rbd_machine.specs.Course.{Course, PlaceInLine, answered, is_newcomer_at, is_waiting, has_just_joined, looks_under_lock_at, course_past_look, past}
 use Rattle.rbd_machine.specs.Orderly.{IsOrderly}
 use Rattle.rbd_kinds.specs.declared.answer.Answer.{Answer}
 use Rattle.rbd_kinds.specs.declared.answer.Answer.TheVariants as answer
+use Rattle.rbd_kinds.specs.declared.header.HeaderView.{HeaderView}
 use Rattle.rbd_kinds.specs.declared.header_op.HeaderOp.TheVariants as header
 use Rattle.rbd_kinds.specs.declared.id.Instance.{Instance}
 use Rattle.rbd_kinds.specs.declared.id.SiteId.{SiteId}
@@ -31,10 +32,12 @@ use Rattle.rbd_kinds.specs.declared.reply.Reply.TheVariants as reply
 use Rattle.rbd_queue.specs.Line.{member_of}
 use Rattle.rbd_lock.specs.declared.lock_state.LockState.{LockState}
 use Rattle.rbd_lock.specs.Locks.{lock_state_at}
-use Rattle.rbd_machine.specs.Answers.{CanBeFed}
+use Rattle.rbd_machine.specs.Answers.{CanBeFed, CanGive}
 use Rattle.rbd_machine.specs.Label.{Label}
+use Rattle.rbd_machine.specs.Label as label
 use Rattle.rbd_machine.specs.Path.{Answered, IsWalk, at_operation}
-use Rattle.rbd_machine.specs.Plan.{Plan, Ask, Await, Return, Standing, plan_after, past_label}
+use Rattle.rbd_machine.specs.Plan.{Plan, Ask, Await, Return, IsAsking, IsClosed, Standing, plan_after, past_label}
+use Rattle.rbd_machine.specs.Steps.{EndsIt, not_there}
 use Rattle.rbd_machine.specs.declared.seat.Seat.{Seat}
 use Rattle.rbd_machine.specs.Wait as wait
 use Rattle.rbd_machine.specs.declared.reason.Reason.{Reason}
@@ -50,18 +53,25 @@ use Rattle.rbd_lock.specs.declared.release.Stage.TheVariants as letting
 use Rattle.rbd_slots.specs.declared.running.Occupant.{Occupant}
 use Rattle.rbd_slots.specs.declared.running.Occupant.TheVariants as occupant
 use Rattle.rbd_slots.specs.declared.running.Running.{Running}
-use Rattle.rbd_slots.specs.Advance.{track_of}
-use Rattle.rbd_slots.specs.Lines.{lines_of}
+use Rattle.rbd_slots.specs.Advance.{fed_by, track_of}
+use Rattle.rbd_slots.specs.Lines.{LinesView, lines_of}
 use Rattle.rbd_slots.specs.OnTrack.{IsOnTrack}
 use Rattle.rbd_slots.specs.Session.{OfRunning, held_in, is_look_at, kind_asked, look_under_lock_at, running_at, running_in, script_line}
-use Rattle.rbd_slots.specs.Track.{course_of, line_in, place_in}
+use Rattle.rbd_slots.specs.Track.{Track, answered_by, course_of, line_in, place_in, run as run_on}
+use Rattle.rbd_slots.proofs.Track.{course_answered}
+use Rattle.rbd_slots.proofs.Way.{answered_on_track, nowhere_course}
 use Rattle.rbd_slots.specs.Waits.{waits}
-use Rattle.rbd_world.specs.Run.{Happening, steps_of}
-use Rattle.rbd_world.specs.Sound.{IsUnderWay, KeepsToItsWay}
-use Rattle.rbd_world.specs.Ways.{AsksNext, AgreesWithWay, IsOfRelease, IsOver, IsWayThere, TookTheLock, WasRefused}
-use Rattle.rbd_catalog.specs.Looking.{LooksNoMore, Holds, HoldsNext, IsLast, Looked}
-use Rattle.rbd_catalog.proofs.Looks.{looks_once}
-use Rattle.rbd_catalog.proofs.LooksNone.{none_at_operation}
+use Rattle.rbd_world.specs.Run.{Happening, steps_of, way_of}
+use Rattle.rbd_world.specs.Sound.{IsUnderWay, KeepsToItsWay, place_of_request}
+use Rattle.rbd_world.specs.Ways.{AsksNext, AgreesWithWay, IsOfRelease, IsOver, IsPastItsWay, IsWayThere, LooksAtItsOwn, TookTheLock, WasRefused, awaits_its_look}
+use Rattle.rbd_catalog.specs.Looking.{HoldsNoMore, Holds, HoldsNext, IsLast, Looked, is_read}
+use Rattle.rbd_catalog.specs.Profile.{joins_a_line, profile}
+use Rattle.rbd_catalog.proofs.Looks.{looks_once, looks_refuse, pieces_hold_no_more}
+use Rattle.rbd_catalog.proofs.LooksNone.{holds_at_operation}
+use Rattle.rbd_knowledge.proofs.NoReads.{changes_are_no_reads}
+use Rattle.rbd_knowledge.specs.Calm.{IsCalm}
+use Rattle.rbd_world.proofs.Answered.{answered_place, calm_next, calm_place}
+use Rattle.rbd_world.proofs.OwnLook.{IsToldHeader, answered_own, ended_by_look, look_behind, own_run, past_answered, past_run, told_header}
 use Rattle.rbd_world.proofs.Quiet.{IsQuiet, way_on}
 use Rattle.rbd_world.proofs.RefusedOnWay.{LooksAt, looks_at, reads_not}
 use Rattle.rbd_world.proofs.Walks.{walk_append}
@@ -72,11 +82,28 @@ end = Return reply.Done
 -- ---- where a happening is none of the line's
 
 module _ {R : Type 0} (stands : R → Standing) (h : Happening) (run : List Happening) where
-  pub ways_on : (w : Way) (o : Option (Occupant R)) → ((line : ℕ) → script_line o ≡ Some line → IsQuiet line h) → KeepsToItsWay stands run w (running_in o)
-      → KeepsToItsWay stands (h ∷ run) w (running_in o)
-  ways_on w None quiet keeps = tt
-  ways_on w (Some (occupant.Refused line refusal)) quiet keeps = tt
-  ways_on w (Some (occupant.Running r)) quiet keeps = subst (AgreesWithWay (stands r.request).plan w) (sym (way_on r.line h run (quiet r.line refl))) keeps
+  pub ways_on : (slot : ℕ) (lines : LinesView) (w : Way) (o : Option (Occupant R)) → ((line : ℕ) → script_line o ≡ Some line → IsQuiet line h) → KeepsToItsWay stands run slot lines w (running_in o)
+      → KeepsToItsWay stands (h ∷ run) slot lines w (running_in o)
+  ways_on slot lines w None quiet keeps = tt
+  ways_on slot lines w (Some (occupant.Refused line refusal)) quiet keeps = tt
+  ways_on slot lines w (Some (occupant.Running r)) quiet keeps =
+      (keeps.0, subst (AgreesWithWay (stands r.request) (place_of_request slot lines r) w) (sym (way_on r.line h run (quiet r.line refl))) keeps.1)
+
+-- and where its slot stands in each line as it did
+module _ {R : Type 0} (stands : R → Standing) (run : List Happening) (slot : ℕ) (old new : LinesView)
+    (same : (s : SiteId) (image : ℕ) → member_of slot (lines_of new s image) ≡ member_of slot (lines_of old s image)) where
+  place_stays : (r : Running R) → place_of_request slot new r ≡ place_of_request slot old r
+  place_stays r = by r.place
+    where
+      by : (p : Option ImageAt) → place_in p (member_of slot (line_in p (lines_of new))) ≡ place_in p (member_of slot (line_in p (lines_of old)))
+      by None = refl
+      by (Some p) = ap (place_in (Some p)) (same p.site p.image)
+
+  pub ways_in : (w : Way) (o : Option (Occupant R)) → KeepsToItsWay stands run slot old w (running_in o) → KeepsToItsWay stands run slot new w (running_in o)
+  ways_in w None keeps = tt
+  ways_in w (Some (occupant.Refused line refusal)) keeps = tt
+  ways_in w (Some (occupant.Running r)) keeps =
+      subst (λ place. LooksAtItsOwn place (stands r.request).plan × AgreesWithWay (stands r.request) place w (way_of r.line run)) (sym (place_stays r)) keeps
 
 -- ---- one step more on a way
 
@@ -142,10 +169,10 @@ module _ (a : Acquire) (steps : List Answered) (there : IsWayThere a.site a.imag
         (ap (λ f. past_label (lock_labels a.site a.image) (plan_after (rest_of_acquire a end) f)) takes.done
         ∙ ap (λ s. past_label (lock_labels a.site a.image) (plan_after (rest_at s a.site a.image end) (fed.Answer answer.Done))) takes.asked)))
 
-    pub way_goes_on : (left : Plan) (w : Way) → WayComesTo a (fed.Answer told) None w → AgreesWithWay left w more
-    way_goes_on left (way.On b) goes = way_further b goes
-    way_goes_on left (way.Taken p) takes = way_to_lock p takes
-    way_goes_on left way.Unbegun comes = absurd comes
+    pub way_goes_on : (left : Standing) (place : Option PlaceInLine) (w : Way) → WayComesTo a (fed.Answer told) None w → AgreesWithWay left place w more
+    way_goes_on left place (way.On b) goes = way_further b goes
+    way_goes_on left place (way.Taken p) takes = way_to_lock p takes
+    way_goes_on left place way.Unbegun comes = absurd comes
 
     pub way_refused : (r : Reply) → RefusesIt a (fed.Answer told) r → WasRefused a.site r more
     way_refused (reply.Refused x) refuses =
@@ -169,12 +196,16 @@ begins_by s p a = go (s.quiesced || s.asked) s.owned
     go false true is = absurd (true≢false (sym (ap is_way is)))
     go false false is = subst (λ (x : Acquire). IsWayThere x.site x.image [] (rest_of_acquire x end)) (ap (way_or a) is) (begins_there p.site p.image s.watched)
 
--- who wants a look isn't past its own
-looks_still : (site : SiteId) (p : Plan) → is_look_at site (kind_asked p) ≡ true → LooksNoMore p → ⊥
-looks_still site p wants none = let look = looks_at site p wants in (subst LooksNoMore look.is none).0
+-- who stands at its look under the lock waits for it
+module _ {R : Type 0} (stands : R → Standing) (slot : ℕ) (c : ClientView R) (r : Running R) (runs : running_at slot c.session ≡ Some r) where
+  awaits_there : (site : SiteId) (image : ℕ) → WaitsForLook stands slot site image c.session → awaits_its_look (place_of_request slot c.session.lines r) ≡ true
+  awaits_there site image waiting =
+      ap (λ p. awaits_its_look (place_in p (member_of slot (line_in p (lines_of c.session.lines)))))
+      (sym (ap (λ (q : Running R). q.place) (same_Some waiting.request r (sym waiting.runs ∙ runs))) ∙ waiting.place)
+      ∙ ap (λ o. awaits_its_look (place_in (Some (record { site = site; image = image })) o)) waiting.found ∙ ap is_waiting waiting.waits
 
 module _ {R : Type 0} (stands : R → Standing) (slot : ℕ) (c : ClientView R) (sound : IsSoundClient stands c) (r : Running R) (runs : running_at slot c.session ≡ Some r) (steps : List Answered)
-    (keeps : AgreesWithWay (stands r.request).plan (slot_state slot c.slots).way steps) where
+    (keeps : AgreesWithWay (stands r.request) (place_of_request slot c.session.lines r) (slot_state slot c.slots).way steps) where
   -- ---- its way acts
 
   pub way_acts : (a : Acquire) → actor_at stands slot c ≡ actor.Way a → IsWayThere a.site a.image steps (rest_of_acquire a end)
@@ -183,16 +214,15 @@ module _ {R : Type 0} (stands : R → Standing) (slot : ℕ) (c : ClientView R) 
       waiting : WaitsForLook stands slot a.site a.image c.session
       waiting = way_waits stands slot c a sound acts
 
-      nothing_yet : (steps ≡ []) ⊎ (TookTheLock steps × LooksNoMore (stands r.request).plan) → steps ≡ []
+      nothing_yet : (steps ≡ []) ⊎ IsPastItsWay (stands r.request) (place_of_request slot c.session.lines r) steps → steps ≡ []
       nothing_yet (inl none) = none
-      nothing_yet (inr (took, none)) =
-          absurd (looks_still a.site (stands r.request).plan (subst (λ (q : Running R). is_look_at a.site (kind_asked (stands q.request).plan) ≡ true) (same_Some waiting.request r (sym waiting.runs ∙ runs)) waiting.wants) none)
+      nothing_yet (inr past) = absurd (true≢false (sym (awaits_there stands slot c r runs a.site a.image waiting) ∙ past.past))
 
       looking : (look : Option ImageAt) → steps ≡ [] → actor_at_look look c.locks ≡ actor.Way a → IsWayThere a.site a.image steps (rest_of_acquire a end)
       looking None none is = absurd (true≢false (sym (ap is_way is)))
       looking (Some p) none is = subst (λ xs. IsWayThere a.site a.image xs (rest_of_acquire a end)) (sym none) (begins_by (lock_state_at p.site p.image c.locks) p a is)
 
-      on : (w : Way) → AgreesWithWay (stands r.request).plan w steps → actor_on w (look_under_lock_at stands slot c.session) c.locks ≡ actor.Way a → IsWayThere a.site a.image steps (rest_of_acquire a end)
+      on : (w : Way) → AgreesWithWay (stands r.request) (place_of_request slot c.session.lines r) w steps → actor_on w (look_under_lock_at stands slot c.session) c.locks ≡ actor.Way a → IsWayThere a.site a.image steps (rest_of_acquire a end)
       on way.Unbegun off is = looking (look_under_lock_at stands slot c.session) (nothing_yet off) is
       on (way.On b) there is = subst (λ (x : Acquire). IsWayThere x.site x.image steps (rest_of_acquire x end)) (ap (way_or a) is) there
       on (way.Taken p) there is = absurd (true≢false (sym (ap is_way is)))
@@ -211,13 +241,18 @@ module _ {R : Type 0} (stands : R → Standing) (slot : ℕ) (c : ClientView R) 
     pub way_is_over : IsOver steps
     way_is_over = by (slot_state slot c.slots).way refl keeps
       where
-        by : (w : Way) → (slot_state slot c.slots).way ≡ w → AgreesWithWay (stands r.request).plan w steps → IsOver steps
+        by : (w : Way) → (slot_state slot c.slots).way ≡ w → AgreesWithWay (stands r.request) (place_of_request slot c.session.lines r) w steps → IsOver steps
         by way.Unbegun is (inl none) = inl none
-        by way.Unbegun is (inr (took, none)) = inr took
+        by way.Unbegun is (inr past) = inr past.took
         by (way.On b) is there = absurd (not_on b is)
         by (way.Taken p) is there = inr (record { site = p.site; image = p.image; way = there })
 
 -- ---- behind its look under the lock
+
+-- who is refused asks for nothing
+not_asking : (labels : Label → Plan) (a : Answer) → IsAsking (at_operation labels (not_there a)) → ⊥
+not_asking labels answer.Fenced asks = asks
+not_asking labels _ asks = asks
 
 newcomer_behind : (e : Option Extent) (k : Course) (site : SiteId) (o : Op) (a : Answer) → is_newcomer_at k.place ≡ false → is_newcomer_at (answered e k site o a).place ≡ false
 newcomer_behind e k site (op.Header image header.Get) (answer.Header h) none = by (looks_under_lock_at site image k.place)
@@ -238,7 +273,85 @@ holds_no_more e at k p none orderly holds = holds
 
 module _ {R : Type 0} (stands : R → Standing) (slot : ℕ) (c : ClientView R) (sound : IsSoundClient stands c) (r : Running R) (runs : running_at slot c.session ≡ Some r)
     (seat : Seat) (who : Instance) (run : List Happening) (under : IsUnderWay stands seat who run r) (a : Answer) (can : CanBeFed (stands r.request).plan (fed.Answer a)) where
-  -- at its look under the lock it is answered, and looks at no header any more
+  abbrev labels : Label → Plan
+  labels = (stands r.request).labels
+
+  abbrev before : Track
+  before = track_of r c.session.lines
+
+  -- where it stands behind the answer
+  abbrev standing_behind : Plan → Standing
+  standing_behind p = record { labels = labels; plan = at_operation labels (plan_after p (fed.Answer a)) }
+
+  abbrev place_behind : Plan → Option PlaceInLine
+  place_behind p = (course_of slot (run_on slot (plan_after p (fed.Answer a)) (fed_by slot r.extent before p (fed.Answer a)))).place
+
+  module _ (s : SiteId) (why : Reason) (o : Op) (next : Answer → Plan) (asks : (stands r.request).plan ≡ Ask s why o next) where
+    can_give : CanGive o a
+    can_give = subst (λ p. CanBeFed p (fed.Answer a)) asks can
+
+    on_before : IsOnTrack slot r.extent true (record { labels = labels; plan = Ask s why o next }) before
+    on_before =
+        let on = sound.session.runs slot r runs in
+        record {
+          somewhere = on.somewhere;
+          elsewhere = on.elsewhere;
+          orderly = record {
+            at = on.orderly.at;
+            orderly = subst (IsOrderly r.extent on.orderly.at true (course_of slot before)) asks on.orderly.orderly;
+            closed = subst (IsClosed labels) asks on.orderly.closed;
+            labels = on.orderly.labels;
+          };
+          takes = on.takes;
+          turns = on.turns;
+        }
+
+    on_behind : IsOnTrack slot r.extent true (record { labels = labels; plan = past_label labels (next a) }) (answered_by slot r.extent before s o a)
+    on_behind = answered_on_track slot r.extent labels true s why o next a before can_give sound.session.fair on_before
+
+    place_answered : (course_of slot (answered_by slot r.extent before s o a)).place ≡ (answered r.extent (course_of slot before) s o a).place
+    place_answered = ap (λ (k : Course). k.place) (course_answered slot r.extent before s o a on_before.somewhere)
+
+    -- who waits for no lock any more stays past its look
+    past_then : HoldsNoMore (next a) → awaits_its_look (answered r.extent (course_of slot before) s o a).place ≡ false
+        → awaits_its_look (course_of slot (run_on slot (next a) (answered_by slot r.extent before s o a))).place ≡ false
+    past_then holds none = past_run slot r.extent labels true (next a) (answered_by slot r.extent before s o a) on_behind holds (ap awaits_its_look place_answered ∙ none)
+
+    walks_here : IsWalk under.start.labels under.start.plan under.feds (steps_of r.line run) (Ask s why o next)
+    walks_here = subst (IsWalk under.start.labels under.start.plan under.feds (steps_of r.line run)) asks under.walk
+
+    -- and who waits for its look looks at its own image first
+    module _ (own : LooksAtItsOwn (course_of slot before).place (stands r.request).plan) where
+      abbrev OwnThen : Type 0
+      OwnThen = LooksAtItsOwn (course_of slot (run_on slot (next a) (answered_by slot r.extent before s o a))).place (at_operation labels (next a))
+
+      own_of_change : is_read under.begun.asked.command ≡ false → OwnThen
+      own_of_change other =
+          own_run slot r.extent labels true (next a) (answered_by slot r.extent before s o a) on_behind
+          (looks_once seat under.begun.asked.command under.start under.feds (steps_of r.line run) (Ask s why o next) under.plan other walks_here a).1
+          (subst (λ place. LooksAtItsOwn place (next a)) (sym place_answered)
+          (answered_own r.extent (course_of slot before) s why next o a (subst (LooksAtItsOwn (course_of slot before).place) asks own)
+          (ended_by_look o a next can_give
+          (λ i is ends.
+          looks_refuse seat under.begun.asked.command under.start under.feds (steps_of r.line run) s why i next a under.plan other
+          (subst (λ q. IsWalk under.start.labels under.start.plan under.feds (steps_of r.line run) (Ask s why q next)) is walks_here) ends))))
+
+      own_of_calm : IsCalm (stands r.request).plan → r.place ≡ None → OwnThen
+      own_of_calm calm nowhere =
+          subst (λ place. LooksAtItsOwn place (at_operation labels (next a)))
+          (sym
+          (nowhere_course slot (run_on slot (next a) (answered_by slot r.extent before s o a))
+          (calm_place slot (next a) (answered_by slot r.extent before s o a) (calm_next s why o next a (stands r.request).plan asks calm) ∙ answered_place slot r.extent before s o a ∙ nowhere)))
+          tt
+
+      pub own_behind : OwnThen
+      own_behind = by (joins_a_line (profile under.begun.asked.command)) refl
+        where
+          by : (b : Bool) → joins_a_line (profile under.begun.asked.command) ≡ b → OwnThen
+          by true is = own_of_change (changes_are_no_reads under.begun.asked.command is)
+          by false is = own_of_calm (under.calm is).0.plan (under.calm is).1
+
+  -- at its look under the lock it is answered, and is past it
   module _ (site : SiteId) (image : ℕ) (waiting : WaitsForLook stands slot site image c.session) where
     same : waiting.request ≡ r
     same = same_Some waiting.request r (sym waiting.runs ∙ runs)
@@ -258,9 +371,12 @@ module _ {R : Type 0} (stands : R → Standing) (slot : ℕ) (c : ClientView R) 
         ∙ ap (λ o. is_newcomer_at (place_in (Some (record { site = site; image = image })) o)) waiting.found
         ∙ ap has_just_joined waiting.waits
 
-    looks_no_more : LooksNoMore (look.next a)
-    looks_no_more = by ((looks_once seat under.begun.asked.command under.start under.feds (steps_of r.line run) (Ask site look.why (op.Header look.image header.Get) look.next) under.plan
-        (reads_not stands seat who run r under _ place_is) walks_there a).0)
+    no_read : is_read under.begun.asked.command ≡ false
+    no_read = reads_not stands seat who run r under _ place_is
+
+    waits_no_more : HoldsNoMore (look.next a)
+    waits_no_more = by ((looks_once seat under.begun.asked.command under.start under.feds (steps_of r.line run) (Ask site look.why (op.Header look.image header.Get) look.next) under.plan
+        no_read walks_there a).0)
       where
         on : IsOnTrack slot r.extent true (stands r.request) (track_of r c.session.lines)
         on = sound.session.runs slot r runs
@@ -268,26 +384,71 @@ module _ {R : Type 0} (stands : R → Standing) (slot : ℕ) (c : ClientView R) 
         orderly : IsOrderly r.extent on.orderly.at true (course_of slot (track_of r c.session.lines)) (Ask site look.why (op.Header look.image header.Get) look.next)
         orderly = subst (IsOrderly r.extent on.orderly.at true (course_of slot (track_of r c.session.lines))) look.is on.orderly.orderly
 
-        by : Looked (look.next a) → LooksNoMore (look.next a)
-        by (IsLast none) = none
+        by : Looked (look.next a) → HoldsNoMore (look.next a)
+        by (IsLast holds) = holds
         by (Holds holds) =
             absurd
             (holds_no_more r.extent on.orderly.at (answered r.extent (course_of slot (track_of r c.session.lines)) site (op.Header look.image header.Get) a) (look.next a)
             (newcomer_behind r.extent (course_of slot (track_of r c.session.lines)) site (op.Header look.image header.Get) a waits_there)
             (orderly.1 a (subst (λ p. CanBeFed p (fed.Answer a)) look.is can)) holds)
 
-    pub behind_look : LooksNoMore (plan_after (stands r.request).plan (fed.Answer a))
-    behind_look = subst (λ p. LooksNoMore (plan_after p (fed.Answer a))) (sym look.is) looks_no_more
+    -- no piece of its waits for a lock
+    pieces_past : (t : SiteId) (i : ℕ) (h : HeaderView) (bits : List ℕ) (number : ℕ) → HoldsNoMore (labels (label.Piece t i h bits number))
+    pieces_past t i h bits number =
+        subst (λ ls. HoldsNoMore (ls (label.Piece t i h bits number))) (sym under.labels) (pieces_hold_no_more seat under.begun.asked.command under.start t i h bits number under.plan no_read)
+
+    pub past_look : LooksAtItsOwn (course_of slot before).place (stands r.request).plan → IsAsking (standing_behind (stands r.request).plan).plan → (steps : List Answered) → TookTheLock steps
+        → IsPastItsWay (standing_behind (stands r.request).plan) (place_behind (stands r.request).plan) steps
+    past_look own further steps took =
+        subst (λ p. IsPastItsWay (standing_behind p) (place_behind p) steps) (sym look.is)
+        (record {
+          took = took;
+          holds = holds_at_operation labels pieces_past (look.next a) waits_no_more;
+          pieces = pieces_past;
+          past = past_then site look.why (op.Header look.image header.Get) look.next look.is waits_no_more past_there;
+        })
+      where
+        further_there : IsAsking (at_operation labels (look.next a))
+        further_there = subst (λ p. IsAsking (at_operation labels (plan_after p (fed.Answer a)))) look.is further
+
+        ends_not : EndsIt a → ⊥
+        ends_not ends =
+            not_asking labels a
+            (subst (λ p. IsAsking (at_operation labels p))
+            (looks_refuse seat under.begun.asked.command under.start under.feds (steps_of r.line run) site look.why look.image look.next a under.plan no_read walks_there ends) further_there)
+
+        told : IsToldHeader a
+        told = told_header look.image a (subst (λ p. CanBeFed p (fed.Answer a)) look.is can) ends_not
+
+        past_there : awaits_its_look (answered r.extent (course_of slot before) site (op.Header look.image header.Get) a).place ≡ false
+        past_there =
+            subst (λ x. awaits_its_look (answered r.extent (course_of slot before) site (op.Header look.image header.Get) x).place ≡ false) (sym told.is)
+            (look_behind r.extent (course_of slot before) site look.why look.next look.image told.told (subst (LooksAtItsOwn (course_of slot before).place) look.is own))
 
   -- it goes on itself, and its slot's state with it
-  module _ (steps : List Answered) (keeps : AgreesWithWay (stands r.request).plan (slot_state slot c.slots).way steps) (acts : actor_at stands slot c ≡ actor.Request)
+  module _ (steps : List Answered) (own : LooksAtItsOwn (course_of slot before).place (stands r.request).plan)
+      (keeps : AgreesWithWay (stands r.request) (course_of slot before).place (slot_state slot c.slots).way steps) (acts : actor_at stands slot c ≡ actor.Request)
       (goes : OfRunning (λ q. waits slot (track_of q c.session.lines) ≡ false) (held_in slot c.session.slots))
-      (s : SiteId) (why : Reason) (o : Op) (next : Answer → Plan) (asks : (stands r.request).plan ≡ Ask s why o next) (labels : Label → Plan) where
-    abbrev left : Plan
-    left = at_operation labels (next a)
+      (s : SiteId) (why : Reason) (o : Op) (next : Answer → Plan) (asks : (stands r.request).plan ≡ Ask s why o next) (further : IsAsking (at_operation labels (next a))) where
+    abbrev left : Standing
+    left = standing_behind (Ask s why o next)
 
-    no_more_left : LooksNoMore (plan_after (stands r.request).plan (fed.Answer a)) → LooksNoMore left
-    no_more_left none = none_at_operation labels (next a) (subst (λ p. LooksNoMore (plan_after p (fed.Answer a))) asks none)
+    abbrev place_then : Option PlaceInLine
+    place_then = place_behind (Ask s why o next)
+
+    further_so : IsAsking (standing_behind (stands r.request).plan).plan
+    further_so = subst (λ p. IsAsking (standing_behind p).plan) (sym asks) further
+
+    past_on : IsPastItsWay (stands r.request) (course_of slot before).place steps → IsPastItsWay left place_then steps
+    past_on past = record {
+      took = past.took;
+      holds = holds_at_operation labels past.pieces (next a) holds_next;
+      pieces = past.pieces;
+      past = past_then s why o next asks holds_next (past_answered r.extent (course_of slot before) s why next o a past.past);
+    }
+      where
+        holds_next : HoldsNoMore (next a)
+        holds_next = (subst HoldsNoMore asks past.holds) a
 
     unbegun_stays : (b : Bool) (x : SlotState) → x.way ≡ way.Unbegun → (state_behind false b x).way ≡ way.Unbegun
     unbegun_stays true x is = refl
@@ -296,26 +457,27 @@ module _ {R : Type 0} (stands : R → Standing) (slot : ℕ) (c : ClientView R) 
     looked_is_over : (at : Option ImageAt) (p : ImageAt) (x : SlotState) → at ≡ Some p → (state_behind false (is_some at) x).way ≡ way.Unbegun
     looked_is_over at p x is = ap (λ l. (state_behind false (is_some l) x).way) is
 
-    pub goes_on_itself : AgreesWithWay left (state_behind false (is_some (look_under_lock_at stands slot c.session)) (slot_state slot c.slots)).way steps
+    pub goes_on_itself : AgreesWithWay left place_then (state_behind false (is_some (look_under_lock_at stands slot c.session)) (slot_state slot c.slots)).way steps
     goes_on_itself = by (slot_state slot c.slots).way refl keeps
       where
         look : Option ImageAt
         look = look_under_lock_at stands slot c.session
 
-        over : (state_behind false (is_some look) (slot_state slot c.slots)).way ≡ way.Unbegun → AgreesWithWay left way.Unbegun steps
-            → AgreesWithWay left (state_behind false (is_some look) (slot_state slot c.slots)).way steps
-        over is off = subst (λ w. AgreesWithWay left w steps) (sym is) off
+        over : (state_behind false (is_some look) (slot_state slot c.slots)).way ≡ way.Unbegun → AgreesWithWay left place_then way.Unbegun steps
+            → AgreesWithWay left place_then (state_behind false (is_some look) (slot_state slot c.slots)).way steps
+        over is off = subst (λ w. AgreesWithWay left place_then w steps) (sym is) off
 
-        by : (w : Way) → (slot_state slot c.slots).way ≡ w → AgreesWithWay (stands r.request).plan w steps → AgreesWithWay left (state_behind false (is_some look) (slot_state slot c.slots)).way steps
+        by : (w : Way) → (slot_state slot c.slots).way ≡ w → AgreesWithWay (stands r.request) (course_of slot before).place w steps
+            → AgreesWithWay left place_then (state_behind false (is_some look) (slot_state slot c.slots)).way steps
         by way.Unbegun is (inl none) = over (unbegun_stays (is_some look) (slot_state slot c.slots) is) (inl none)
-        by way.Unbegun is (inr (took, none)) =
-            over (unbegun_stays (is_some look) (slot_state slot c.slots) is)
-            (inr (took, none_at_operation labels (next a) ((subst LooksNoMore asks none).1 a)))
+        by way.Unbegun is (inr past) = over (unbegun_stays (is_some look) (slot_state slot c.slots) is) (inr (past_on past))
         by (way.On b) is there = absurd (not_on stands slot c sound r runs steps keeps acts b is)
         by (way.Taken p) is there =
             let waiting : WaitsForLook stands slot p.site p.image c.session = (subst (λ w. IsWellOnWay stands slot w c.session c.locks) is (sound.ways slot)).0 in
             over (looked_is_over look (record { site = p.site; image = p.image }) (slot_state slot c.slots) (stands_at_look stands slot p.site p.image c.session waiting goes))
-            (inr (record { site = p.site; image = p.image; way = there }, no_more_left (behind_look p.site p.image waiting)))
+            (inr
+            (subst (λ q. IsPastItsWay (standing_behind q) (place_behind q) steps) asks
+            (past_look p.site p.image waiting own further_so steps (record { site = p.site; image = p.image; way = there }))))
 
 -- ---- a release
 

@@ -1,7 +1,7 @@
 -- The order in which the writes of one instance change an image: of two, the one that found the
 -- image first writes each of its objects first. A write is here whatever changes an extent piece by
 -- piece: a `write`, a `fill` or a `discard`.
-use Rattle.std.specs.Prelude.{◌≡◌, ◌⊎◌, ℕ, ◌==◌, ◌&&◌, ◌||◌, not, Bool, true, false, List, [], ◌∷◌, Some, None, IsSome}
+use Rattle.std.specs.Prelude.{◌≡◌, ◌⊎◌, ℕ, ◌==◌, ◌&&◌, ◌||◌, not, Bool, true, false, List, [], ◌∷◌, Option, Some, None, IsSome}
 use Rattle.rbd_kinds.specs.declared.answer.Answer.{Answer}
 use Rattle.rbd_kinds.specs.declared.answer.Answer.TheVariants as answer
 use Rattle.rbd_kinds.specs.declared.data_op.DataOp.TheVariants as data_op
@@ -12,8 +12,9 @@ use Rattle.rbd_kinds.specs.declared.operation.Op.{Op}
 use Rattle.rbd_kinds.specs.declared.operation.Op.TheVariants as op
 use Rattle.rbd_queue.specs.Line.{ahead, is_member}
 use Rattle.rbd_machine.specs.Knowledge.{same_site}
-use Rattle.rbd_machine.specs.Plan.{Goto, Standing}
-use Rattle.rbd_catalog.specs.InLine.{ChangesInLine, KeepsTo}
+use Rattle.rbd_machine.specs.Label.{Label}
+use Rattle.rbd_machine.specs.Plan.{Standing}
+use Rattle.rbd_catalog.specs.InLine.{ChangesInLine, KeepsTo, LabelsKeepTo}
 use Rattle.rbd_catalog.specs.Profile.{changed_extent}
 use Rattle.rbd_slots.specs.declared.running.Running.{Running}
 use Rattle.rbd_slots.specs.Lines.{lines_of}
@@ -107,15 +108,17 @@ pub record IsBeforeFinding {R : Type 0} (stands : R → Standing) (home : SiteId
   pub place : r.place ≡ None
   pub unfound : (s : SiteId) (image : ℕ) → has_found r.line s image run ≡ false
 
--- The request has found its image and no other, and is in the line of that image.
+-- The request has found its image and no other, and is in the line of that image. It keeps to the
+-- line, however often it begins a piece again.
 pub record IsBehindFinding {R : Type 0} (stands : R → Standing) (run : List Happening) (r : Running R) : Type 0 where
   pub site : SiteId
   pub image : ℕ
   pub place : r.place ≡ Some (place_of_image site image)
   pub found : has_found r.line site image run ≡ true
   pub only : (s : SiteId) (i : ℕ) → has_found r.line s i run ≡ true → (s ≡ site) × (i ≡ image)
-  pub labels : (stands r.request).labels ≡ Goto
-  pub keeps : KeepsTo site image r.turn (stands r.request).plan
+  pub turn_at : Label → Option ℕ
+  pub keeps : KeepsTo site image turn_at r.turn (stands r.request).plan
+  pub labels : LabelsKeepTo site image turn_at (stands r.request).labels
 
 -- Of the writes in a line, the one that found the image earlier stands ahead. Where one that found
 -- it later has written an object, whether it has ended or not, the earlier one has no ticket for

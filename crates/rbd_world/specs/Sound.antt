@@ -22,6 +22,7 @@ use Rattle.rbd_kinds.specs.declared.reply.Reply.{Reply}
 use Rattle.rbd_knowledge.specs.Calm.{IsCalmRequest}
 use Rattle.rbd_catalog.specs.Profile.{joins_a_line, profile}
 use Rattle.rbd_knowledge.specs.Knowing.{AllKnow}
+use Rattle.rbd_machine.specs.Course.{PlaceInLine}
 use Rattle.rbd_machine.specs.Knowledge.{Knowledge, is_drawn, nothing_known}
 use Rattle.rbd_machine.specs.Path.{Answered, IsWalk}
 use Rattle.rbd_machine.specs.Permits.{Permits}
@@ -40,7 +41,10 @@ use Rattle.rbd_catalog.specs.Plans.{IsPlanFor}
 use Rattle.rbd_slots.specs.declared.running.Occupant.{Occupant}
 use Rattle.rbd_slots.specs.declared.running.Occupant.TheVariants as occupant
 use Rattle.rbd_slots.specs.declared.running.Running.{Running}
+use Rattle.rbd_slots.specs.Advance.{track_of}
+use Rattle.rbd_slots.specs.Lines.{LinesView}
 use Rattle.rbd_slots.specs.Session.{SessionView, held_in, is_look_at, kind_asked, running_at, script_line}
+use Rattle.rbd_slots.specs.Track.{course_of}
 use Rattle.rbd_site.specs.InForm.{AreInForm}
 use Rattle.rbd_site.specs.Records.{Records}
 use Rattle.rbd_site.specs.Step.{answer_to}
@@ -63,7 +67,7 @@ use Rattle.rbd_world.specs.Run.{Asked, Doer, Itself, OnWay, House, AfterStop, Ha
 use Rattle.rbd_world.specs.Seats.{seat_at, seat_of_home}
 use Rattle.rbd_world.specs.Step.{IsFresh, is_begun}
 use Rattle.rbd_world.specs.Watched.{CountsItsWatches, TakesBehindWatch}
-use Rattle.rbd_world.specs.Ways.{AsksNext, AgreesWithWay, IsNextOfRelease, IsOver, WasRefused}
+use Rattle.rbd_world.specs.Ways.{AsksNext, AgreesWithWay, IsNextOfRelease, IsOver, LooksAtItsOwn, WasRefused}
 use Rattle.rbd_world.specs.World.{LateView, LivesView, WorldView, client_in, late_at, lives_in, records_in, session_in, site_in}
 
 -- ---- a run that is right at every place
@@ -395,10 +399,18 @@ abbrev pub HasLearnedIf : {R : Type 0} → (stands : R → Standing) → List Ha
 HasLearnedIf stands run None k = Unit {0}
 HasLearnedIf stands run (Some r) k = HasLearned stands run r k
 
--- the state of a slot agrees with the operations on its request's way
-abbrev pub KeepsToItsWay : {R : Type 0} → (stands : R → Standing) → List Happening → Way → Option (Running R) → Type 0
-KeepsToItsWay stands run w None = Unit {0}
-KeepsToItsWay stands run w (Some r) = AgreesWithWay (stands r.request).plan w (way_of r.line run)
+-- where the request in a slot stands in its line
+abbrev pub place_of_request : {R : Type 0} → (slot : ℕ) → LinesView → Running R → Option PlaceInLine
+place_of_request slot lines r = (course_of slot (track_of r lines)).place
+
+-- The state of a slot agrees with the operations on its request's way; and where the request waits
+-- for its look under the lock, it looks at the header of its line's image first.
+abbrev pub KeepsToItsWay : {R : Type 0} → (stands : R → Standing) → List Happening → (slot : ℕ) → LinesView → Way
+    → Option (Running R) → Type 0
+KeepsToItsWay stands run slot lines w None = Unit {0}
+KeepsToItsWay stands run slot lines w (Some r) =
+    LooksAtItsOwn (place_of_request slot lines r) (stands r.request).plan
+    × AgreesWithWay (stands r.request) (place_of_request slot lines r) w (way_of r.line run)
 
 -- what holds of the client of a life that runs
 pub record IsLiving {R : Type 0} (stands : R → Standing) (home : SiteId) (session : ℕ) (run : List Happening)
@@ -410,7 +422,8 @@ pub record IsLiving {R : Type 0} (stands : R → Standing) (home : SiteId) (sess
   pub know : AllKnow stands knows c.session
   pub held : (slot : ℕ) → IsHeldRightly stands (seat_of_home session home) c.session.instance run
       (held_in slot c.session.slots)
-  pub ways : (slot : ℕ) → KeepsToItsWay stands run (slot_state slot c.slots).way (running_at slot c.session)
+  pub ways : (slot : ℕ)
+      → KeepsToItsWay stands run slot c.session.lines (slot_state slot c.slots).way (running_at slot c.session)
   pub learned : (slot : ℕ) → HasLearnedIf stands run (running_at slot c.session) (knows slot)
   pub releases : c.release ≡ release_of c.session.instance run
   pub watches : CountsItsWatches c.session.instance run c

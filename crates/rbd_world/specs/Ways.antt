@@ -1,22 +1,25 @@
 -- The operations of a line on its way to the lock of its image: they are a way as `rbd_lock` says,
 -- up to where the line stands.
-use Rattle.std.specs.Prelude.{◌≡◌, ◌⊎◌, ℕ, Bool, List, [], Option, Some, None}
+use Rattle.std.specs.Prelude.{◌≡◌, ◌⊎◌, ℕ, Bool, true, false, List, [], Option, Some, None}
 use Rattle.rbd_client.specs.declared.slot_state.Way.{Way}
 use Rattle.rbd_client.specs.declared.slot_state.Way.TheVariants as way
 use Rattle.rbd_kinds.specs.declared.answer.Answer.{Answer}
+use Rattle.rbd_kinds.specs.declared.header.HeaderView.{HeaderView}
 use Rattle.rbd_kinds.specs.declared.id.SiteId.{SiteId}
 use Rattle.rbd_kinds.specs.declared.machine.Fed.{Fed}
 use Rattle.rbd_kinds.specs.declared.operation.Op.{Op}
 use Rattle.rbd_kinds.specs.declared.reply.Reply.{Reply}
 use Rattle.rbd_kinds.specs.declared.reply.Reply.TheVariants as reply
+use Rattle.rbd_machine.specs.Course.{PlaceInLine, is_waiting}
+use Rattle.rbd_machine.specs.Label as label
 use Rattle.rbd_machine.specs.Path.{Answered}
-use Rattle.rbd_machine.specs.Plan.{Plan, Ask, Return}
+use Rattle.rbd_machine.specs.Plan.{Plan, Ask, Return, Standing}
 use Rattle.rbd_machine.specs.declared.reason.Reason.{Reason}
 use Rattle.rbd_lock.specs.Acquire.{IsWay, rest_of_acquire}
 use Rattle.rbd_lock.specs.Release.{release_op}
 use Rattle.rbd_lock.specs.Steps.{lock_drop, released_lock}
 use Rattle.rbd_lock.specs.declared.release.Release.{Release}
-use Rattle.rbd_catalog.specs.Looking.{LooksNoMore}
+use Rattle.rbd_catalog.specs.Looking.{HoldsNoMore, LooksAtItFirst}
 
 -- ---- operations that are a way
 
@@ -74,10 +77,30 @@ IsNextOfRelease (Some r) s o = (s ≡ r.site) × (o ≡ release_op r)
 
 -- ---- what the state of a slot says
 
+-- Where a request waits for its look under the lock, the header of the image in whose line it
+-- waits is the first that it looks at.
+abbrev pub LooksAtItsOwn : Option PlaceInLine → (left : Plan) → Type 0
+LooksAtItsOwn None left = Unit {0}
+LooksAtItsOwn (Some p) left = is_waiting p.stage ≡ true → LooksAtItFirst p.site p.image left
+
+-- whether it waits for its look under the lock
+abbrev pub awaits_its_look : Option PlaceInLine → Bool
+awaits_its_look None = false
+awaits_its_look (Some p) = is_waiting p.stage
+
+-- The operations took the lock, and the request is past its look under it: it waits for no lock any
+-- more, and so does no piece that it begins again.
+pub record IsPastItsWay (left : Standing) (place : Option PlaceInLine) (steps : List Answered) : Type 0 where
+  pub took : TookTheLock steps
+  pub holds : HoldsNoMore left.plan
+  pub pieces : (site : SiteId) (image : ℕ) (h : HeaderView) (bits : List ℕ) (number : ℕ)
+      → HoldsNoMore (left.labels (label.Piece site image h bits number))
+  pub past : awaits_its_look place ≡ false
+
 -- A request that has begun no way has done nothing on one, unless its way is over and it is past
 -- its look under the lock. Where one is on its way its operations lead to where it stands, and
 -- where it has taken the lock they lead to the way's end.
-abbrev pub AgreesWithWay : (left : Plan) → Way → (steps : List Answered) → Type 0
-AgreesWithWay left way.Unbegun steps = (steps ≡ []) ⊎ (TookTheLock steps × LooksNoMore left)
-AgreesWithWay left (way.On a) steps = IsWayThere a.site a.image steps (rest_of_acquire a (Return reply.Done))
-AgreesWithWay left (way.Taken p) steps = IsWayThere p.site p.image steps (Return reply.Done)
+abbrev pub AgreesWithWay : (left : Standing) → Option PlaceInLine → Way → (steps : List Answered) → Type 0
+AgreesWithWay left place way.Unbegun steps = (steps ≡ []) ⊎ IsPastItsWay left place steps
+AgreesWithWay left place (way.On a) steps = IsWayThere a.site a.image steps (rest_of_acquire a (Return reply.Done))
+AgreesWithWay left place (way.Taken p) steps = IsWayThere p.site p.image steps (Return reply.Done)
