@@ -16,11 +16,11 @@ returns-in-Err c =
     let a = c.args.answer.now in
     let x = c.in-Err.refusal in
     elim c.match-self.branch [
-      in-Asking w ↦ subst (λ s. plan_after (rest_at s old) (fed.Answer a) ≡ refused x) (sym w.in-Asking.is)
-        (subst (λ (r : RemoveRequest). (next : Plan) → on_watchers r.session next a ≡ refused x) w.self-is c.in-Err.ensures (rest_of_way old))
-    | in-AskingAgain w ↦
-        subst (λ s. plan_after (rest_at s old) (fed.Answer a) ≡ refused x) (sym w.in-AskingAgain.is)
-        (ends_watched old.site old.session w.in-AskingAgain.field-0 old.removal a x
-        (subst (λ s. CanBeFed (rest_at s old) (fed.Answer a)) w.in-AskingAgain.is c.requires.can)
-        (subst (λ (r : RemoveRequest). (next : Plan) → on_watchers r.session next a ≡ refused x) w.self-is c.in-Err.ensures))
+      | in-Asking w ↦ subst (λ s. plan_after (rest_at s old) (fed.Answer a) ≡ refused x) (sym w.in-Asking.is)
+          (subst (λ (r : RemoveRequest). (next : Plan) → on_watchers r.session next a ≡ refused x) w.self-is c.in-Err.ensures (rest_of_way old))
+      | in-AskingAgain w ↦
+          subst (λ s. plan_after (rest_at s old) (fed.Answer a) ≡ refused x) (sym w.in-AskingAgain.is)
+          (ends_watched old.site old.session w.in-AskingAgain.field-0 old.removal a x
+          (subst (λ s. CanBeFed (rest_at s old) (fed.Answer a)) w.in-AskingAgain.is c.requires.can)
+          (subst (λ (r : RemoveRequest). (next : Plan) → on_watchers r.session next a ≡ refused x) w.self-is c.in-Err.ensures))
     ]
