@@ -11,6 +11,7 @@ use Rattle.rbd_machine.specs.Answers.{CanGive}
 use Rattle.rbd_machine.specs.Steps.{TellsDone, TellsBits}
 use Rattle.rbd_image.specs.Create.{TellsDrawn}
 use Rattle.rbd_image.specs.Listing.{TellsNames, TellsRenamed}
+use Rattle.rbd_image.specs.Remove.{TellsWatchers}
 use Rattle.std.proofs.Common.{ℕ, None}
 
 pub draw_tells : (name : List ℕ) (a : Answer) → CanGive (op.Directory (directory.Add name)) a → TellsDrawn a
@@ -47,3 +48,9 @@ states_tell image (answer.Bits bits) can = tt
 states_tell image answer.Absent can = tt
 states_tell image answer.Fenced can = tt
 states_tell image _ can = let no = can.word in cc
+
+pub watchers_tell : (image : ℕ) (a : Answer) → CanGive (op.Header image header.WatchersGet) a → TellsWatchers a
+watchers_tell image (answer.Instances watchers) can = tt
+watchers_tell image answer.Absent can = tt
+watchers_tell image answer.Fenced can = tt
+watchers_tell image _ can = let no = can.word in cc

@@ -13,9 +13,8 @@ use Rattle.rbd_kinds.specs.declared.map_op.MapOp.TheVariants as states
 use Rattle.rbd_kinds.specs.declared.operation.Op.{Op}
 use Rattle.rbd_kinds.specs.declared.operation.Op.TheVariants as op
 use Rattle.rbd_kinds.specs.declared.reply.Reply.TheVariants as reply
-use Rattle.rbd_machine.specs.Plan.{Plan, Await, Return}
-use Rattle.rbd_machine.specs.Steps.{EndsIt, find, holding, look, not_there, on_bits, own, refused, unless}
-use Rattle.rbd_machine.specs.Wait as wait
+use Rattle.rbd_machine.specs.Plan.{Plan, Return}
+use Rattle.rbd_machine.specs.Steps.{EndsIt, holding, joining_between, looked_between, looking_between, not_there, on_bits, own, refused, unless, way_between}
 use Rattle.rbd_meaning.specs.Removals.{image_removal_refuses, may_be_gone, removal, watchers_refuse}
 
 -- the commands that it serves
@@ -64,16 +63,19 @@ holding_it site session image = holding site image_removal_refuses (remove_owned
 -- behind its first look
 abbrev pub looked_at_it : SiteId → (session : ℕ) → (image : ℕ) → HeaderView → Plan
 looked_at_it site session image h =
-    unless (image_removal_refuses h) (unless_watched site session image (holding_it site session image))
+    looked_between site image_removal_refuses (unless_watched site session) (remove_owned site session) image h
 
 abbrev pub looking_at_it : SiteId → (session : ℕ) → (image : ℕ) → Plan
-looking_at_it site session image = look site image (looked_at_it site session image)
+looking_at_it site session image =
+    looking_between site image_removal_refuses (unless_watched site session) (remove_owned site session) image
 
 abbrev pub joining_its_line : SiteId → (session : ℕ) → (image : ℕ) → Plan
-joining_its_line site session image = Await (wait.Join site image sharing.Alone) (looking_at_it site session image)
+joining_its_line site session image = joining_between site sharing.Alone image_removal_refuses
+    (unless_watched site session) (remove_owned site session) image
 
 abbrev pub remove_image : SiteId → (session : ℕ) → (name : List ℕ) → Plan
-remove_image site session name = find site name (joining_its_line site session)
+remove_image site session name = way_between site name sharing.Alone image_removal_refuses
+    (unless_watched site session) (remove_owned site session)
 
 abbrev pub remove_plan : SiteId → (session : ℕ) → Command → Plan
 remove_plan site session (command.Remove image) = remove_image site session image

@@ -1,45 +1,34 @@
 //! The request of an `rm`.
-ghost use Rattle.std.specs.Prelude.{◌≡◌, true, Option, None, IfErr, IfOk, OnOk};
+ghost use Rattle.std.specs.Prelude.{◌≡◌, true, OnOk};
 ghost use Rattle.rbd_kinds.specs.declared.machine.Fed.TheVariants as fed_with;
 ghost use Rattle.rbd_machine.specs.Answers.{CanBeFed};
-ghost use Rattle.rbd_machine.specs.Plan.{GoesOn, Goto, Plan, plan_after, without_labels};
-ghost use Rattle.rbd_machine.specs.Steps.{on_header, refused, unless, TellsHeader};
+ghost use Rattle.rbd_machine.specs.Plan.{GoesOn, Goto, plan_after, without_labels};
+ghost use Rattle.rbd_machine.specs.Ready.{IsReadyFor};
 ghost use Rattle.rbd_meaning.specs.Removals.{image_removal_refuses, snaps_refuse};
 ghost use Rattle.rbd_image.specs.Remove.{is_remove, remove_plan};
 ghost use Rattle.rbd_image.specs.RemovalRequest as of_request;
 ghost use Rattle.rbd_image.specs.RemovalRequest.{rest_of_request};
-ghost use Rattle.rbd_image.specs.declared.remove.Remove.{Remove};
 ghost use Rattle.rbd_image.specs.declared.remove_request.Stage.TheVariants as at;
-ghost use Rattle.rbd_kinds.specs.declared.id.SiteId.{SiteId};
-ghost use Rattle.rbd_kinds.specs.declared.header.HeaderView.{HeaderView};
 
 use crate::remove::Remove;
 use crate::watchers::{told_watchers, watchers_get};
 use rbd_kinds::{
-    Answer, Command, Fed, Flow, HeaderView, ImageId, Name, NoMemory, Op, OpKind, Refusal, Reply,
+    Answer, Command, Fed, Flow, HeaderView, ImageId, NoMemory, Op, OpKind, Refusal, Reply,
     SessionNo, Sharing, SiteId, Snaps, Want,
 };
-use rbd_machine::{
-    Machine, Progress, Reason, dir_find, header_get, non_primary, told_header, told_image,
-};
+use rbd_machine::{Approach, Machine, Progress, Reached, Reason, Refuses, non_primary};
 use std::alloc::Global;
 
 /// Removes an image that has no snapshots, and that no other session uses (Ceph: `rbd rm` refuses
 /// an image with snapshots, and one that has watchers; when it asks for these is own).
 ///
 /// ```text
-/// Finding       dir-find       ──none──▶ NoImage
-///    │ id
-/// Joining       the line of the image's requests, alone
-///    │
-/// Looking       header-get     ──none──▶ NoImage, or NonPrimary, HasSnaps
-///    │ header
+/// Approaching   to its first look, alone in the image's line   (see `Approach`)
+///    │             refused: NonPrimary, HasSnaps
 /// Asking        watchers-get   ──none──▶ NoImage, or InUse
 ///    │ instances
-/// Holding       the lock
-///    │
-/// UnderLock     header-get     ──none──▶ NoImage, or NonPrimary, HasSnaps
-///    │ header
+/// Approaching   to its look under the lock
+///    │             refused: NonPrimary, HasSnaps
 /// AskingAgain   watchers-get   ──none──▶ NoImage, or InUse
 ///    │ instances
 /// Removing      as a `Remove` by the header of its look under the lock
@@ -53,22 +42,46 @@ use std::alloc::Global;
 pub struct RemoveRequest {
     site: SiteId,
     session: SessionNo,
+    way: Approach,
     stage: Stage,
     /// The removal by its look under the lock, once there is memory for it.
     removal: Option<Remove>,
 }
 
-/// A stage of the request, with the image once it is found.
+/// A stage of the request, with the image whose watchers it asks for.
 #[derive(Drop)]
 enum Stage {
-    Finding(Name),
-    Joining(ImageId),
-    Looking(ImageId),
+    Approaching,
     Asking(ImageId),
-    Holding(ImageId),
-    UnderLock(ImageId),
     AskingAgain(ImageId),
     Removing,
+}
+
+/// What a removal refuses: NonPrimary at a secondary, which clients don't change, and then HasSnaps
+/// where a snapshot is listed.
+#[derive(Clone, Copy, PartialEq, Eq)]
+struct Unlisted {}
+
+impl Refuses for Unlisted {
+    ghost refuses = { λ rule. image_removal_refuses };
+
+    fn refusal(&self, header: &HeaderView) -> Option<Refusal> {
+        match non_primary(header.role) {
+            Some(refusal) => Some(refusal),
+            None => snaps_refusal(&header.snaps),
+        }
+    }
+}
+
+/// HasSnaps where a snapshot is listed.
+fn snaps_refusal(snaps: &Snaps) -> Option<Refusal>
+    ensures { result ≡ snaps_refuse snaps.now }
+{
+    if snaps.is_empty() {
+        None
+    } else {
+        Some(Refusal::HasSnaps)
+    }
 }
 
 impl RemoveRequest {
@@ -81,36 +94,29 @@ impl RemoveRequest {
             Command::Remove { image } => RemoveRequest {
                 site: home,
                 session,
-                stage: Stage::Finding(image.into_name()),
+                way: Approach::new(home, image.into_name(), Sharing::Alone),
+                stage: Stage::Approaching,
                 removal: None,
             },
             _ => unreachable!(),
         }
     }
 
-    /// The image, where it is at its look under the lock.
-    fn under_lock(&self) -> Option<ImageId>
-        ensures { result ≡ of_request.under_lock_at self.now.stage }
+    /// Takes the memory for its look under the lock: there its removal is made, unless the header
+    /// refuses it.
+    fn ready_look(&mut self, alloc: Global, answer: &Answer) -> Result<(), NoMemory>
+        requires at { self.old.stage ≡ at.Approaching }
+        ensures rest { rest_of_request self.new ≡ rest_of_request self.old }
+        ensures ready { OnOk result (of_request.IsReadyToGo self.new answer.now) }
     {
-        match &self.stage {
-            Stage::UnderLock(image) => Some(*image),
-            _ => None,
-        }
-    }
-
-    /// Takes the memory for the removal of an image by a header, unless that refuses it.
-    fn ready_by(
-        &mut self,
-        alloc: Global,
-        image: ImageId,
-        header: &HeaderView,
-    ) -> Result<(), NoMemory>
-        ensures stage { self.new.stage ≡ self.old.stage }
-        ensures place { (self.new.site ≡ self.old.site) × (self.new.session ≡ self.old.session) }
-        ensures ready { OnOk result (image_removal_refuses header.now ≡ None
-            → of_request.IsRemovalBy self.old.site image header.now self.new.removal) }
-    {
-        if refusal_by(header).is_some() {
+        let Some(image) = self.way.under_lock() else {
+            return Ok(());
+        };
+        let Answer::Header(header) = answer else {
+            return Ok(());
+        };
+        let rule = Unlisted {};
+        if rule.refusal(header).is_some() {
             return Ok(());
         }
         self.removal = Some(Remove::new(alloc, self.site, image, header)?);
@@ -119,9 +125,9 @@ impl RemoveRequest {
 
     /// Takes the memory that its removal needs for an answer.
     fn ready_removal(&mut self, alloc: Global, answer: &Answer) -> Result<(), NoMemory>
-        ensures stage { self.new.stage ≡ self.old.stage }
+        requires at { self.old.stage ≡ at.Removing }
         ensures rest { rest_of_request self.new ≡ rest_of_request self.old }
-        ensures ready { OnOk result (of_request.IsReadyIn self.new.removal answer.now) }
+        ensures ready { OnOk result (of_request.IsReadyToGo self.new answer.now) }
     {
         match &mut self.removal {
             Some(removal) => removal.ready(alloc, answer),
@@ -129,16 +135,44 @@ impl RemoveRequest {
         }
     }
 
-    /// Goes on with the answer to an operation before it removes anything.
-    fn answer(&mut self, answer: &Answer) -> Flow
-        requires tells { of_request.TellsAt self.old.stage answer.now }
+    /// Goes on with its way, and asks who watches behind each of its two looks.
+    #[tactic(auto, using(crate::proofs::RemovalStages::goes_to_ask))]
+    fn approach(&mut self, fed: &Fed) -> Flow
+        requires at { self.old.stage ≡ at.Approaching }
+        requires can { CanBeFed (rest_of_request self.old) fed.now }
+        requires ready { IsReadyFor (of_request.IsReadyToGo self.old) fed.now }
+        ensures { GoesOn Goto (plan_after (rest_of_request self.old) fed.now) result
+            (without_labels (rest_of_request self.new)) }
+    {
+        match self.way.step(&Unlisted {}, fed) {
+            Reached::More => Flow::More,
+            Reached::FirstLook(image) => {
+                self.stage = Stage::Asking(image);
+                Flow::More
+            }
+            Reached::UnderLock(image) => {
+                self.stage = Stage::AskingAgain(image);
+                Flow::More
+            }
+            Reached::Refused(refusal) => Flow::Done(Reply::Refused(refusal)),
+        }
+    }
+
+    /// Goes on behind the answer that tells who watches: with its way, or with its removal.
+    #[tactic(auto, using(crate::proofs::Tells::watchers_tell, crate::proofs::RemovalStages::goes_on_its_way, crate::proofs::RemovalStages::goes_to_remove))]
+    fn asked(&mut self, answer: &Answer) -> Flow
+        requires at { of_request.IsAskingWho self.old.stage }
         requires can { CanBeFed (rest_of_request self.old) (fed_with.Answer answer.now) }
-        requires ready { of_request.IsReadyToGo self.old answer.now }
         ensures { GoesOn Goto (plan_after (rest_of_request self.old) (fed_with.Answer answer.now)) result
             (without_labels (rest_of_request self.new)) }
     {
-        match self.stage.behind(self.session, answer) {
-            Ok(behind) => {
+        let behind = match &self.stage {
+            Stage::Asking(_) => Stage::Approaching,
+            Stage::AskingAgain(_) => Stage::Removing,
+            _ => unreachable!(),
+        };
+        match told_watchers(self.session, answer) {
+            Ok(()) => {
                 self.stage = behind;
                 Flow::More
             }
@@ -165,78 +199,6 @@ impl RemoveRequest {
     }
 }
 
-impl Stage {
-    /// The stage behind the answer to its operation, before anything is removed, or why the request
-    /// ends.
-    fn behind(&self, session: SessionNo, answer: &Answer) -> Result<Stage, Refusal>
-        requires { of_request.TellsAt self.now answer.now }
-        ensures { (site : SiteId) (removal : Option Remove)
-            → CanBeFed (of_request.rest_at self.now site session removal) (fed_with.Answer answer.now)
-            → of_request.IsReadyAt self.now site removal answer.now
-            → of_request.LeadsTo
-            (plan_after (of_request.rest_at self.now site session removal) (fed_with.Answer answer.now))
-            result site session removal }
-    {
-        match self {
-            Stage::Finding(_) => Ok(Stage::Joining(told_image(answer)?)),
-            Stage::Joining(_) => unreachable!(),
-            Stage::Looking(image) => {
-                told_removable(answer)?;
-                Ok(Stage::Asking(*image))
-            }
-            Stage::Asking(image) => {
-                told_watchers(session, answer)?;
-                Ok(Stage::Holding(*image))
-            }
-            Stage::Holding(_) => unreachable!(),
-            Stage::UnderLock(image) => {
-                told_removable(answer)?;
-                Ok(Stage::AskingAgain(*image))
-            }
-            Stage::AskingAgain(_) => {
-                told_watchers(session, answer)?;
-                Ok(Stage::Removing)
-            }
-            Stage::Removing => unreachable!(),
-        }
-    }
-}
-
-/// That a header doesn't refuse a removal, or why the request ends: it does, or Fenced, or NoImage.
-fn told_removable(answer: &Answer) -> Result<(), Refusal>
-    requires { TellsHeader answer.now }
-    ensures ok { IfOk result (λ may. of_request.TellsRemovable answer.now) }
-    ensures err { IfErr result (λ x. (next : HeaderView → Plan)
-        → on_header (λ h. unless (image_removal_refuses h) (next h)) answer.now ≡ refused x) }
-{
-    match refusal_by(told_header(answer)?) {
-        None => Ok(()),
-        Some(refusal) => Err(refusal),
-    }
-}
-
-/// Why an image of this header isn't removed: NonPrimary at a secondary, which clients don't
-/// change, and then HasSnaps where a snapshot is listed.
-fn refusal_by(header: &HeaderView) -> Option<Refusal>
-    ensures { result ≡ image_removal_refuses header.now }
-{
-    match non_primary(header.role) {
-        Some(refusal) => Some(refusal),
-        None => snaps_refusal(&header.snaps),
-    }
-}
-
-/// HasSnaps where a snapshot is listed.
-fn snaps_refusal(snaps: &Snaps) -> Option<Refusal>
-    ensures { result ≡ snaps_refuse snaps.now }
-{
-    if snaps.is_empty() {
-        None
-    } else {
-        Some(Refusal::HasSnaps)
-    }
-}
-
 impl Machine for RemoveRequest {
     ghost stands = { λ r. without_labels (rest_of_request r) };
 
@@ -244,42 +206,23 @@ impl Machine for RemoveRequest {
 
     fn wants(&self) -> Want {
         let site = self.site;
-        let kind = match &self.stage {
-            Stage::Finding(_) => OpKind::DirFind,
-            Stage::Joining(image) => {
-                return Want::Join {
-                    site,
-                    image: *image,
-                    sharing: Sharing::Alone,
-                };
-            }
-            Stage::Looking(_) => OpKind::HeaderGet,
-            Stage::Asking(_) => OpKind::WatchersGet,
-            Stage::Holding(image) => {
-                return Want::Hold {
-                    site,
-                    image: *image,
-                };
-            }
-            Stage::UnderLock(_) => OpKind::HeaderGet,
-            Stage::AskingAgain(_) => OpKind::WatchersGet,
+        match &self.stage {
+            Stage::Approaching => self.way.wants(),
+            Stage::Asking(_) | Stage::AskingAgain(_) => Want::Op {
+                site,
+                kind: OpKind::WatchersGet,
+            },
             Stage::Removing => match &self.removal {
-                Some(removal) => return removal.wants(),
+                Some(removal) => removal.wants(),
                 None => unreachable!(),
             },
-        };
-        Want::Op { site, kind }
+        }
     }
 
     fn next(&self, alloc: Global) -> Result<Op, NoMemory> {
         match &self.stage {
-            Stage::Finding(name) => dir_find(name),
-            Stage::Joining(_) => unreachable!(),
-            Stage::Looking(image) => Ok(header_get(*image)),
-            Stage::Asking(image) => Ok(watchers_get(*image)),
-            Stage::Holding(_) => unreachable!(),
-            Stage::UnderLock(image) => Ok(header_get(*image)),
-            Stage::AskingAgain(image) => Ok(watchers_get(*image)),
+            Stage::Approaching => self.way.next(),
+            Stage::Asking(image) | Stage::AskingAgain(image) => Ok(watchers_get(*image)),
             Stage::Removing => match &self.removal {
                 Some(removal) => removal.next(alloc),
                 None => unreachable!(),
@@ -295,36 +238,27 @@ impl Machine for RemoveRequest {
         let Fed::Answer(answer) = fed else {
             return Ok(());
         };
-        let Some(image) = self.under_lock() else {
-            return self.ready_removal(alloc, answer);
-        };
-        let Answer::Header(header) = answer else {
-            return Ok(());
-        };
-        self.ready_by(alloc, image, header)
+        match &self.stage {
+            Stage::Approaching => self.ready_look(alloc, answer),
+            Stage::Removing => self.ready_removal(alloc, answer),
+            _ => Ok(()),
+        }
     }
 
     fn feed(&mut self, fed: &Fed) -> Flow {
         match &self.stage {
-            Stage::Joining(image) => {
-                self.stage = Stage::Looking(*image);
-                Flow::More
-            }
-            Stage::Holding(image) => {
-                self.stage = Stage::UnderLock(*image);
-                Flow::More
+            Stage::Approaching => self.approach(fed),
+            Stage::Asking(_) | Stage::AskingAgain(_) => {
+                let Fed::Answer(answer) = fed else {
+                    unreachable!()
+                };
+                self.asked(answer)
             }
             Stage::Removing => {
                 let Fed::Answer(answer) = fed else {
                     unreachable!()
                 };
                 self.remove(answer)
-            }
-            _ => {
-                let Fed::Answer(answer) = fed else {
-                    unreachable!()
-                };
-                self.answer(answer)
             }
         }
     }

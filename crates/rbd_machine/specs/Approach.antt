@@ -9,24 +9,33 @@ use Rattle.rbd_kinds.specs.declared.machine.Fed.TheVariants as fed
 use Rattle.rbd_kinds.specs.declared.operation.Op.TheVariants as op
 use Rattle.rbd_commands.specs.declared.refusal.Refusal.{Refusal}
 use Rattle.rbd_machine.specs.Answers.{CanGive}
-use Rattle.rbd_machine.specs.Plan.{Plan}
-use Rattle.rbd_machine.specs.Steps.{IsGoing, refused, change_plan, joining, looking, holding, under_lock}
+use Rattle.rbd_machine.specs.Plan.{IsLive, Plan}
+use Rattle.rbd_machine.specs.Steps.{IsGoing, refused, holding, joining_between, looking_between, nothing_between, under_lock, way_between}
 use Rattle.rbd_machine.specs.declared.approach.Approach.{Approach}
+use Rattle.rbd_machine.specs.declared.approach.Reached.{Reached}
+use Rattle.rbd_machine.specs.declared.approach.Reached.TheVariants as reached
 use Rattle.rbd_machine.specs.declared.approach.Stage.{Stage}
 use Rattle.rbd_machine.specs.declared.approach.Stage.TheVariants as stage
 use Rattle.rbd_machine.specs.declared.progress.Progress.{Progress}
 use Rattle.rbd_machine.specs.declared.progress.Progress.TheVariants as progress
 
--- what is left of the way to the look under the lock, with what the change does then
-abbrev pub rest_from : Stage → Approach → (HeaderView → Option Refusal) → (act : ℕ → HeaderView → Plan) → Plan
-rest_from stage.Finding a refuses act = change_plan a.site a.name a.sharing refuses act
-rest_from (stage.Joining image) a refuses act = joining a.site a.sharing refuses act image
-rest_from (stage.Looking image) a refuses act = looking a.site refuses act image
-rest_from (stage.Holding image) a refuses act = holding a.site refuses act image
-rest_from (stage.UnderLock image) a refuses act = under_lock a.site refuses act image
+-- what is left of the way to the look under the lock, by what comes between its two looks, and what
+-- the change does then
+abbrev pub rest_from : Stage → Approach → (HeaderView → Option Refusal) → (between : ℕ → Plan → Plan)
+    → (act : ℕ → HeaderView → Plan) → Plan
+rest_from stage.Finding a refuses between act = way_between a.site a.name a.sharing refuses between act
+rest_from (stage.Joining image) a refuses between act = joining_between a.site a.sharing refuses between act image
+rest_from (stage.Looking image) a refuses between act = looking_between a.site refuses between act image
+rest_from (stage.Holding image) a refuses between act = holding a.site refuses act image
+rest_from (stage.UnderLock image) a refuses between act = under_lock a.site refuses act image
 
+abbrev pub rest_between : Approach → (HeaderView → Option Refusal) → (between : ℕ → Plan → Plan)
+    → (act : ℕ → HeaderView → Plan) → Plan
+rest_between a refuses between act = rest_from a.stage a refuses between act
+
+-- the same, where nothing comes between
 abbrev pub rest_of : Approach → (HeaderView → Option Refusal) → (act : ℕ → HeaderView → Plan) → Plan
-rest_of a refuses act = rest_from a.stage a refuses act
+rest_of a refuses act = rest_between a refuses nothing_between act
 
 -- the change wants an operation at this stage
 abbrev pub IsAskingAt : Stage → Type 0
@@ -56,7 +65,21 @@ abbrev pub OwnedBy : (HeaderView → Option Refusal) → (act : ℕ → HeaderVi
 OwnedBy refuses act image (fed.Answer (answer.Header h)) to old = IsAllowedUnderLock refuses act image h to old
 OwnedBy refuses act image _ to old = ⊥
 
--- The change went on, or has ended, or may do what it does.
+-- It is behind its first look: what comes between is next, and then the rest of its way.
+pub record IsBetween (between : ℕ → Plan → Plan) (image : ℕ) (to left : Plan) : Type 0 where
+  pub live : IsLive left
+  pub is : between image left ≡ to
+
+-- The change went on, or is behind its first look, or may do what it does, or has ended.
+abbrev pub Reaches : (HeaderView → Option Refusal) → (between : ℕ → Plan → Plan) → (act : ℕ → HeaderView → Plan) → Fed
+    → (to : Plan) → Reached → (old new : Approach) → Type 0
+Reaches refuses between act f to reached.More old new = IsGoing to (rest_between new refuses between act)
+Reaches refuses between act f to (reached.FirstLook image) old new =
+    IsBetween between image to (rest_between new refuses between act)
+Reaches refuses between act f to (reached.UnderLock image) old new = OwnedBy refuses act image f to old
+Reaches refuses between act f to (reached.Refused r) old new = to ≡ refused r
+
+-- The same, where nothing comes between.
 abbrev pub Approaches : (HeaderView → Option Refusal) → (act : ℕ → HeaderView → Plan) → Fed → (to : Plan) → Progress ℕ
     → (old new : Approach) → Type 0
 Approaches refuses act f to progress.More old new = IsGoing to (rest_of new refuses act)

@@ -98,7 +98,8 @@ look site image next = own site (op.Header image header.Get) (on_header next)
 --
 -- It finds its image and joins the line of the image's requests, looks at the header, and waits for
 -- the lock. Then it looks again, since the header may have changed meanwhile, and what it sees now
--- can't change as long as the lock is its client's. Its refusals are tested at both looks.
+-- can't change as long as the lock is its client's. Its refusals are tested at both looks. Between the
+-- two it may ask for more, as an `rm` does for the watchers.
 
 abbrev pub owned : (HeaderView → Option Refusal) → (act : ℕ → HeaderView → Plan) → (image : ℕ) → HeaderView → Plan
 owned refuses act image h = unless (refuses h) (act image h)
@@ -109,20 +110,43 @@ under_lock site refuses act image = look site image (owned refuses act image)
 abbrev pub holding : SiteId → (HeaderView → Option Refusal) → (act : ℕ → HeaderView → Plan) → (image : ℕ) → Plan
 holding site refuses act image = Await (wait.Hold site image) (under_lock site refuses act image)
 
+-- what a request does behind its first look, before it waits for the lock: most do nothing there
+abbrev pub nothing_between : (image : ℕ) → (waiting : Plan) → Plan
+nothing_between image waiting = waiting
+
+abbrev pub looked_between : SiteId → (HeaderView → Option Refusal) → (between : ℕ → Plan → Plan)
+    → (act : ℕ → HeaderView → Plan) → (image : ℕ) → HeaderView → Plan
+looked_between site refuses between act image h = unless (refuses h) (between image (holding site refuses act image))
+
+abbrev pub looking_between : SiteId → (HeaderView → Option Refusal) → (between : ℕ → Plan → Plan)
+    → (act : ℕ → HeaderView → Plan) → (image : ℕ) → Plan
+looking_between site refuses between act image = look site image (looked_between site refuses between act image)
+
+abbrev pub joining_between : SiteId → Sharing → (HeaderView → Option Refusal) → (between : ℕ → Plan → Plan)
+    → (act : ℕ → HeaderView → Plan) → (image : ℕ) → Plan
+joining_between site sharing refuses between act image =
+    Await (wait.Join site image sharing) (looking_between site refuses between act image)
+
+-- the whole way, with what comes between its two looks
+abbrev pub way_between : SiteId → (name : List ℕ) → Sharing → (HeaderView → Option Refusal)
+    → (between : ℕ → Plan → Plan) → (act : ℕ → HeaderView → Plan) → Plan
+way_between site name sharing refuses between act =
+    find site name (joining_between site sharing refuses between act)
+
 abbrev pub looked : SiteId → (HeaderView → Option Refusal) → (act : ℕ → HeaderView → Plan) → (image : ℕ)
     → HeaderView → Plan
-looked site refuses act image h = unless (refuses h) (holding site refuses act image)
+looked site refuses act image h = looked_between site refuses nothing_between act image h
 
 abbrev pub looking : SiteId → (HeaderView → Option Refusal) → (act : ℕ → HeaderView → Plan) → (image : ℕ) → Plan
-looking site refuses act image = look site image (looked site refuses act image)
+looking site refuses act image = looking_between site refuses nothing_between act image
 
 abbrev pub joining : SiteId → Sharing → (HeaderView → Option Refusal) → (act : ℕ → HeaderView → Plan)
     → (image : ℕ) → Plan
-joining site sharing refuses act image = Await (wait.Join site image sharing) (looking site refuses act image)
+joining site sharing refuses act image = joining_between site sharing refuses nothing_between act image
 
 abbrev pub change_plan : SiteId → (name : List ℕ) → Sharing → (HeaderView → Option Refusal)
     → (act : ℕ → HeaderView → Plan) → Plan
-change_plan site name sharing refuses act = find site name (joining site sharing refuses act)
+change_plan site name sharing refuses act = way_between site name sharing refuses nothing_between act
 
 -- ---- refusals
 

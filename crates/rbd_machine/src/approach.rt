@@ -4,8 +4,8 @@ ghost use Rattle.rbd_kinds.specs.declared.header.HeaderView.{HeaderView};
 ghost use Rattle.rbd_kinds.specs.declared.machine.Fed.TheVariants as fed_with;
 ghost use Rattle.rbd_commands.specs.declared.refusal.Refusal.{Refusal};
 ghost use Rattle.rbd_machine.specs.Plan.{Plan, Wants, Asks, plan_after};
-ghost use Rattle.rbd_machine.specs.Steps.{change_plan};
-ghost use Rattle.rbd_machine.specs.Approach.{rest_of, Approaches, under_lock_at, IsAskingAt, CanBeFedAt};
+ghost use Rattle.rbd_machine.specs.Steps.{way_between};
+ghost use Rattle.rbd_machine.specs.Approach.{rest_between, rest_of, Approaches, Reaches, under_lock_at, IsAskingAt, CanBeFedAt};
 
 use crate::looks::{dir_find, header_get};
 use crate::progress::Progress;
@@ -32,6 +32,8 @@ pub trait Refuses {
 ///    │
 /// Looking   header-get   ──none──▶ NoImage, or a refusal by this header
 ///    │ header
+///    ┊ (here an `rm` asks who watches; nobody else does anything)
+///    ▼
 /// Holding   the lock
 ///    │
 /// UnderLock header-get   ──none──▶ NoImage, or a refusal by this header
@@ -59,12 +61,26 @@ pub enum Stage {
     UnderLock(ImageId),
 }
 
+/// What comes of a step of the way.
+#[derive(Drop)]
+pub enum Reached {
+    /// It wants more.
+    More,
+    /// Its first look told a header of this image by which nothing is refused. The lock is next, and
+    /// before it what the request does between its two looks.
+    FirstLook(ImageId),
+    /// Its look under the lock told such a header, and it has ended.
+    UnderLock(ImageId),
+    /// The request has ended.
+    Refused(Refusal),
+}
+
 impl Approach {
     /// The way of a change of the image of a name at a site, which goes beside others in the
     /// image's line, or is alone there. It takes no memory.
     pub fn new(site: SiteId, name: Name, sharing: Sharing) -> Self
-        ensures { (refuses : HeaderView → Option Refusal) (act : ℕ → HeaderView → Plan)
-            → rest_of result refuses act ≡ change_plan site name sharing refuses act }
+        ensures { (refuses : HeaderView → Option Refusal) (between : ℕ → Plan → Plan) (act : ℕ → HeaderView → Plan)
+            → rest_between result refuses between act ≡ way_between site name sharing refuses between act }
     {
         Approach {
             site,
@@ -76,8 +92,8 @@ impl Approach {
 
     /// What it wants.
     pub fn wants(&self) -> Want
-        ensures { (refuses : HeaderView → Option Refusal) (act : ℕ → HeaderView → Plan)
-            → Wants (rest_of self.now refuses act) result }
+        ensures { (refuses : HeaderView → Option Refusal) (between : ℕ → Plan → Plan) (act : ℕ → HeaderView → Plan)
+            → Wants (rest_between self.now refuses between act) result }
     {
         let site = self.site;
         match &self.stage {
@@ -108,8 +124,8 @@ impl Approach {
     /// The operation that it wants. NoMemory where the memory for the name is refused.
     pub fn next(&self) -> Result<Op, NoMemory>
         requires { IsAskingAt self.now.stage }
-        ensures { (refuses : HeaderView → Option Refusal) (act : ℕ → HeaderView → Plan)
-            → IfOk result (Asks (rest_of self.now refuses act)) }
+        ensures { (refuses : HeaderView → Option Refusal) (between : ℕ → Plan → Plan) (act : ℕ → HeaderView → Plan)
+            → IfOk result (Asks (rest_between self.now refuses between act)) }
     {
         match &self.stage {
             Stage::Finding => dir_find(&self.name),
@@ -130,14 +146,31 @@ impl Approach {
         }
     }
 
-    /// Goes on with what it is fed. It has ended with the image where its look under the lock told
-    /// a header by which the rule refuses nothing. Refused with what the rule refuses at either
-    /// look, with NoImage by the answer `none`, and with Fenced by `fenced`. It takes no memory.
+    /// Goes on with what it is fed, where nothing comes between its two looks. It has ended with the
+    /// image where its look under the lock told a header by which the rule refuses nothing. Refused
+    /// with what the rule refuses at either look, with NoImage by the answer `none`, and with Fenced
+    /// by `fenced`. It takes no memory.
     pub fn feed<R: Refuses>(&mut self, rule: &R, fed: &Fed) -> Progress<ImageId>
         requires { CanBeFedAt self.old.stage self.old.name fed.now }
         ensures { (act : ℕ → HeaderView → Plan)
             → Approaches (R.refuses rule.now) act fed.now
             (plan_after (rest_of self.old (R.refuses rule.now) act) fed.now) result self.old self.new }
+    {
+        match self.step(rule, fed) {
+            Reached::More => Progress::More,
+            Reached::FirstLook(_) => Progress::More,
+            Reached::UnderLock(image) => Progress::Ended(image),
+            Reached::Refused(refusal) => Progress::Refused(refusal),
+        }
+    }
+
+    /// Goes on with what it is fed as `feed` does, and tells of its first look too: so a request may
+    /// do something of its own there, before it goes on with this way.
+    pub fn step<R: Refuses>(&mut self, rule: &R, fed: &Fed) -> Reached
+        requires { CanBeFedAt self.old.stage self.old.name fed.now }
+        ensures { (between : ℕ → Plan → Plan) (act : ℕ → HeaderView → Plan)
+            → Reaches (R.refuses rule.now) between act fed.now
+            (plan_after (rest_between self.old (R.refuses rule.now) between act) fed.now) result self.old self.new }
     {
         match fed {
             Fed::Passed => self.pass(),
@@ -146,22 +179,22 @@ impl Approach {
     }
 
     /// Goes on, where it waits for something else than an answer.
-    fn pass(&mut self) -> Progress<ImageId>
+    fn pass(&mut self) -> Reached
         requires { CanBeFedAt self.old.stage self.old.name fed_with.Passed }
-        ensures { (refuses : HeaderView → Option Refusal) (act : ℕ → HeaderView → Plan)
-            → Approaches refuses act fed_with.Passed
-            (plan_after (rest_of self.old refuses act) fed_with.Passed) result self.old self.new }
+        ensures { (refuses : HeaderView → Option Refusal) (between : ℕ → Plan → Plan) (act : ℕ → HeaderView → Plan)
+            → Reaches refuses between act fed_with.Passed
+            (plan_after (rest_between self.old refuses between act) fed_with.Passed) result self.old self.new }
     {
         match &self.stage {
             Stage::Finding => unreachable!(),
             Stage::Joining(image) => {
                 self.stage = Stage::Looking(*image);
-                Progress::More
+                Reached::More
             }
             Stage::Looking(_) => unreachable!(),
             Stage::Holding(image) => {
                 self.stage = Stage::UnderLock(*image);
-                Progress::More
+                Reached::More
             }
             Stage::UnderLock(_) => unreachable!(),
         }
@@ -169,39 +202,40 @@ impl Approach {
 
     /// Goes on with the answer to its operation.
     #[tactic(auto, using(crate::proofs::Tells::find_tells, crate::proofs::Tells::look_tells))]
-    fn answer<R: Refuses>(&mut self, rule: &R, answer: &Answer) -> Progress<ImageId>
+    fn answer<R: Refuses>(&mut self, rule: &R, answer: &Answer) -> Reached
         requires { CanBeFedAt self.old.stage self.old.name (fed_with.Answer answer.now) }
-        ensures { (act : ℕ → HeaderView → Plan)
-            → Approaches (R.refuses rule.now) act (fed_with.Answer answer.now)
-            (plan_after (rest_of self.old (R.refuses rule.now) act) (fed_with.Answer answer.now))
+        ensures { (between : ℕ → Plan → Plan) (act : ℕ → HeaderView → Plan)
+            → Reaches (R.refuses rule.now) between act (fed_with.Answer answer.now)
+            (plan_after (rest_between self.old (R.refuses rule.now) between act) (fed_with.Answer answer.now))
             result self.old self.new }
     {
         match &self.stage {
             Stage::Finding => match told_image(answer) {
                 Ok(image) => {
                     self.stage = Stage::Joining(image);
-                    Progress::More
+                    Reached::More
                 }
-                Err(refusal) => Progress::Refused(refusal),
+                Err(refusal) => Reached::Refused(refusal),
             },
             Stage::Joining(_) => unreachable!(),
             Stage::Looking(image) => match told_header(answer) {
                 Ok(header) => match rule.refusal(header) {
                     None => {
-                        self.stage = Stage::Holding(*image);
-                        Progress::More
+                        let image = *image;
+                        self.stage = Stage::Holding(image);
+                        Reached::FirstLook(image)
                     }
-                    Some(refusal) => Progress::Refused(refusal),
+                    Some(refusal) => Reached::Refused(refusal),
                 },
-                Err(refusal) => Progress::Refused(refusal),
+                Err(refusal) => Reached::Refused(refusal),
             },
             Stage::Holding(_) => unreachable!(),
             Stage::UnderLock(image) => match told_header(answer) {
                 Ok(header) => match rule.refusal(header) {
-                    None => Progress::Ended(*image),
-                    Some(refusal) => Progress::Refused(refusal),
+                    None => Reached::UnderLock(*image),
+                    Some(refusal) => Reached::Refused(refusal),
                 },
-                Err(refusal) => Progress::Refused(refusal),
+                Err(refusal) => Reached::Refused(refusal),
             },
         }
     }

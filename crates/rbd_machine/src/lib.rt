@@ -24,6 +24,7 @@
 //! | [`Machine`] | a request: what it wants, its next operation, and what it is fed |
 //! | [`Request`], [`Begun`] | what a session asks of its requests: how one is made, and its laws |
 //! | [`Approach`] | the way of a change to its look under the lock: a part of a request |
+//! | [`Reached`] | what comes of a step of that way, its first look told apart |
 //! | [`Refuses`] | what a change refuses by the header that it looks at |
 //! | [`Progress`] | what comes of a step of a part |
 //! | [`Stage`] | how far a request has come in the line of its image |
@@ -200,7 +201,7 @@ mod seat;
 mod stage;
 mod told;
 
-pub use approach::{Approach, Refuses};
+pub use approach::{Approach, Reached, Refuses};
 pub use boxed::Boxed;
 pub use giving::{can_give, gives};
 pub use looks::{dir_find, header_get};
