@@ -63,14 +63,17 @@ def module_of(path):
     return "" if module in ("lib", "main") else module
 
 
-def function_at(text, at):
+def function_at(text, at, with_clauses):
     """Returns the owner, where there is one, and the name of the function whose code is at a place of
-    a file, and None where what stands there is no function's code."""
+    a file, or whose head or clause, and None where what stands there is none."""
     before = text[:at].split("\n")
     line = (before[-1] + text[at:].split("\n", 1)[0]) or " "
     depth = len(line) - len(line.lstrip())
-    if IN_CLAUSE.match(line):
+    if IN_CLAUSE.match(line) and not with_clauses:
         return None
+    if with_clauses and FN.match(line):
+        # (the head belongs to it as what stands deeper does)
+        before, depth = [*before[:-1], line, ""], depth + 1
     for above in reversed(before[:-1]):
         found = FN.match(above)
         if not found or len(found[1]) >= depth:
@@ -85,9 +88,10 @@ def function_at(text, at):
     return None
 
 
-def changes_of(edit, folder):
+def changes_of(edit, folder, named):
     """Returns the functions that an edit changes, by their paths below the crate, and None where it
-    changes anything but code."""
+    changes anything but code. Of one that names what refuses it the functions' heads and clauses count
+    too: who is refused by a clause of its own is refused whoever calls it."""
     path, old, texts, found = "", None, {}, set()
     for line in Path(edit).read_text().split("\n"):
         if line.startswith("file: "):
@@ -103,7 +107,7 @@ def changes_of(edit, folder):
                 return None
             # (an old text begins with the layout's spaces)
             at = texts[path].index(old) + len(old) - len(old.lstrip())
-            function = function_at(texts[path], at)
+            function = function_at(texts[path], at, bool(named))
             if not function:
                 return None
             found.add(path_of(module_of(path), *function, folder))

@@ -318,15 +318,17 @@ class Work:
 
     def __init__(self, crate, edits, room, is_anew):
         self.crate, self.edits, self.is_anew = crate, edits, is_anew
-        self.changed = {edit: changes_of(edit, crate.folder) for edit in edits}
         self.named = {edit: REFUSED_BY.findall(Path(edit).read_text()) for edit in edits}
+        self.changed = {edit: changes_of(edit, crate.folder, self.named[edit]) for edit in edits}
         self.over, self.left, self.passed = f"{room}/{crate.name}/kept", edits, []
         # (why they can't be tried, if so)
         self.why = None
 
     def is_code(self, edit):
-        """Whether an edit is tried together with others, since it changes code and names nothing."""
-        return self.changed[edit] and not self.named[edit]
+        """Whether an edit is tried together with others: it changes code and names nothing, or it changes
+        a clause of the very function that it names."""
+        named = set(self.named[edit])
+        return bool(self.changed[edit]) and named in (set(), self.changed[edit])
 
     def code(self):
         """Returns the edits of code that are to be tried, each with the functions that it changes."""

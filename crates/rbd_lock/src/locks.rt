@@ -150,11 +150,10 @@ impl Locks {
         ensures order { AreImagesInOrder self.now.asked }
         ensures sound { IsSoundLocks self.now }
     {
-        // The length is asked for its clause that the images stand in order.
-        let _count = self.asked.len();
+        let asked = &self.asked;
         match behind {
-            Some(before) => first_behind(&self.asked, &before),
-            None => first(&self.asked),
+            Some(before) => first_behind(asked, &before),
+            None => first(asked),
         }
     }
 

@@ -67,7 +67,7 @@ impl Runner {
     fn few_events(&self)
         ensures { length (seen self.now.world).calls < 2 ^ 59 }
     {
-        let _events = self.world.events();
+        prove!(self.world.events() < 1 << 59);
     }
 
     /// What a line does when it is reached.

@@ -19,11 +19,15 @@ pub struct Watchers {
 
 impl Model for Watchers {
     ghost use Rattle.std.specs.Prelude.{List};
+    ghost use Rattle.std.specs.List.{IsDistinct};
+    ghost use Rattle.rbd_kinds.specs.Instances.{same_instance};
     ghost use Rattle.rbd_kinds.specs.declared.id.Instance.{Instance};
 
     ghost Value = { List Instance };
 
     ghost view = { λ w. w.instances.keys };
+
+    ghost invariant = { λ w. IsDistinct same_instance w.instances.keys };
 }
 
 impl Watchers {
@@ -53,8 +57,6 @@ impl Watchers {
         ensures found { result ≡ watches instance self.old }
         ensures others { self.new ≡ without instance self.old }
     {
-        // The length is asked for its clause that no instance stands twice.
-        let _count = self.instances.len();
         self.instances.shift_remove(&instance)
     }
 

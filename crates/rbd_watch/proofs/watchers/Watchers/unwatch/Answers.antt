@@ -6,5 +6,5 @@ use Rattle.rbd_watch.proofs.watchers.Watchers.unwatch.Goals as goal
 pub returns-clause-others : goal.returns-clause-others
 returns-clause-others c =
     c.shift_remove.ensures.keys
-    ∙ removed_is_without c.args.instance c.self.inside.instances.keys c.len-count.ensures.unique
+    ∙ removed_is_without c.args.instance c.self.inside.instances.keys c.self.invariant
     ∙ ap (without c.args.instance) c.self.view_is
