@@ -49,7 +49,6 @@ pub fn keep_poll(book: &mut Book, session: SessionNo, slot: Slot, outcome: &Outc
 {
     let event = Event::Poll { session, slot };
     keep_call(book, &event, outcome);
-    drop(event);
 }
 
 /// The same of a delivery, for who has no event at hand.
@@ -61,7 +60,6 @@ pub fn keep_delivery(book: &mut Book, number: u64, outcome: &Outcome)
 {
     let event = Event::Deliver { number };
     keep_call(book, &event, outcome);
-    drop(event);
 }
 
 /// Notes an operation that was done, and the reply where its command has it. It takes no memory.
