@@ -31,6 +31,15 @@ pub fn reserve(book: &mut Book) -> Result<(), NoMemory>
     Ok(())
 }
 
+/// The same for an event of which the history has nothing.
+pub fn reserve_call(book: &mut Book) -> Result<(), NoMemory>
+    ensures history { book.new.history.items ≡ book.old.history.items }
+    ensures calls { book.new.calls ≡ book.old.calls }
+    ensures ok { OnOk result (length book.new.calls + 1 < 2 ^ 59) }
+{
+    book.calls.reserve()
+}
+
 /// Keeps the call of an event, where there is room. It takes no memory.
 pub fn keep_call(book: &mut Book, event: &Event, outcome: &Outcome)
     requires { length book.old.calls + 1 < 2 ^ 59 }

@@ -15,7 +15,7 @@ use crate::calls::Calls;
 use crate::deliver::deliver_notice;
 use crate::event::{Event, Outcome};
 use crate::lives::Lives;
-use crate::noting::{Book, keep_delivery, keep_poll, reserve};
+use crate::noting::{Book, keep_delivery, keep_poll, reserve, reserve_call};
 use crate::poll::poll_session;
 use crate::sites::Sites;
 use crate::step::step_parts;
@@ -175,7 +175,7 @@ impl World {
         ensures err { OnErr result (IsUndone as_is (seen self.old) (seen self.new)) }
         ensures sound { IsSoundWorld as_is (seen self.new) }
     {
-        reserve(&mut self.book)?;
+        reserve_call(&mut self.book)?;
         let outcome = deliver_notice(&self.sites.mail, &mut self.lives, number)?;
         keep_delivery(&mut self.book, number, &outcome);
         Ok(outcome)
