@@ -298,7 +298,9 @@ impl Runner {
         Ok(())
     }
 
+    // Inline: behind most events it is one test.
     /// Starts one command after another, until none may start. None is looked for where none may.
+    #[inline]
     pub fn start_all(&mut self, alloc: Global) -> Result<(), NoMemory>
         requires { KeepsUp self.old }
         ensures starts { OnOk result (StartsAll as_is (given_to self.old) (seen self.old.world) (seen self.new.world)) }
