@@ -27,6 +27,7 @@ use rbd_machine::{Machine, Request};
 use rbd_site::Done;
 use std::alloc::Global;
 use std::marker::Model;
+use std::mem::forget;
 
 /// Both sites with their mail, and all sessions with their lives.
 ///
@@ -121,6 +122,22 @@ impl World {
         drop(lives);
         drop(begun);
         drop(book);
+    }
+
+    /// Leaves the world where it is: none of its memory is given back. It is for a program that ends
+    /// right behind it, and leaves its memory to the system: [`World::close`] goes through each line
+    /// of the logs and each entry of the history.
+    pub fn leave(self) {
+        let World {
+            sites,
+            lives,
+            begun,
+            book,
+        } = self;
+        forget(sites);
+        forget(lives);
+        forget(begun);
+        forget(book);
     }
 
     /// One event. What it does, and what comes of it, is a function of the world (`happening`). A
