@@ -4,11 +4,13 @@ ghost use Rattle.rbd_kinds.specs.OperationKind.{kind_of};
 ghost use Rattle.rbd_lock.specs.Acquire.{op_of};
 ghost use Rattle.rbd_lock.specs.Release.{release_op};
 ghost use Rattle.rbd_client.specs.Actor.{actor_at_look, actor_by, actor_on, is_acquiring, release_actor};
+ghost use Rattle.rbd_slots.specs.Session.{look_under_lock_at};
 
 use crate::slot_state::Way;
-use rbd_kinds::{ImageAt, Op, OpKind, SiteId, Want};
+use rbd_kinds::{ImageAt, Op, OpKind, SiteId, Slot, Want};
 use rbd_lock::{Acquire, LockState, Locks, Release};
-use rbd_machine::Machine;
+use rbd_machine::{Machine, Request};
+use rbd_slots::Session;
 
 /// Who acts where a slot is polled.
 #[derive(Clone, Copy)]
@@ -58,12 +60,13 @@ fn before_way(look: Option<ImageAt>, locks: &Locks) -> Actor
     at_look(&locks.state(&at), &at)
 }
 
-/// Who acts for the request in a slot.
-pub fn for_request(way: Way, look: Option<ImageAt>, locks: &Locks) -> Actor
-    ensures { result ≡ actor_on way look locks.now }
+/// Who acts for the request in a slot. (On a way, as each request that asks again for a lock is,
+/// nothing is looked up in a line.)
+pub fn for_request<R: Request>(way: Way, session: &Session<R>, slot: Slot, locks: &Locks) -> Actor
+    ensures { result ≡ actor_on way (look_under_lock_at R.stands slot session.now) locks.now }
 {
     match way {
-        Way::Unbegun => before_way(look, locks),
+        Way::Unbegun => before_way(session.look_under_lock(slot), locks),
         Way::On(acquire) => Actor::Way(acquire),
         Way::Taken(_) => Actor::Request,
     }

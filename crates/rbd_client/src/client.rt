@@ -215,11 +215,8 @@ impl<R: Request> Client<R> {
         if slot.0 == 0 {
             return for_release(self.release, self.due());
         }
-        for_request(
-            state_of(self.slots.as_slice(), slot).way,
-            self.session.look_under_lock(slot),
-            &self.locks,
-        )
+        let way = state_of(self.slots.as_slice(), slot).way;
+        for_request(way, &self.session, slot, &self.locks)
     }
 
     /// The next operation of a slot by who acts there, and its site: `None` as by [`Client::kind`].
@@ -338,8 +335,21 @@ impl<R: Request> Client<R> {
         self.session.is_at_rest(at) && !is_any_taken(self.slots.as_slice(), at)
     }
 
-    /// Of the images that were asked for, in order, the first whose lock may be let go.
+    /// Of the images that were asked for, in order, the first whose lock may be let go. (Mostly none
+    /// was asked for, and then no walk over them is begun.)
     fn due(&self) -> Option<ImageAt>
+        ensures { result ≡ due_release self.now }
+    {
+        if self.locks.asked().is_empty() {
+            return None;
+        }
+        self.first_due()
+    }
+
+    // Not inline: each poll of slot 0 would make its frame.
+    /// The same, where some were asked for.
+    #[inline(never)]
+    fn first_due(&self) -> Option<ImageAt>
         ensures { result ≡ due_release self.now }
     {
         self.locks

@@ -18,8 +18,10 @@ use rbd_text::{replies, trace};
 use rbd_words::{Load, Mode};
 use rbd_world::World;
 use std::alloc::Global;
+use std::mem::forget;
 
-/// What is printed of a script of built forms, whose lines are in order.
+/// What is printed of a script of built forms, whose lines are in order. (The world isn't let go,
+/// here and in [`summed`]: the program ends right behind it, and the system takes all of it.)
 pub fn output(alloc: Global, mode: Mode, script: &Script) -> Result<Vec<u8>, NoMemory>
     requires playable { IsPlayable script.now }
     requires in_order { AreLinesInOrder script.now.lines }
@@ -27,7 +29,7 @@ pub fn output(alloc: Global, mode: Mode, script: &Script) -> Result<Vec<u8>, NoM
 {
     let world: World = play(alloc, script)?;
     let text = tell_world(alloc, mode, script, &world);
-    world.close();
+    world.leave();
     text
 }
 
@@ -39,7 +41,8 @@ pub fn summed(alloc: Global, load: &Load) -> Result<Vec<u8>, NoMemory>
     let script = generated(alloc, load)?;
     let world: World = play(alloc, &script)?;
     let text = sum_up(alloc, &script, &world);
-    world.close();
+    world.leave();
+    forget(script);
     text
 }
 

@@ -49,7 +49,7 @@ fn mark_at(marks: &[bool], index: usize) -> bool
     }
 }
 
-/// Makes the place of a mark. No mark changes.
+/// Makes the place of a mark, and 63 more, for the notices behind it. No mark changes.
 fn make_place(marks: &mut Vec<bool>, index: usize) -> Result<(), NoMemory>
     ensures place { OnOk result (index < length marks.new.items) }
     ensures marks { OnOk result ((other : ℕ) → mark_of (slice_get marks.new.items other)
@@ -58,7 +58,7 @@ fn make_place(marks: &mut Vec<bool>, index: usize) -> Result<(), NoMemory>
     if index < marks.len() {
         return Ok(());
     }
-    let Some(count) = index.checked_add(1) else {
+    let Some(count) = index.checked_add(64) else {
         return Err(NoMemory);
     };
     marks.resize(count, false)?;

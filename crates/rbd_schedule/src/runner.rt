@@ -272,9 +272,11 @@ impl Runner {
         outcome
     }
 
+    // Inline: it is a part of each event, and small where none ends a line.
     /// What came of an event is noted: the lines that have ended by it, from this place of the
     /// history on; the notice that it told, where one heard it; and whether another command may
     /// start.
+    #[inline]
     fn note(&mut self, from: usize, told: Option<u64>, outcome: &Outcome) -> Result<(), NoMemory>
         requires { from ≤ length (seen self.old.world).history }
         ensures over { OnOk result ((line : ℕ)
@@ -296,7 +298,9 @@ impl Runner {
         Ok(())
     }
 
+    // Inline: behind most events it is one test.
     /// Starts one command after another, until none may start. None is looked for where none may.
+    #[inline]
     pub fn start_all(&mut self, alloc: Global) -> Result<(), NoMemory>
         requires { KeepsUp self.old }
         ensures starts { OnOk result (StartsAll as_is (given_to self.old) (seen self.old.world) (seen self.new.world)) }

@@ -119,7 +119,8 @@ impl Store {
         map::answer(&self.maps, key, op)
     }
 
-    /// Who watches the header of an image, if it is there.
+    /// Who watches the header of an image, if it is there. (The list is shared: so the copy of the
+    /// answer that the log keeps copies nobody.)
     fn who_watches(&self, image: ImageId) -> Result<Answer, NoMemory>
         ensures { (me : Instance) → IfOk result
             (λ answer. answer ≡ header_answer me ((kept self.now).headers image)
@@ -128,7 +129,8 @@ impl Store {
         if !self.headers.contains_key(&image) {
             return Ok(Answer::Absent);
         }
-        Ok(Answer::Instances(watch::list(self.alloc, &self.watchers, image)?))
+        let list = watch::list(self.alloc, &self.watchers, image)?;
+        Ok(Answer::Instances(list.share()?))
     }
 
     /// Does an operation, or nothing at all. A notice is posted into the mail.

@@ -1,14 +1,17 @@
 //! What an operation will come to at its site.
-ghost use Rattle.std.specs.Prelude.{◌≡◌, length, IfOk, IfSome};
+ghost use Rattle.std.specs.Prelude.{◌≡◌, ℕ, Option, None, false, length, IfOk, IfSome};
 ghost use Rattle.rbd_kinds.specs.Form.{IsHeaderInForm};
 ghost use Rattle.rbd_kinds.specs.OperationKind.{kind_of};
+ghost use Rattle.rbd_kinds.specs.declared.answer.Answer.{Answer as Answered};
+ghost use Rattle.rbd_kinds.specs.declared.header.HeaderView.{HeaderView as HeaderTold};
 ghost use Rattle.rbd_kinds.specs.declared.machine.Fed.TheVariants as of_fed;
+ghost use Rattle.rbd_kinds.specs.declared.operation.Op.TheVariants as of_op;
 ghost use Rattle.rbd_lock.specs.Waiting.{asks_for_lock as waits};
 ghost use Rattle.rbd_site.specs.InForm.{AreInForm};
 ghost use Rattle.rbd_site.specs.Log.{records_of};
 ghost use Rattle.rbd_site.specs.Step.{answer_to};
 ghost use Rattle.rbd_site.specs.declared.done.DoneOp.TheVariants as of_done;
-ghost use Rattle.rbd_stands.specs.Effect.{effect_of as effect_there};
+ghost use Rattle.rbd_stands.specs.Effect.{effect_of as effect_there, effect_of_op};
 ghost use Rattle.rbd_world.specs.Operate.{image_of_op};
 ghost use Rattle.rbd_world.specs.Run.{entry_of, fence_of, reason_of};
 ghost use Rattle.rbd_world.specs.Sending.{doer_of};
@@ -21,7 +24,9 @@ use crate::noting::entry_by;
 use crate::sender::Sender;
 use crate::sites::Sites;
 use rbd_flat::{Effect, Entry};
-use rbd_kinds::{Answer, Fed, HeaderView, ImageId, Instance, NoMemory, Op, Shared, SiteId};
+use rbd_kinds::{
+    Answer, Fed, HeaderOp, HeaderView, ImageId, Instance, NoMemory, Op, Shared, SiteId,
+};
 use rbd_lock::is_waiting;
 use rbd_site::Site;
 use rbd_stands::effect_of;
@@ -131,7 +136,8 @@ fn fence_of(op: &Op, answer: &Answer) -> Option<Instance>
     }
 }
 
-/// The effect of an operation that will be answered so.
+/// The effect of an operation that will be answered so. (Most operations never have one: so nothing
+/// is looked up for these, and no room is made for an effect.)
 fn effect_now(
     alloc: Global,
     at: &Site,
@@ -141,9 +147,51 @@ fn effect_now(
     requires { AreInForm (records_of at.now) (length at.now.log) }
     ensures { IfOk result (λ effect. effect ≡ effect_there (records_of at.now) (of_done.Op op.now) answer.now) }
 {
+    if !may_have_effect(op) {
+        return Ok(None);
+    }
     match effect_by(alloc, at, op, answer)? {
         Some(effect) => Ok(Some(Shared::new(alloc, effect)?)),
         None => Ok(None),
+    }
+}
+
+/// Whether an operation has an effect by some answer: `false` for those that never have one.
+fn may_have_effect(op: &Op) -> bool
+    ensures { result ≡ false → (header : Option HeaderTold) (answer : Answered)
+        → effect_of_op header op.now answer ≡ None }
+{
+    match op {
+        Op::Directory(_) => true,
+        Op::Children(_) => true,
+        Op::Header { image: _, op } => may_change_header(op),
+        Op::Data {
+            image: _,
+            object: _,
+            op: _,
+        } => true,
+        Op::BlockAdd { instance: _ } => false,
+        Op::Map { image: _, op: _ } => false,
+        Op::Journal { image: _, op: _ } => false,
+    }
+}
+
+/// The same of an operation on a header: looks at it, and all that is about locks and watches, have
+/// no effect on an image.
+fn may_change_header(op: &HeaderOp) -> bool
+    ensures { result ≡ false → (header : Option HeaderTold) (image : ℕ) (answer : Answered)
+        → effect_of_op header (of_op.Header image op.now) answer ≡ None }
+{
+    match op {
+        HeaderOp::Get => false,
+        HeaderOp::LockTake => false,
+        HeaderOp::LockDrop => false,
+        HeaderOp::LockBreak { owner: _ } => false,
+        HeaderOp::Watch => false,
+        HeaderOp::Unwatch => false,
+        HeaderOp::WatchersGet => false,
+        HeaderOp::Notify { kind: _ } => false,
+        _ => true,
     }
 }
 

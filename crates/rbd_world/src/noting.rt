@@ -31,6 +31,15 @@ pub fn reserve(book: &mut Book) -> Result<(), NoMemory>
     Ok(())
 }
 
+/// The same for an event of which the history has nothing.
+pub fn reserve_call(book: &mut Book) -> Result<(), NoMemory>
+    ensures history { book.new.history.items ≡ book.old.history.items }
+    ensures calls { book.new.calls ≡ book.old.calls }
+    ensures ok { OnOk result (length book.new.calls + 1 < 2 ^ 59) }
+{
+    book.calls.reserve()
+}
+
 /// Keeps the call of an event, where there is room. It takes no memory.
 pub fn keep_call(book: &mut Book, event: &Event, outcome: &Outcome)
     requires { length book.old.calls + 1 < 2 ^ 59 }
@@ -49,7 +58,6 @@ pub fn keep_poll(book: &mut Book, session: SessionNo, slot: Slot, outcome: &Outc
 {
     let event = Event::Poll { session, slot };
     keep_call(book, &event, outcome);
-    drop(event);
 }
 
 /// The same of a delivery, for who has no event at hand.
@@ -61,7 +69,6 @@ pub fn keep_delivery(book: &mut Book, number: u64, outcome: &Outcome)
 {
     let event = Event::Deliver { number };
     keep_call(book, &event, outcome);
-    drop(event);
 }
 
 /// Notes an operation that was done, and the reply where its command has it. It takes no memory.

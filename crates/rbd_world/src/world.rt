@@ -15,7 +15,7 @@ use crate::calls::Calls;
 use crate::deliver::deliver_notice;
 use crate::event::{Event, Outcome};
 use crate::lives::Lives;
-use crate::noting::{Book, keep_delivery, keep_poll, reserve};
+use crate::noting::{Book, keep_delivery, keep_poll, reserve, reserve_call};
 use crate::poll::poll_session;
 use crate::sites::Sites;
 use crate::step::step_parts;
@@ -27,6 +27,7 @@ use rbd_machine::{Machine, Request};
 use rbd_site::Done;
 use std::alloc::Global;
 use std::marker::Model;
+use std::mem::forget;
 
 /// Both sites with their mail, and all sessions with their lives.
 ///
@@ -123,6 +124,22 @@ impl World {
         drop(book);
     }
 
+    /// Leaves the world where it is: none of its memory is given back. It is for a program that ends
+    /// right behind it, and leaves its memory to the system: [`World::close`] goes through each line
+    /// of the logs and each entry of the history.
+    pub fn leave(self) {
+        let World {
+            sites,
+            lives,
+            begun,
+            book,
+        } = self;
+        forget(sites);
+        forget(lives);
+        forget(begun);
+        forget(book);
+    }
+
     /// One event. What it does, and what comes of it, is a function of the world (`happening`). A
     /// command that isn't built is ruled out. NoMemory where memory is refused, and for the event
     /// behind 2^59 - 1 others; then nothing happened.
@@ -175,7 +192,7 @@ impl World {
         ensures err { OnErr result (IsUndone as_is (seen self.old) (seen self.new)) }
         ensures sound { IsSoundWorld as_is (seen self.new) }
     {
-        reserve(&mut self.book)?;
+        reserve_call(&mut self.book)?;
         let outcome = deliver_notice(&self.sites.mail, &mut self.lives, number)?;
         keep_delivery(&mut self.book, number, &outcome);
         Ok(outcome)

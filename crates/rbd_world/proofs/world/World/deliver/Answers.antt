@@ -24,43 +24,43 @@ deliver_notice-requires c =
     λ session. sound_in_unseen stands_of session c.self.inside.lives.items (clients_sound as_is was c.self.invariant.sound session (client_in session was.lives) refl)
 
 pub keep_delivery-requires : goal.keep_delivery-requires
-keep_delivery-requires c = c.in_ok-reserve.ensures.ok.1
+keep_delivery-requires c = c.in_ok-reserve_call.ensures.ok
 
 pub invariant_of-self : goal.invariant_of-self
 invariant_of-self c =
     let was : WorldView Standing = seen_by stands_of (record { sites = c.self.inside.sites; lives = c.self.inside.lives.items; history = c.self.inside.book.history.items; calls = c.self.inside.book.calls }) in
-    let now : WorldView Standing = seen_by stands_of (record { sites = c.self.inside.sites; lives = c.self.inside.lives.items; history = c.reserve.new.book.history.items; calls = c.reserve.new.book.calls }) in
+    let now : WorldView Standing = seen_by stands_of (record { sites = c.self.inside.sites; lives = c.self.inside.lives.items; history = c.reserve_call.new.book.history.items; calls = c.reserve_call.new.book.calls }) in
     let left : LeavesParts stands_of c.self.inside.sites c.self.inside.sites c.self.inside.lives.items c.self.inside.lives.items c.self.inside.begun c.self.inside.begun = record { sites = record { sites = λ s. refl; mail = refl }; lives = leaves_all stands_of c.self.inside.lives.items; begun = λ line. refl } in
     let leaves = leaves_seen stands_of c.self.inside.sites c.self.inside.sites c.self.inside.lives.items c.self.inside.lives.items c.self.inside.begun c.self.inside.begun left in
-    let history = c.reserve.ensures.history in
-    let calls = c.reserve.ensures.calls in
+    let history = c.reserve_call.ensures.history in
+    let calls = c.reserve_call.ensures.calls in
     undone_kept as_is c.self.inside.begun c.self.inside.begun was now c.self.invariant leaves history
     (undone_sound as_is c.self.inside.begun c.self.inside.begun was now c.self.invariant leaves history calls)
 
-pub returns-in_err-reserve-clause-err : goal.returns-in_err-reserve-clause-err
+pub returns-in_err-reserve_call-clause-err : goal.returns-in_err-reserve_call-clause-err
 unfolding seen
-returns-in_err-reserve-clause-err c =
+returns-in_err-reserve_call-clause-err c =
     let was : WorldView Standing = seen_by stands_of (record { sites = c.self.inside.sites; lives = c.self.inside.lives.items; history = c.self.inside.book.history.items; calls = c.self.inside.book.calls }) in
-    let now : WorldView Standing = seen_by stands_of (record { sites = c.self.inside.sites; lives = c.self.inside.lives.items; history = c.reserve.new.book.history.items; calls = c.reserve.new.book.calls }) in
+    let now : WorldView Standing = seen_by stands_of (record { sites = c.self.inside.sites; lives = c.self.inside.lives.items; history = c.reserve_call.new.book.history.items; calls = c.reserve_call.new.book.calls }) in
     let left : LeavesParts stands_of c.self.inside.sites c.self.inside.sites c.self.inside.lives.items c.self.inside.lives.items c.self.inside.begun c.self.inside.begun = record { sites = record { sites = λ s. refl; mail = refl }; lives = leaves_all stands_of c.self.inside.lives.items; begun = λ line. refl } in
     let leaves = leaves_seen stands_of c.self.inside.sites c.self.inside.sites c.self.inside.lives.items c.self.inside.lives.items c.self.inside.begun c.self.inside.begun left in
-    let history = c.reserve.ensures.history in
-    let calls = c.reserve.ensures.calls in
+    let history = c.reserve_call.ensures.history in
+    let calls = c.reserve_call.ensures.calls in
     on_err_always c.from_residual.result
     (subst (λ w. IsUndone as_is (seen w) now) c.self.view_is (undone as_is c.self.inside.begun c.self.inside.begun was now leaves history calls))
 
-pub returns-in_err-reserve-clause-sound : goal.returns-in_err-reserve-clause-sound
+pub returns-in_err-reserve_call-clause-sound : goal.returns-in_err-reserve_call-clause-sound
 unfolding seen
-returns-in_err-reserve-clause-sound c = (invariant_of-self c).sound
+returns-in_err-reserve_call-clause-sound c = (invariant_of-self c).sound
 
 pub invariant_of-self-in_err-outcome : goal.invariant_of-self-in_err-outcome
 invariant_of-self-in_err-outcome c =
     let was : WorldView Standing = seen_by stands_of (record { sites = c.self.inside.sites; lives = c.self.inside.lives.items; history = c.self.inside.book.history.items; calls = c.self.inside.book.calls }) in
-    let now : WorldView Standing = seen_by stands_of (record { sites = c.self.inside.sites; lives = c.deliver_notice.new.lives.items; history = c.reserve.new.book.history.items; calls = c.reserve.new.book.calls }) in
+    let now : WorldView Standing = seen_by stands_of (record { sites = c.self.inside.sites; lives = c.deliver_notice.new.lives.items; history = c.reserve_call.new.book.history.items; calls = c.reserve_call.new.book.calls }) in
     let left : LeavesParts stands_of c.self.inside.sites c.self.inside.sites c.self.inside.lives.items c.deliver_notice.new.lives.items c.self.inside.begun c.self.inside.begun = record { sites = record { sites = λ s. refl; mail = refl }; lives = subst (LeavesLives stands_of c.self.inside.lives.items) (sym c.in_err-outcome.ensures.err) (leaves_all stands_of c.self.inside.lives.items); begun = λ line. refl } in
     let leaves = leaves_seen stands_of c.self.inside.sites c.self.inside.sites c.self.inside.lives.items c.deliver_notice.new.lives.items c.self.inside.begun c.self.inside.begun left in
-    let history = c.reserve.ensures.history in
-    let calls = c.reserve.ensures.calls in
+    let history = c.reserve_call.ensures.history in
+    let calls = c.reserve_call.ensures.calls in
     undone_kept as_is c.self.inside.begun c.self.inside.begun was now c.self.invariant leaves history
     (undone_sound as_is c.self.inside.begun c.self.inside.begun was now c.self.invariant leaves history calls)
 
@@ -68,11 +68,11 @@ pub returns-in_err-outcome-clause-err : goal.returns-in_err-outcome-clause-err
 unfolding seen
 returns-in_err-outcome-clause-err c =
     let was : WorldView Standing = seen_by stands_of (record { sites = c.self.inside.sites; lives = c.self.inside.lives.items; history = c.self.inside.book.history.items; calls = c.self.inside.book.calls }) in
-    let now : WorldView Standing = seen_by stands_of (record { sites = c.self.inside.sites; lives = c.deliver_notice.new.lives.items; history = c.reserve.new.book.history.items; calls = c.reserve.new.book.calls }) in
+    let now : WorldView Standing = seen_by stands_of (record { sites = c.self.inside.sites; lives = c.deliver_notice.new.lives.items; history = c.reserve_call.new.book.history.items; calls = c.reserve_call.new.book.calls }) in
     let left : LeavesParts stands_of c.self.inside.sites c.self.inside.sites c.self.inside.lives.items c.deliver_notice.new.lives.items c.self.inside.begun c.self.inside.begun = record { sites = record { sites = λ s. refl; mail = refl }; lives = subst (LeavesLives stands_of c.self.inside.lives.items) (sym c.in_err-outcome.ensures.err) (leaves_all stands_of c.self.inside.lives.items); begun = λ line. refl } in
     let leaves = leaves_seen stands_of c.self.inside.sites c.self.inside.sites c.self.inside.lives.items c.deliver_notice.new.lives.items c.self.inside.begun c.self.inside.begun left in
-    let history = c.reserve.ensures.history in
-    let calls = c.reserve.ensures.calls in
+    let history = c.reserve_call.ensures.history in
+    let calls = c.reserve_call.ensures.calls in
     on_err_always c.from_residual-in_err-outcome.result
     (subst (λ w. IsUndone as_is (seen w) now) c.self.view_is (undone as_is c.self.inside.begun c.self.inside.begun was now leaves history calls))
 
@@ -90,8 +90,8 @@ did c =
     noted_steps stands_of e h c.self.inside.sites c.self.inside.sites c.self.inside.lives.items c.deliver_notice.new.lives.items c.self.inside.begun c.self.inside.begun
     c.self.inside.book.history.items c.keep_delivery.new.book.history.items c.self.inside.book.calls c.keep_delivery.new.book.calls c.in_ok-outcome.outcome
     (delivery_does stands_of c.args.number c.self.inside.sites c.self.inside.lives.items c.deliver_notice.new.lives.items c.self.inside.begun c.in_ok-outcome.ensures.lives)
-    (ap (λ v. v.items) c.keep_delivery.ensures.history ∙ c.reserve.ensures.history ∙ delivery_unnoted stands_of c.args.number c.self.inside.sites c.self.inside.lives.items c.self.inside.book.history.items)
-    (c.keep_delivery.ensures.calls ∙ ap (λ (xs : List Call). xs ++ record { event = e; outcome = c.in_ok-outcome.outcome } ∷ []) c.reserve.ensures.calls)
+    (ap (λ v. v.items) c.keep_delivery.ensures.history ∙ c.reserve_call.ensures.history ∙ delivery_unnoted stands_of c.args.number c.self.inside.sites c.self.inside.lives.items c.self.inside.book.history.items)
+    (c.keep_delivery.ensures.calls ∙ ap (λ (xs : List Call). xs ++ record { event = e; outcome = c.in_ok-outcome.outcome } ∷ []) c.reserve_call.ensures.calls)
     c.in_ok-outcome.ensures.outcome
 
 pub invariant_of-self-2 : goal.invariant_of-self-2
