@@ -38,10 +38,10 @@
 //! The arena has the pages, each with a count: the number of sheaves that name it. A sheaf is a
 //! list of up to 128 indices of pages, and has a count too: the number of contents that name it. A
 //! content is a list of indices of sheaves, all full but the last, so that a page is found by two
-//! divisions. Free pages are linked by index, and so are free sheaves. A change writes a page in
-//! place only where its count and that of its sheaf are 1. Else it takes a new sheaf with the same
-//! pages, which are counted once more, and a new page with the same bytes. A sheaf whose count
-//! falls to 0 lets its pages go.
+//! divisions. The places of free pages are a list beside the arena, with room for all places, and
+//! so are those of free sheaves. A change writes a page in place only where its count and that of
+//! its sheaf are 1. Else it takes a new sheaf with the same pages, which are counted once more, and
+//! a new page with the same bytes. A sheaf whose count falls to 0 lets its pages go.
 //!
 //! A write on one page that is ready is done there. Any other change first makes its pages ready,
 //! which may be refused memory and shows nothing, and then changes them, which can't be. Refused,

@@ -1,6 +1,7 @@
 -- Tables of lines, with a line more or one less.
-use Rattle.std.proofs.Common.{◌≡◌, ℕ, ◌==◌, cond, nat_eq, Bool, true, false, List, [], ◌∷◌, ◌++◌, length, Some, None, refl, sym, ap, ◌∙◌, arith}
+use Rattle.std.proofs.Common.{◌≡◌, ℕ, ◌==◌, cond, nat_eq, ◌≢◌, ◌⊎◌, inl, inr, Bool, true, false, true≢false, List, [], ◌∷◌, ◌++◌, length, Some, None, refl, sym, ap, ◌∙◌, arith}
 use Rattle.std.proofs.lemmas.Bool.{eqb-true}
+use Rattle.std.proofs.lemmas.Bool.Decides.{eqb_tells}
 use Rattle.std.specs.HashMap.{HashMap, get}
 use Rattle.rbd_queue.specs.Line.{LineView, Member}
 use Rattle.rbd_kinds.proofs.Images.{same_key}
@@ -15,6 +16,9 @@ pub no_members : (members : List Member) → (length members == 0) ≡ true → 
 no_members [] is = refl
 no_members (m ∷ members) is =
     let none : length (m ∷ members) ≡ 0 = eqb-true (length (m ∷ members)) 0 is in absurd (omega (arith, none))
+
+pub some_members : (members : List Member) → (length members == 0) ≡ false → members ≢ []
+some_members members is none = true≢false (sym (ap (λ (ms : List Member). length ms == 0) none) ∙ is)
 
 module _ {S : Type 0} where
   pub opened : (old mid new : HashMap ℕ LineView S) (key : ℕ) (line : LineView) (m : Member) → ((k : ℕ) → get nat_eq new k ≡ cond (nat_eq key k) (Some line) (get nat_eq mid k))
@@ -34,6 +38,14 @@ module _ {S : Type 0} where
       go : (b : Bool) → nat_eq key k ≡ b → members_or (cond (nat_eq key k) None (get nat_eq old k)) ≡ members_in old k
       go true here = rw here (sym (no_members (members_in old key) empty) ∙ ap (members_in old) (eqb-true key k here))
       go false other = rw other refl
+
+  pub not_held : (old new : HashMap ℕ LineView S) (key : ℕ) → ((k : ℕ) → get nat_eq new k ≡ cond (nat_eq key k) None (get nat_eq old k))
+      → get nat_eq new key ≡ None
+  not_held old new key gone = gone key ∙ go (eqb_tells key key)
+    where
+      go : ((nat_eq key key ≡ true) × (key ≡ key)) ⊎ ((nat_eq key key ≡ false) × (key ≢ key)) → cond (nat_eq key key) None (get nat_eq old key) ≡ None
+      go (inl (is, _)) = ap (λ b. cond b None (get nat_eq old key)) is
+      go (inr (_, apart)) = absurd (apart refl)
 
 -- ---- keys
 

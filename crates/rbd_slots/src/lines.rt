@@ -1,5 +1,5 @@
 //! The lines of the images that a session's requests change.
-ghost use Rattle.std.specs.Prelude.{◌≡◌, ℕ, ◌<◌, ◌≤◌, ◌==◌, ◌&&◌, not, nat_eq, cond, [], ◌∷◌, ◌++◌, length, IsTrue, IsFalse, IsSome, OnOk, None, Some};
+ghost use Rattle.std.specs.Prelude.{◌≡◌, ◌≢◌, ℕ, ◌<◌, ◌≤◌, ◌==◌, ◌&&◌, not, nat_eq, cond, [], ◌∷◌, ◌++◌, length, IsTrue, IsFalse, IsSome, OnOk, None, Some};
 ghost use Rattle.std.specs.HashMap.{get, spare};
 ghost use Rattle.std.specs.Option.{option_map};
 ghost use Rattle.rbd_queue.specs.Line.{member_of, is_member, any_past, may_pass, has_turn, comes_next, new_member, held, passed, next_piece, changed_member, without};
@@ -86,6 +86,7 @@ fn add(lines: &mut HashMap<u64, Line>, key: u64, line: Line)
 /// A line that nobody is in is held no more: it is for the next image, with the memory that it has.
 fn forget_empty(lines: &mut HashMap<u64, Line>, unused: &mut Option<Line>, key: u64)
     ensures members { (k : ℕ) → members_in lines.new k ≡ members_in lines.old k }
+    ensures gone { members_in lines.new key ≡ [] → get nat_eq lines.new key ≡ None }
     ensures spare { spare lines.old ≤ spare lines.new }
     ensures unused { IsEmptyLine unused.old → IsEmptyLine unused.new }
 {
@@ -250,6 +251,7 @@ impl Lines {
     pub fn leave(&mut self, place: Option<ImageAt>, slot: Slot)
         ensures lines { (key : ℕ) → members_at key self.new ≡ cond (is_key place key)
             (without slot (members_at key self.old)) (members_at key self.old) }
+        ensures gone { HasMembers place self.new → members_of place self.new ≢ [] }
         ensures open { CanOpen self.old → CanOpen self.new }
     {
         let Some(place) = place else {
