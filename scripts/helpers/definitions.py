@@ -16,10 +16,15 @@ from .crate_list import uses_in, with_below
 # Where the clauses stand: the top calls, `main`'s helpers, and the devices whose words the clauses
 # use.
 BEGIN = ("rbd_lab/src/run.rt", "rbd_lab/src/main.rt", "rbd_edge/src/source.rt", "rbd_edge/src/sink.rt")
-USE = re.compile(r"^ *(?:ghost )?use (Rattle\.\S+?)(?:\.\{([^}]*)\})?(?: as (\S+?))?;?$", re.M)
-# (what is indented and has `pub` alone is a field)
-HEAD = re.compile(r"^(?! +pub (?!(?:record|data) ))( *)(?:(?:pub|abbrev|unfoldable|record|data) )+([^\s:({]+)")
+USE = re.compile(r"^ *(?:ghost |pub )?use (Rattle\.\S+?)(?:\.\{([^}]*)\})?(?: as (\S+?))?;?$", re.M)
+# (what is indented and has `pub` alone is a field; `record x {` is a changed value)
+HEAD = re.compile(
+    r"^(?! +pub (?!(?:record|data) )| *record [a-z]\w* \{|pub use )"
+    r"( *)(?:(?:pub|abbrev|unfoldable|record|data) )+([^\s:({]+)"
+)
 EQUATION = re.compile(r"^( *)([^\s:({]+) ")
+# A constructor or a field, which stands in the definition of its type.
+PART = re.compile(r"^ +(?:pub )?([^\s:({]+) :")
 TOKEN = re.compile(r"[A-Za-z_][\w'-]*(?:\.[A-Za-z_][\w'-]*)*|[^\s\w(){};,.]+")
 
 
@@ -37,6 +42,8 @@ class File(NamedTuple):
     modules: dict
     # The text of each definition.
     texts: dict
+    # The type in which a constructor or a field stands.
+    types: dict
 
 
 def file_of(crate, module):
@@ -84,6 +91,12 @@ def definitions_of(text):
     return texts
 
 
+def parts_of(texts):
+    """Returns the type of each constructor and field."""
+    types = {name: text for name, text in texts.items() if re.match(r" *(?:pub )?(?:data|record) ", text)}
+    return {part[1]: name for name, text in types.items() for part in map(PART.match, text.splitlines()) if part}
+
+
 class Walk:
     def __init__(self):
         self.files, self.seen, self.order = {}, set(), []
@@ -91,7 +104,8 @@ class Walk:
     def file(self, place):
         if place not in self.files:
             text = file_of(place.crate, place.module).read_text()
-            self.files[place] = File(*imports_of(text), definitions_of(text))
+            texts = definitions_of(text)
+            self.files[place] = File(*imports_of(text), texts, parts_of(texts))
         return self.files[place]
 
     def visit(self, place, name):
@@ -101,11 +115,14 @@ class Walk:
         elif (place, name) not in self.seen:
             self.seen.add((place, name))
             file = self.file(place)
-            # (a constructor or a field stands in a definition of another name: then all of the file
-            # is taken)
-            text = file.texts.get(name) or "\n".join(file.texts.values())
-            self.visit_all(place, file, set(TOKEN.findall(text)))
-            self.note(place)
+            if name in file.texts:
+                self.visit_all(place, file, set(TOKEN.findall(file.texts[name])))
+                self.note(place)
+            elif name in file.types:
+                self.visit(place, file.types[name])
+            else:
+                # (the file passes on a word of another)
+                self.visit(*file.names[name])
 
     def visit_all(self, place, file, tokens):
         for token in sorted(tokens | {it.split(".")[0] for it in tokens}):
@@ -115,7 +132,7 @@ class Walk:
                 self.visit(*file.names[shown])
             elif token in file.texts:
                 self.visit(place, token)
-            elif first in file.modules:
+            elif rest and first in file.modules:
                 self.visit(file.modules[first], rest)
 
     def note(self, place):

@@ -227,7 +227,6 @@ module _ {R : Type 0} (stands : R → Standing) where
     request = goes.request;
     track = goes.track;
     asks = goes.asks;
-    on = goes.on;
   }
 
   comes_seen : (slot : ℕ) (labels : Label → Plan) (plan : Plan) (t : Track) (result : Option Reply) (r q : Running R) (lines : LinesView)

@@ -16,7 +16,7 @@ same_log old new id log = ap (λ i. record { id = i; log = new.log }) id ∙ ap 
 module _ {R : Type 0} (stands : R → Standing) where
   -- ---- a session in its first life
 
-  first_alike : (session : ℕ) (l m : LivesView R) → m.home ≡ l.home → IsFirst stands session l → IsFirst stands session m → AreLivesAlike stands l m
+  first_alike : (session : ℕ) (l m : LivesView R) → m.home ≡ l.home → IsFirst session l → IsFirst session m → AreLivesAlike stands l m
   first_alike session l m same first also = record {
     home = same;
     latest = also.latest ∙ sym first.latest;
@@ -28,7 +28,7 @@ module _ {R : Type 0} (stands : R → Standing) where
   }
 
   firsts_alike : (session : ℕ) (home : Option SiteId) (o n : Option (LivesView R)) → IsAtHome home o → IsAtHome home n
-      → ((l : LivesView R) → o ≡ Some l → IsFirst stands session l) → ((m : LivesView R) → n ≡ Some m → IsFirst stands session m) → IsAlikeOf stands o n
+      → ((l : LivesView R) → o ≡ Some l → IsFirst session l) → ((m : LivesView R) → n ≡ Some m → IsFirst session m) → IsAlikeOf stands o n
   firsts_alike session None None None at other first also = refl
   firsts_alike session None None (Some m) at other first also = absurd other
   firsts_alike session None (Some l) n at other first also = absurd at
@@ -38,7 +38,7 @@ module _ {R : Type 0} (stands : R → Standing) where
 
   -- ---- the world
 
-  pub new_worlds_are_twins : (homes : List SiteId) (v w : WorldView R) → IsNewWorld stands v → IsNewWorld stands w → AreAtHome homes v.lives → AreAtHome homes w.lives → AreTwins stands v w
+  pub new_worlds_are_twins : (homes : List SiteId) (v w : WorldView R) → IsNewWorld v → IsNewWorld w → AreAtHome homes v.lives → AreAtHome homes w.lives → AreTwins stands v w
   new_worlds_are_twins homes v w new also at other = record {
     sites =
         same_sites v.sites w.sites (λ s. same_log (site_in s v.sites) (site_in s w.sites) (also.ids s ∙ sym (new.ids s)) (also.sites s ∙ sym (new.sites s)))

@@ -54,7 +54,8 @@ use Rattle.rbd_world.specs.declared.event.Event.{Event}
 use Rattle.rbd_world.specs.declared.event.Event.TheVariants as event
 use Rattle.rbd_world.specs.declared.event.Outcome.{Outcome}
 use Rattle.rbd_world.specs.Run.{Began, Did, Expired, Happening, Heard, House, Itself, Nothing, OnWay, Refused, Trimmed, Waited}
-use Rattle.rbd_world.specs.Sound.{IsNewWorld}
+use Rattle.rbd_world.specs.Sound.{IsNewWorld, first_life}
+use Rattle.rbd_world.proofs.FreshLives.{fresh_locks}
 use Rattle.rbd_world.specs.Step.{BeginsIn, Does, Goes, IsWorldStep, begins_of, come, delivered, done_by, ended_watch, goes_on_by, heard_by, is_begun, next_number, operation_at, polled, polled_in, releases, reply_at, reply_on_way, restarted, restarted_of, submitted}
 use Rattle.rbd_world.specs.World.{LivesView, WorldView, client_in, late_of, lives_in, records_in, running_of, sent_in, site_in}
 use Rattle.rbd_schedule.specs.Starts.{is_ended}
@@ -410,7 +411,7 @@ module _ {R : Type 0} (stands : R → Standing) (changer : ℕ) where
 
   -- ---- a new world
 
-  pub begins_unhindered : (w : WorldView R) → IsNewWorld stands w → IsUnhindered stands changer w
+  pub begins_unhindered : (w : WorldView R) → IsNewWorld w → IsUnhindered stands changer w
   begins_unhindered w new = record {
     late = λ session l there. (new.lives session l there).late;
     runs = λ session l there. ap is_some (new.lives session l there).runs;
@@ -431,5 +432,5 @@ module _ {R : Type 0} (stands : R → Standing) (changer : ℕ) where
           let same : first.client ≡ c = same_Some first.client c (sym first.runs ∙ sym (ap running_of at) ∙ there) in
           subst (IsTame stands (session == changer)) same (record {
             slots = λ slot r runs. absurd (none-some r (sym (ap running_in (first.fresh.slots slot)) ∙ runs));
-            locks = λ s image. subst IsFree (sym (first.fresh.locks s image)) (record { quiesced = refl; asked = refl });
+            locks = λ s image. subst IsFree (sym (fresh_locks (first_life session) l.home first.client first.fresh s image)) (record { quiesced = refl; asked = refl });
           })

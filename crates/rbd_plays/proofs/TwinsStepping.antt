@@ -90,7 +90,7 @@ module _ {R : Type 0} (stands : R → Standing) where
   gone_alike : (p q : Option (ClientView R)) → p ≡ None → q ≡ None → IsClientAlikeIf stands p q
   gone_alike p q gone other = subst (λ z. IsClientAlikeIf stands z q) (sym gone) other
 
-  anew_alike : (who : _) (home there : SiteId) (p q : Option (ClientView R)) → there ≡ home → IsFreshIf stands who home p → IsFreshIf stands who there q → IsClientAlikeIf stands p q
+  anew_alike : (who : _) (home there : SiteId) (p q : Option (ClientView R)) → there ≡ home → IsFreshIf who home p → IsFreshIf who there q → IsClientAlikeIf stands p q
   anew_alike who home there None q same fresh other = absurd fresh
   anew_alike who home there (Some x) None same fresh other = absurd other
   anew_alike who home there (Some x) (Some y) same fresh other = fresh_alike stands who home there x y same fresh other

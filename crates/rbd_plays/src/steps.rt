@@ -19,7 +19,7 @@ ghost use Rattle.rbd_world.specs.declared.event.Outcome.{Outcome};
 
 /// New worlds of the same homes can't be told apart.
 pub fn new_worlds_are_twins()
-    ensures { (homes : List SiteId) (v w : WorldView Standing) → IsNewWorld as_is v → IsNewWorld as_is w
+    ensures { (homes : List SiteId) (v w : WorldView Standing) → IsNewWorld v → IsNewWorld w
         → AreAtHome homes v.lives → AreAtHome homes w.lives → AreTwins as_is v w }
 {}
 

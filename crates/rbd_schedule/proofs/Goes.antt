@@ -543,7 +543,7 @@ given_none r empty s = by (slice_get r.queues.items s) refl
     by (Some q) e = (subst IsEmptyQueue (get_or_from_slice_get r.queues.items s q q e) (All-get_or IsEmptyQueue r.queues.items s q (slice_get_within r.queues.items s q e) empty)).commands
 
 -- a new runner
-pub keeps_new : (r : Runner) → IsSoundWorld as_is (seen r.world) → length r.queues.items ≤ 32 → All IsEmptyQueue r.queues.items → IsNewWorld as_is (seen r.world)
+pub keeps_new : (r : Runner) → IsSoundWorld as_is (seen r.world) → length r.queues.items ≤ 32 → All IsEmptyQueue r.queues.items → IsNewWorld (seen r.world)
     → ((line : ℕ) → has_line line r.over ≡ false) → ((number : ℕ) → has_mark number r.heard ≡ false) → r.highest ≡ 0 → r.sorted ≡ 0 → ((session : ℕ) → inbox_of r session ≡ []) → KeepsUp r
 keeps_new r sound few empty new over heard highest sorted inboxes = record {
   sound = sound;

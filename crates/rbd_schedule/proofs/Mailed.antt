@@ -107,7 +107,7 @@ module _ {R : Type 0} (stands : R → Standing) where
       by number (inl before) = let less = was.heard number before in omega (arith, less, longer)
       by number (inr now) = let less = hears_there e result old step.0 was.numbers number now in omega (arith, less, longer)
 
-  pub mailed_first : (w : WorldView R) → IsNewWorld stands w → IsMailed w
+  pub mailed_first : (w : WorldView R) → IsNewWorld w → IsMailed w
   mailed_first w new = record {
     ids = new.ids;
     numbers = subst (AreNumberedFrom 1) (sym new.mail) tt;

@@ -60,7 +60,7 @@ homes_of sessions = map (λ (d : Declared). d.home) sessions
 -- schedule; and all that happened on the way is one run.
 pub record IsPlay {R : Type 0} (stands : R → Standing) (script : Script) (w : WorldView R) : Type 0 where
   pub first : WorldView R
-  pub new : IsNewWorld stands first
+  pub new : IsNewWorld first
   pub homes : AreAtHome (homes_of script.sessions) first.lives
   pub plays : PlaysScript stands script first w
   pub told : HasRun w

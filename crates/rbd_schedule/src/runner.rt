@@ -52,7 +52,7 @@ impl Runner {
     /// A new world of a script's sessions, which were given nothing so far.
     pub fn new(alloc: Global, sessions: &[Declared]) -> Result<Self, NoMemory>
         requires { length sessions.now ≤ 32 }
-        ensures new { IfOk result (λ r. IsNewWorld as_is (seen r.world)) }
+        ensures new { IfOk result (λ r. IsNewWorld (seen r.world)) }
         ensures homes { IfOk result (λ r. AreAtHome (homes_of sessions.now) (seen r.world).lives) }
         ensures keeps { IfOk result KeepsUp }
         ensures given { IfOk result (λ r. (session : ℕ) → given_to r session ≡ []) }

@@ -232,10 +232,17 @@ module _ {R : Type 0} (stands : R → Standing) (slot : ℕ) (start : Running R)
         request = there.stands;
         track = ap (λ due. record { place = r.place; turn = r.turn; due = due; lines = lines_of lines }) (sym none_left) ∙ sym there.track;
         asks = asks;
-        on =
-            subst (IsOnTrack slot start.extent true (record { labels = labels; plan = last })) (sym there.track)
-            (subst (λ s. IsOnTrack slot start.extent true s (track_with due r lines)) there.stands (on_asking (stands r.request) (track_with due r lines) there.on.0 there.asks there.on.1));
       })
+
+  -- and there it keeps to its line
+  pub stops_on_track : (r : Running R) (lines : LinesView) (due : Option (List ℕ)) → IsAdvancing flow.More r lines due → wait_wanted (stands r.request).plan ≡ None
+      → IsOnTrack slot r.extent true (stands r.request) (track_of r lines)
+  stops_on_track r lines due a none =
+      let there = stops_at_operation slot start.extent labels last final (stands r.request) (track_with due r lines) a.going none in
+      let none_left = none_due (stands r.request) (track_with due r lines) there.on.0 there.asks there.on.1 in
+      subst (λ e. IsOnTrack slot e true (stands r.request) (track_of r lines)) (sym a.extent)
+      (subst (IsOnTrack slot start.extent true (stands r.request)) (ap (λ due. record { place = r.place; turn = r.turn; due = due; lines = lines_of lines }) none_left)
+      (on_asking (stands r.request) (track_with due r lines) there.on.0 there.asks there.on.1))
 
   pub ended_others : (r : Running R) (lines after : LinesView) → LeavesOthers slot (lines_of start_lines) (lines_of lines) → lines_of after ≡ line_changed_at r.place (without slot) (lines_of lines)
       → LeavesOthers slot (lines_of start_lines) (lines_of after)

@@ -25,7 +25,7 @@ use Rattle.rbd_slots.specs.Lines.{LinesView, lines_of}
 use Rattle.rbd_slots.specs.OnTrack.{IsOnTrack, IsThere, IsSomewhere, AreFair, LeavesOthers}
 use Rattle.rbd_slots.specs.Track.{Track, line_in, course_in, course_of, run}
 use Rattle.rbd_slots.specs.Advance.{track_of, fed_by, GoesFurther, AdvancesTo}
-use Rattle.rbd_slots.specs.Session.{SessionView, IsSoundSession, IsLowest, IsNewcomer, OfRunning, ComesToIn, lowest_after, refusal_in, held_in, running_in, running_at}
+use Rattle.rbd_slots.specs.Session.{SessionView, IsSoundSession, IsLowest, IsNewcomer, OfRunning, ComesToIn, KeepsToItsLine, lowest_after, refusal_in, held_in, running_in, running_at}
 
 abbrev pub nothing : {T : Type 0} → Option T
 nothing = None
@@ -268,14 +268,9 @@ gets_lowest slots lowest slot old less from to = go (nat_lt slot lowest) refl
         by (inl same) = ap (λ k. held_in k (slice_set slots slot None)) same ∙ get_or-set_same slots slot None None less
         by (inr differ) = get_or-set_other slots slot lowest None None differ ∙ old.free
 
-goes_well : {R : Type 0} (stands : R → Standing) (slot : ℕ) (to : Standing) (t : Track) (r q : Running R) (lines : LinesView) → GoesFurther stands slot to t None r q lines
-    → IsWell stands slot (Some (occupant.Running q)) lines
-goes_well stands slot to t r q lines goes = (
-  subst (λ e. IsOnTrack slot e true (stands q.request) (track_of q lines)) (sym goes.extent)
-      (subst (λ s. IsOnTrack slot r.extent true s (track_of q lines)) (sym goes.request)
-      (subst (λ x. IsOnTrack slot r.extent true to x) (sym goes.track) goes.on)),
-  subst (λ (s : Standing). IsAsking s.plan) (sym goes.request) goes.asks,
-)
+further_asks : {R : Type 0} (stands : R → Standing) (slot : ℕ) (to : Standing) (t : Track) (r q : Running R) (lines : LinesView) → GoesFurther stands slot to t None r q lines
+    → IsAsking (stands q.request).plan
+further_asks stands slot to t r q lines goes = subst (λ (s : Standing). IsAsking s.plan) (sym goes.request) goes.asks
 
 ended_well : {R : Type 0} (stands : R → Standing) (slot : ℕ) (labels : Label → Plan) (plan : Plan) (t : Track) (reply : Reply) (r q : Running R) (lines : LinesView)
     → AdvancesTo stands slot labels plan t (Some reply) r q lines → (site : SiteId) (image : ℕ) → member_of slot (lines_of lines site image) ≡ None
@@ -286,23 +281,26 @@ ended_well stands slot labels (Note site image event next) t reply r q lines com
 ended_well stands slot labels (Goto label) t reply r q lines comes site_at image_at = absurd (none-some reply (sym comes.none))
 
 module _ {R : Type 0} (stands : R → Standing) where
-  further_well : (slot : ℕ) (labels : Label → Plan) (plan : Plan) (t : Track) (r q : Running R) (lines : LinesView) → AdvancesTo stands slot labels plan t None r q lines → IsWell stands slot (Some (occupant.Running q)) lines
-  further_well slot labels (Return reply) t r q lines comes = absurd (none-some reply comes.reply)
-  further_well slot labels (Ask site why o next) t r q lines comes = goes_well stands slot (record { labels = labels; plan = Ask site why o next }) t r q lines comes
-  further_well slot labels (Await w next) t r q lines comes = goes_well stands slot (record { labels = labels; plan = Await w next }) t r q lines comes
-  further_well slot labels (Note site image event next) t r q lines comes = goes_well stands slot (record { labels = labels; plan = Note site image event next }) t r q lines comes
-  further_well slot labels (Goto label) t r q lines comes = goes_well stands slot (record { labels = labels; plan = Goto label }) t r q lines comes
+  comes_asking : (slot : ℕ) (labels : Label → Plan) (plan : Plan) (t : Track) (r q : Running R) (lines : LinesView) → AdvancesTo stands slot labels plan t None r q lines → IsAsking (stands q.request).plan
+  comes_asking slot labels (Return reply) t r q lines comes = absurd (none-some reply comes.reply)
+  comes_asking slot labels (Ask site why o next) t r q lines comes = further_asks stands slot (record { labels = labels; plan = Ask site why o next }) t r q lines comes
+  comes_asking slot labels (Await w next) t r q lines comes = further_asks stands slot (record { labels = labels; plan = Await w next }) t r q lines comes
+  comes_asking slot labels (Note site image event next) t r q lines comes = further_asks stands slot (record { labels = labels; plan = Note site image event next }) t r q lines comes
+  comes_asking slot labels (Goto label) t r q lines comes = further_asks stands slot (record { labels = labels; plan = Goto label }) t r q lines comes
 
-  comes_well : (slot : ℕ) (f : Fed) (result : Option Reply) (r : Running R) (o : Option (Occupant R)) (lines after : LinesView) → ComesToIn stands slot lines f result r o after → IsWell stands slot o after
-  comes_well slot f None r (Some (occupant.Running q)) lines after comes =
-      further_well slot (stands r.request).labels (at_operation (stands r.request).labels (plan_after (stands r.request).plan f))
-      (run slot (plan_after (stands r.request).plan f) (fed_by slot r.extent (track_of r lines) (stands r.request).plan f)) r q after comes.1
-  comes_well slot f (Some reply) r (Some (occupant.Running q)) lines after comes = absurd (none-some reply (sym comes.0))
-  comes_well slot f (Some reply) r None lines after comes =
+  comes_well : (slot : ℕ) (f : Fed) (result : Option Reply) (r : Running R) (o : Option (Occupant R)) (lines after : LinesView) → ComesToIn stands slot lines f result r o after → KeepsToItsLine stands slot o after
+      → IsWell stands slot o after
+  comes_well slot f None r (Some (occupant.Running q)) lines after comes keeps = (
+    keeps,
+    comes_asking slot (stands r.request).labels (at_operation (stands r.request).labels (plan_after (stands r.request).plan f))
+        (run slot (plan_after (stands r.request).plan f) (fed_by slot r.extent (track_of r lines) (stands r.request).plan f)) r q after comes.1,
+  )
+  comes_well slot f (Some reply) r (Some (occupant.Running q)) lines after comes keeps = absurd (none-some reply (sym comes.0))
+  comes_well slot f (Some reply) r None lines after comes keeps =
       ended_well stands slot (stands r.request).labels (at_operation (stands r.request).labels (plan_after (stands r.request).plan f))
       (run slot (plan_after (stands r.request).plan f) (fed_by slot r.extent (track_of r lines) (stands r.request).plan f)) reply r r after comes.1
-  comes_well slot f None r None lines after comes = absurd (true≢false (sym comes.0))
-  comes_well slot f result r (Some (occupant.Refused line refusal)) lines after comes = elim comes [ ]
+  comes_well slot f None r None lines after comes keeps = absurd (true≢false (sym comes.0))
+  comes_well slot f result r (Some (occupant.Refused line refusal)) lines after comes keeps = elim comes [ ]
 
   comes_lowest : (slots : List (Option (Occupant R))) (lowest slot : ℕ) (f : Fed) (result : Option Reply) (r : Running R) (o : Option (Occupant R)) (lines after : LinesView)
       → IsLowest lowest slots → slot < length slots → 1 ≤ slot → slot ≤ 65 → held_in slot slots ≡ Some (occupant.Running r) → ComesToIn stands slot lines f result r o after
@@ -314,9 +312,10 @@ module _ {R : Type 0} (stands : R → Standing) where
   comes_lowest slots lowest slot f result r (Some (occupant.Refused line refusal)) lines after old less from to is comes = elim comes [ ]
 
   pub fed_sound : (s : SessionView R) → IsSoundSession stands s → (slot : ℕ) (f : Fed) (result : Option Reply) (o : Option (Occupant R)) (after : LinesView)
-      → OfRunning (λ r. ComesToIn stands slot s.lines f result r o after) (held_in slot s.slots) → LeavesOthers slot (lines_of s.lines) (lines_of after) → AreFair (lines_of after)
+      → OfRunning (λ r. ComesToIn stands slot s.lines f result r o after) (held_in slot s.slots) → KeepsToItsLine stands slot o after
+      → LeavesOthers slot (lines_of s.lines) (lines_of after) → AreFair (lines_of after)
       → IsSoundSession stands (record { instance = s.instance; home = s.home; slots = slice_set s.slots slot o; lowest = lowest_after s.lowest slot (is_some result); lines = after })
-  fed_sound s sound slot f result o after comes leaves fair = go (held_in slot s.slots) refl comes
+  fed_sound s sound slot f result o after comes keeps leaves fair = go (held_in slot s.slots) refl comes
     where
       go : (h : Option (Occupant R)) → held_in slot s.slots ≡ h → OfRunning (λ r. ComesToIn stands slot s.lines f result r o after) h
           → IsSoundSession stands (record { instance = s.instance; home = s.home; slots = slice_set s.slots slot o; lowest = lowest_after s.lowest slot (is_some result); lines = after })
@@ -326,6 +325,6 @@ module _ {R : Type 0} (stands : R → Standing) where
           let to = range.1 in
           set_sound stands s sound slot range.0 range.1 o (lowest_after s.lowest slot (is_some result)) after leaves fair
           (comes_lowest s.slots s.lowest slot f result r o s.lines after sound.lowest (omega (arith, len, to)) range.0 (omega (arith, to)) is comes)
-          (comes_well slot f result r o s.lines after comes)
+          (comes_well slot f result r o s.lines after comes keeps)
       go (Some (occupant.Refused line refusal)) is comes = elim comes [ ]
       go None is comes = elim comes [ ]

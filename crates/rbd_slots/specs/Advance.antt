@@ -162,10 +162,15 @@ pub record GoesFurther {R : Type 0} (stands : R → Standing) (slot : ℕ) (to :
   pub request : stands new.request ≡ to
   pub track : track_of new lines ≡ t
   pub asks : IsAsking to.plan
-  pub on : IsOnTrack slot old.extent true to t
 
 abbrev pub AdvancesTo : {R : Type 0} → (stands : R → Standing) → (slot : ℕ) → (labels : Label → Plan) → Plan → Track
     → Option Reply → (old new : Running R) → LinesView → Type 0
 AdvancesTo stands slot labels (Return reply) t result old new lines = HasEnded slot reply t result lines
 AdvancesTo stands slot labels plan t result old new lines =
     GoesFurther stands slot (record { labels = labels; plan = plan }) t result old new lines
+
+-- what a feeding leaves of a request that hasn't ended keeps to its line
+abbrev pub StaysOnTrack : {R : Type 0} → (stands : R → Standing) → (slot : ℕ) → Option Reply → Running R → LinesView
+    → Type 0
+StaysOnTrack stands slot None r lines = IsOnTrack slot r.extent true (stands r.request) (track_of r lines)
+StaysOnTrack stands slot (Some reply) r lines = Unit {0}

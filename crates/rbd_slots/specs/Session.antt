@@ -237,6 +237,13 @@ IsFed stands slot f result old new =
     OfRunning (λ r. ComesToIn stands slot old.lines f result r (held_in slot new.slots) new.lines)
     (held_in slot old.slots)
 
+-- the request in a slot keeps to its line, where one runs
+abbrev pub KeepsToItsLine : {R : Type 0} → (stands : R → Standing) → (slot : ℕ) → Option (Occupant R) → LinesView
+    → Type 0
+KeepsToItsLine stands slot (Some (occupant.Running r)) lines =
+    IsOnTrack slot r.extent true (stands r.request) (track_of r lines)
+KeepsToItsLine stands slot o lines = Unit {0}
+
 -- a request that was made ready for an answer
 pub record IsPrepared {R : Type 0} (stands : R → Standing) (is_ready : R → Answer → Type 0) (slot : ℕ) (old : Running R)
     (before : LinesView) (f : Fed) (new : Running R) (after : LinesView) : Type 0 where

@@ -45,12 +45,16 @@ abbrev pub line_in : Option ImageAt → Lines → List Member
 line_in None lines = []
 line_in (Some p) lines = lines p.site p.image
 
--- ---- its course
+-- ---- its place and its course
 
 abbrev pub place_in : Option ImageAt → Option Member → Option PlaceInLine
 place_in (Some p) (Some m) = Some
     (record { site = p.site; image = p.image; sharing = m.sharing; stage = m.stage })
 place_in _ _ = None
+
+-- the request's place in the line that it is in
+abbrev pub place_in_line : (slot : ℕ) → Track → Option PlaceInLine
+place_in_line slot t = place_in t.place (member_of slot (line_in t.place t.lines))
 
 -- how the request goes through its line, without the other members
 abbrev pub course_in : (turn : Option ℕ) → (due : List ℕ) → Option ImageAt → Option Member → Course
@@ -82,7 +86,7 @@ track_noted slot t = record t {
 -- tickets if it goes beside others.
 abbrev pub track_looked : (slot : ℕ) → Option Extent → HeaderView → Track → Track
 track_looked slot e h t = record t {
-  due = due_of (course_of slot t).place (objects_asked h e);
+  due = due_of (place_in_line slot t) (objects_asked h e);
   lines = line_changed_at t.place (changed_member slot passed) t.lines;
 }
 
@@ -92,7 +96,7 @@ ended_by slot t = record { place = None; turn = None; due = []; lines = line_cha
 
 abbrev pub on_track : (slot : ℕ) → Moves Track
 on_track slot = record {
-  place = λ (t : Track). (course_of slot t).place;
+  place = place_in_line slot;
   join = λ site image sharing (t : Track). record t {
     place = Some (place_of_image site image);
     lines = line_changed_at (Some (place_of_image site image))

@@ -3,7 +3,7 @@ use Rattle.std.specs.Prelude.{ℕ, ◌&&◌, ◌||◌, not, Bool, false, List, O
 use Rattle.rbd_machine.specs.Course.{PlaceInLine, is_waiting}
 use Rattle.rbd_machine.specs.declared.stage.Stage.{Stage}
 use Rattle.rbd_queue.specs.Line.{Member, may_pass, has_turn}
-use Rattle.rbd_slots.specs.Track.{Track, line_in, course_of}
+use Rattle.rbd_slots.specs.Track.{Track, line_in, place_in_line}
 
 abbrev pub awaits_look : Option PlaceInLine → Bool
 awaits_look None = false
@@ -11,7 +11,7 @@ awaits_look (Some p) = is_waiting p.stage
 
 -- whether the line holds the request back from its look under the lock
 abbrev pub awaits_line : (slot : ℕ) → Track → Bool
-awaits_line slot t = awaits_look (course_of slot t).place && not (may_pass slot (line_in t.place t.lines))
+awaits_line slot t = awaits_look (place_in_line slot t) && not (may_pass slot (line_in t.place t.lines))
 
 abbrev pub lacks_turn : (slot : ℕ) → (turn : Option ℕ) → List Member → Bool
 lacks_turn slot None members = false

@@ -3,7 +3,7 @@ ghost use Rattle.std.specs.Prelude.{◌≡◌, ℕ, ◌≤◌, cond, [], ◌∷�
 ghost use Rattle.rbd_machine.specs.Path.{at_operation};
 ghost use Rattle.rbd_machine.specs.Plan.{plan_after};
 ghost use Rattle.rbd_queue.specs.Line.{is_member, changed_member, new_member, without, may_pass};
-ghost use Rattle.rbd_slots.specs.Advance.{objects_or_none, track_with, track_of, past_its_look, fed_by, wanted_by, no_operation, IsGoingOn, IsSameRequest, IsJoin, MayPass, IsFedWell, AdvancesTo};
+ghost use Rattle.rbd_slots.specs.Advance.{objects_or_none, track_with, track_of, past_its_look, fed_by, wanted_by, no_operation, IsGoingOn, IsSameRequest, IsJoin, MayPass, IsFedWell, AdvancesTo, StaysOnTrack};
 ghost use Rattle.rbd_slots.specs.OnTrack.{AreFair, LeavesOthers};
 ghost use Rattle.rbd_slots.specs.Lines.{members_at, members_of, lines_of, room_at, room_of, is_key, CanOpen, MayEnterAll};
 ghost use Rattle.rbd_slots.specs.Track.{line_changed_at, done_with, given_tickets, passed_by, run};
@@ -28,6 +28,7 @@ pub fn advance<R: Request>(
         (fed_by slot running.old.extent (track_of running.old lines.old)
         (R.stands running.old.request).plan fed.now))
         result running.old running.new lines.new }
+    ensures keeps { StaysOnTrack R.stands slot result running.new lines.new }
     ensures others { LeavesOthers slot (lines_of lines.old) (lines_of lines.new) }
     ensures fair { AreFair (lines_of lines.new) }
 {

@@ -5,7 +5,7 @@ ghost use Rattle.rbd_machine.specs.Plan.{IsAsking};
 ghost use Rattle.rbd_slots.specs.Advance.{track_of, IsFedWell, IsSameStand};
 ghost use Rattle.rbd_slots.specs.Lines.{lines_of, members_at};
 ghost use Rattle.rbd_slots.specs.OnTrack.{IsSomewhere, AreFair, LeavesOthers};
-ghost use Rattle.rbd_slots.specs.Session.{ComesToIn, OfRunning, IsPrepared};
+ghost use Rattle.rbd_slots.specs.Session.{ComesToIn, OfRunning, IsPrepared, KeepsToItsLine};
 
 use crate::advance::advance;
 use crate::lines::Lines;
@@ -48,6 +48,7 @@ pub fn feed_in<R: Request>(
     requires { OfRunning (λ r. IsFedWell R.stands R.is_ready slot r lines.old fed.now) occupant.old }
     ensures comes { OfRunning (λ r. ComesToIn R.stands slot lines.old fed.now result r occupant.new lines.new)
         occupant.old }
+    ensures keeps { KeepsToItsLine R.stands slot occupant.new lines.new }
     ensures others { LeavesOthers slot (lines_of lines.old) (lines_of lines.new) }
     ensures fair { AreFair (lines_of lines.new) }
 {

@@ -34,32 +34,33 @@ use Rattle.rbd_world.specs.Step.{IsFresh}
 use Rattle.rbd_world.specs.Watched.{HasWatchedOn}
 use Rattle.rbd_world.specs.World.{LivesView, WorldView, client_in, late_at, late_of, lives_in, sent_in, session_of_client}
 use Rattle.rbd_world.proofs.Changed.{lives_there}
+use Rattle.rbd_world.proofs.FreshLives.{fresh_is_sound, fresh_locks}
 use Rattle.rbd_world.proofs.OrderedWorld.{none_in_order}
 
 module _ {R : Type 0} (stands : R → Standing) where
   -- ---- a life without requests
 
-  module _ (who : Instance) (home : SiteId) (c : ClientView R) (fresh : IsFresh stands who home c) where
+  module _ (who : Instance) (home : SiteId) (c : ClientView R) (fresh : IsFresh who home c) where
     pub fresh_living : (there : SiteId) (session : ℕ) (run : List Happening) → who.session ≡ session → home ≡ there → IsRunning who run → release_of who run ≡ None → IsLiving stands there session run (λ slot. nothing_known) c
     fresh_living there session run whose same runs none = record {
       whose = ap (λ (i : Instance). i.session) fresh.instance ∙ whose;
       runs = subst (λ i. IsRunning i run) (sym fresh.instance) runs;
       at_home = fresh.at_home ∙ same;
-      sound = fresh.sound;
+      sound = fresh_is_sound who home c stands fresh;
       know = λ slot. subst (λ o. KnowsIn stands slot (running_in o) c.session.lines nothing_known) (sym (fresh.slots slot)) refl;
       held = λ slot. subst (IsHeldRightly stands (seat_of_home session there) c.session.instance run) (sym (fresh.slots slot)) tt;
       ways = λ slot. subst (λ o. KeepsToItsWay stands run slot c.session.lines (slot_state slot c.slots).way (running_in o)) (sym (fresh.slots slot)) tt;
       learned = λ slot. subst (λ o. HasLearnedIf stands run (running_in o) nothing_known) (sym (fresh.slots slot)) tt;
       releases = fresh.release ∙ sym none ∙ ap (λ i. release_of i run) (sym fresh.instance);
       watches = record {
-        counts = λ s image watched. absurd (true≢false (sym watched ∙ ap (λ (l : LockState). l.watched) (fresh.locks s image)));
-        ways = λ slot. subst (λ (s : SlotState). HasWatchedOn s.way c.session.instance run) (sym (fresh.sound.free slot (fresh.slots slot))) tt;
+        counts = λ s image watched. absurd (true≢false (sym watched ∙ ap (λ (l : LockState). l.watched) (fresh_locks who home c fresh s image)));
+        ways = λ slot. subst (λ (s : SlotState). HasWatchedOn s.way c.session.instance run) (sym (fresh.states slot)) tt;
       };
       first = λ slot. subst (λ o. StandsFirstIf run slot c.session.lines (running_in o)) (sym (fresh.slots slot)) tt;
     }
 
     pub fresh_true : (s : SiteId) (r : Records) (me : Instance) → IsTrueOf s r me (λ slot. nothing_known) c
-    fresh_true s r me = new_client_is_true s r me stands c fresh.sound fresh.slots (fresh.locks s)
+    fresh_true s r me = new_client_is_true s r me stands c (fresh_is_sound who home c stands fresh) fresh.slots (fresh_locks who home c fresh s)
 
     pub fresh_runs_none : (x : ℕ) → running_at x c.session ≡ None
     fresh_runs_none x = ap running_in (fresh.slots x)
@@ -74,12 +75,12 @@ module _ {R : Type 0} (stands : R → Standing) where
   first_of (InSlot session slot) = first_life session
   first_of (Sending session slot) = first_life session
 
-  module _ (w : WorldView R) (new : IsNewWorld stands w) where
+  module _ (w : WorldView R) (new : IsNewWorld w) where
     -- the client of a session is that of its first life
     record HasFirst (session : ℕ) (c : ClientView R) : Type 0 where
       lives : LivesView R
       there : lives_in session w.lives ≡ Some lives
-      fresh : IsFresh stands (first_life session) lives.home c
+      fresh : IsFresh (first_life session) lives.home c
 
     has_first : (session : ℕ) (c : ClientView R) → client_in session w.lives ≡ Some c → HasFirst session c
     has_first session c is =
@@ -88,7 +89,7 @@ module _ {R : Type 0} (stands : R → Standing) where
         record {
           lives = has.lives_are;
           there = has.there;
-          fresh = subst (IsFresh stands (first_life session) has.lives_are.home) (same_Some first.client c (sym first.runs ∙ has.runs)) first.fresh;
+          fresh = subst (IsFresh (first_life session) has.lives_are.home) (same_Some first.client c (sym first.runs ∙ has.runs)) first.fresh;
         }
 
     no_line : (session slot : ℕ) → line_at session slot w.lives ≡ None
@@ -107,7 +108,7 @@ module _ {R : Type 0} (stands : R → Standing) where
 
     first_lives : (session : ℕ) (l : LivesView R) → lives_in session w.lives ≡ Some l → AreLivesOf [] (home_of (lives_in session w.lives)) session l
     first_lives session l is =
-        let first : IsFirst stands session l = new.lives session l is in
+        let first : IsFirst session l = new.lives session l is in
         record {
           home_is = sym (ap home_of is);
           whose = ap (λ (i : Instance). i.session) first.latest;
@@ -124,7 +125,7 @@ module _ {R : Type 0} (stands : R → Standing) where
         let has : HasFirst session c = has_first session c is in
         fresh_living (first_life session) has.lives.home c has.fresh (home_of (lives_in session w.lives)) session [] refl (sym (ap home_of has.there)) refl refl
 
-  pub new_world_is_sound : (w : WorldView R) → IsNewWorld stands w → IsSoundWorld stands w
+  pub new_world_is_sound : (w : WorldView R) → IsNewWorld w → IsSoundWorld stands w
   new_world_is_sound w new = record {
     told = record {
       run = [];
@@ -151,7 +152,9 @@ module _ {R : Type 0} (stands : R → Standing) where
     apart = λ line session slot other there is also. absurd (none-some line (sym (no_line w new session slot) ∙ is));
     slots = λ line begun. absurd (none-some begun.asked begun.is);
     truth = λ session c is s. let has = has_first w new session c is in fresh_true (first_life session) has.lives.home c has.fresh s _ c.session.instance;
-    owns = λ session c is s image. ap (λ (l : LockState). l.owned) ((has_first w new session c is).fresh.locks s image);
+    owns = λ session c is s image.
+        let has = has_first w new session c is in
+        ap (λ (l : LockState). l.owned) (fresh_locks (first_life session) has.lives.home c has.fresh s image);
     late = none_late w new;
     sending = λ session slot x is. absurd (none-some x (sym (none_late w new session slot) ∙ is));
     was_left = λ session slot x is. absurd (none-some x (sym (none_late w new session slot) ∙ is));

@@ -1,5 +1,5 @@
 -- What comes of a client that was made ready comes of it as it was before.
-use Rattle.std.proofs.Common.{◌≡◌, ◌≢◌, ℕ, true, List, Option, Some, None, refl, sym, ap, ◌∙◌, subst}
+use Rattle.std.proofs.Common.{◌≡◌, ◌≢◌, ℕ, List, Option, Some, None, refl, sym, ap, ◌∙◌, subst}
 use Rattle.std.proofs.lemmas.Bool.{true≢false}
 use Rattle.std.specs.Prelude.{IsSome, is_some}
 use Rattle.std.proofs.lemmas.Option.{none-some}
@@ -31,7 +31,7 @@ use Rattle.rbd_slots.specs.declared.running.Occupant.TheVariants as occupant
 use Rattle.rbd_slots.specs.declared.running.Running.{Running}
 use Rattle.rbd_slots.specs.Advance.{track_of, fed_by, GoesFurther, AdvancesTo, IsSameStand}
 use Rattle.rbd_slots.specs.Lines.{LinesView, lines_of}
-use Rattle.rbd_slots.specs.OnTrack.{LeavesOthers, IsOnTrack}
+use Rattle.rbd_slots.specs.OnTrack.{LeavesOthers}
 use Rattle.rbd_slots.specs.Session.{SessionView, IsAlike, IsAlikeIn, IsFed, ComesToIn, OfRunning, held_in, look_under_lock_at, running_in}
 use Rattle.rbd_slots.specs.Track.{Track, run}
 use Rattle.rbd_slots.proofs.Readied.{same_track}
@@ -53,7 +53,6 @@ module _ {R : Type 0} (stands : R → Standing) where
     request = goes.request;
     track = goes.track;
     asks = goes.asks;
-    on = subst (λ e. IsOnTrack slot e true to t) same.extent goes.on;
   }
 
   comes_before : (slot : ℕ) (labels : Label → Plan) (plan : Plan) (t : Track) (result : Option Reply) (r q p : Running R) (lines : LinesView) → IsSameStand stands r q

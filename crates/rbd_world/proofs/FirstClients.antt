@@ -3,7 +3,6 @@ use Rattle.std.proofs.Common.{◌≡◌, ◌⊎◌, inl, inr, ℕ, zero, suc, �
 use Rattle.std.proofs.Math.ListN.{get_or}
 use Rattle.std.proofs.lemmas.Option.{none-some, slice_get_cases, slice_get_within}
 use Rattle.rbd_kinds.specs.declared.id.SiteId.{SiteId}
-use Rattle.rbd_machine.specs.Plan.{Standing}
 use Rattle.rbd_world.specs.Sound.{AreAtHome, AreFirst, IsAtHome, IsFirst}
 use Rattle.rbd_world.specs.World.{LivesView}
 
@@ -22,10 +21,10 @@ found_in (z ∷ xs) x (suc k) y is = by (found_in xs x k y is)
     by (inl there) = inl there
     by (inr (at, same)) = inr (ap suc at, same)
 
-module _ {R : Type 0} (stands : R → Standing) (homes : List SiteId) where
+module _ {R : Type 0} (homes : List SiteId) where
   pub record IsAt (k : ℕ) (l : LivesView R) : Type 0 where
     pub home : (home : SiteId) → slice_get homes k ≡ Some home → l.home ≡ home
-    pub first : IsFirst stands k l
+    pub first : IsFirst k l
 
   -- so many were made
   pub record AreMade (count : ℕ) (lives : List (LivesView R)) : Type 0 where
@@ -45,7 +44,7 @@ module _ {R : Type 0} (stands : R → Standing) (homes : List SiteId) where
       by k m (inl there) = made.each k m there
       by k m (inr (last, same)) = subst (λ n. IsAt n m) (sym (last ∙ made.long)) (subst (IsAt count) same at)
 
-  pub all_first : (count : ℕ) (lives : List (LivesView R)) → AreMade count lives → AreFirst stands lives
+  pub all_first : (count : ℕ) (lives : List (LivesView R)) → AreMade count lives → AreFirst lives
   all_first count lives made k l is = (made.each k l is).first
 
   -- one for each home

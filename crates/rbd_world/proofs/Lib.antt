@@ -16,6 +16,7 @@ pub mod Exactly
 pub mod FedAlike
 pub mod FirstClients
 pub mod FoundFirst
+pub mod FreshLives
 pub mod GoesOn
 pub mod Hearing
 pub mod InLine

@@ -214,7 +214,7 @@ module _ {R : Type 0} (stands : R → Standing) where
   restarts latest (Some c) none below = absurd (true≢false none)
   restarts latest None none below = ap (λ b. cond b (Restarted (next_life latest)) Nothing) below
 
-  pub restart_lives_on : (session : ℕ) (old before : LivesView R) → before ≡ old → restarted_of old.latest old.running ≡ Restarted (next_life old.latest) → (c : ClientView R) → IsFresh stands (next_life old.latest) old.home c
+  pub restart_lives_on : (session : ℕ) (old before : LivesView R) → before ≡ old → restarted_of old.latest old.running ≡ Restarted (next_life old.latest) → (c : ClientView R) → IsFresh (next_life old.latest) old.home c
       → (latest : Instance) → latest ≡ next_life old.latest
       → LivesOn stands (event.Restart session) (restarted_of old.latest old.running) old (record { home = before.home; latest = latest; running = Some c; late = before.late })
   restart_lives_on session old before same h c fresh latest is =

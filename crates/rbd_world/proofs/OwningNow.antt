@@ -43,6 +43,7 @@ use Rattle.rbd_world.specs.Run.{Happening, Nothing, Waited, Began, Did, Refused,
 use Rattle.rbd_world.specs.Sound.{AreLivesOf, IsDue, IsOf, IsSoundWorld}
 use Rattle.rbd_world.specs.Step.{Becomes, BecomesOf, Does, LivesOnIf, RunsOn, done_by, goes_on_by, names_session, polled, polled_in, releases}
 use Rattle.rbd_world.specs.World.{LateView, LivesView, WorldView, client_in, late_of, lives_in, running_of, sent_in}
+use Rattle.rbd_world.proofs.FreshLives.{fresh_locks}
 use Rattle.rbd_world.proofs.Changed.{HasLives, lives_there}
 use Rattle.rbd_world.proofs.LetGo.{other_instance}
 use Rattle.rbd_world.proofs.OwnersCount.{newborn_counts_none}
@@ -237,7 +238,7 @@ module _ {R : Type 0} (stands : R → Standing) (old new : WorldView R) (w : IsS
         → CountsItsLocks d.session.instance (h ∷ w.told.run) d
     runs (Stopped who wanted lost) here due of client on = absurd (none-some d (sym on))
     runs (Restarted who) here due of client fresh = λ s image.
-        ap (λ (st : LockState). st.owned) (fresh.locks s image)
+        ap (λ (st : LockState). st.owned) (fresh_locks who l.home d fresh s image)
         ∙ sym (ap (λ i. owns_in i s image w.told.run) fresh.instance ∙ newborn_counts_none w.told.homes who s image w.told.run w.told.right due)
     runs h here due of client on = goes_on h here due of client l.running refl on
 

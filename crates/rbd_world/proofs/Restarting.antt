@@ -39,7 +39,7 @@ pub record IsReborn {R : Type 0} (stands : R → Standing) (new : WorldView R) (
   pub is : lives_in session new.lives ≡ Some behind
   pub client : ClientView R
   pub runs : behind.running ≡ Some client
-  pub fresh : IsFresh stands (next_life l.latest) l.home client
+  pub fresh : IsFresh (next_life l.latest) l.home client
   pub home : behind.home ≡ l.home
   pub latest : behind.latest ≡ next_life l.latest
   pub late : behind.late ≡ l.late
@@ -231,7 +231,7 @@ module _ {R : Type 0} (stands : R → Standing) where
       by None is on = absurd on
       by (Some m) is on = go m.running refl on.running
         where
-          go : (o : Option (ClientView R)) → m.running ≡ o → IsFreshIf stands (next_life l.latest) l.home o → IsReborn stands new session l
+          go : (o : Option (ClientView R)) → m.running ≡ o → IsFreshIf (next_life l.latest) l.home o → IsReborn stands new session l
           go None runs fresh = absurd fresh
           go (Some d) runs fresh = record { behind = m; is = is; client = d; runs = runs; fresh = fresh; home = on.home; latest = on.latest; late = on.late }
 

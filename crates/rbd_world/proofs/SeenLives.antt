@@ -1,5 +1,6 @@
 -- What an event does to sessions, by their machines, it does so by the plans that they follow.
 use Rattle.std.proofs.Common.{◌≡◌, ℕ, ◌==◌, if◌then◌else◌, Bool, List, map, Option, Some, None, refl, sym, ap, ◌∙◌, subst}
+use Rattle.std.proofs.lemmas.List.{length-map}
 use Rattle.std.proofs.Math.Path.{fun_ext}
 use Rattle.std.proofs.lemmas.Option.{slice_get-map}
 use Rattle.std.specs.List.{flat_map}
@@ -215,18 +216,22 @@ module _ {R : Type 0} (stands : R → Standing) where
   becomes_of_seen e h (Some old) None is = is
   becomes_of_seen e h (Some old) (Some new) is = becomes_seen e h old new is
 
-  pub fresh_seen : (who : Instance) (home : SiteId) (c : ClientView R) → IsFresh stands who home c → IsFresh as_is who home (seen stands c)
+  pub fresh_seen : (who : Instance) (home : SiteId) (c : ClientView R) → IsFresh who home c → IsFresh who home (seen stands c)
   fresh_seen who home c fresh = record {
     instance = fresh.instance;
     at_home = fresh.at_home;
     slots = λ slot. free_slot_seen stands slot c.session.slots (fresh.slots slot);
-    locks = fresh.locks;
+    lowest = fresh.lowest;
+    lines = fresh.lines;
+    states = fresh.states;
+    many = (length-map c.session.slots (seen_slot stands) ∙ fresh.many.0, fresh.many.1);
+    noted = fresh.noted;
+    asked = fresh.asked;
     release = fresh.release;
     heard = fresh.heard;
-    sound = sound_seen stands c fresh.sound;
   }
 
-  fresh_if_seen : (who : Instance) (home : SiteId) (o : Option (ClientView R)) → IsFreshIf stands who home o → IsFreshIf as_is who home (option_map (seen stands) o)
+  fresh_if_seen : (who : Instance) (home : SiteId) (o : Option (ClientView R)) → IsFreshIf who home o → IsFreshIf who home (option_map (seen stands) o)
   fresh_if_seen who home None fresh = fresh
   fresh_if_seen who home (Some c) fresh = fresh_seen who home c fresh
 
@@ -326,7 +331,7 @@ module _ {R : Type 0} (stands : R → Standing) where
 
   -- ---- a new world
 
-  first_seen : (session : ℕ) (l : LivesView R) → IsFirst stands session l → IsFirst as_is session (seen_life stands l)
+  first_seen : (session : ℕ) (l : LivesView R) → IsFirst session l → IsFirst session (seen_life stands l)
   first_seen session l first = record {
     latest = first.latest;
     client = seen stands first.client;
@@ -335,11 +340,11 @@ module _ {R : Type 0} (stands : R → Standing) where
     late = first.late;
   }
 
-  pub are_first_seen : (lives : List (LivesView R)) → AreFirst stands lives → AreFirst as_is (seen_lives stands lives)
+  pub are_first_seen : (lives : List (LivesView R)) → AreFirst lives → AreFirst (seen_lives stands lives)
   are_first_seen lives first = λ session l is. at session l (unseen (seen_life stands) (lives_in session lives) l (sym (lives_in_seen session lives) ∙ is))
     where
-      at : (session : ℕ) (l : LivesView Standing) → (x : LivesView R) × (lives_in session lives ≡ Some x) × (seen_life stands x ≡ l) → IsFirst as_is session l
-      at session l is = subst (IsFirst as_is session) is.2 (first_seen session is.0 (first session is.0 is.1))
+      at : (session : ℕ) (l : LivesView Standing) → (x : LivesView R) × (lives_in session lives ≡ Some x) × (seen_life stands x ≡ l) → IsFirst session l
+      at session l is = subst (IsFirst session) is.2 (first_seen session is.0 (first session is.0 is.1))
 
   home_seen : (home : Option SiteId) (o : Option (LivesView R)) → IsAtHome home o → IsAtHome home (option_map (seen_life stands) o)
   home_seen None None at = at

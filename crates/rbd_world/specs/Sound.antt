@@ -565,15 +565,15 @@ abbrev pub first_life : (session : ℕ) → Instance
 first_life session = record { session = session; life = 0 }
 
 -- a session in its first life, at a home
-pub record IsFirst {R : Type 0} (stands : R → Standing) (session : ℕ) (l : LivesView R) : Type 0 where
+pub record IsFirst {R : Type 0} (session : ℕ) (l : LivesView R) : Type 0 where
   pub latest : l.latest ≡ first_life session
   pub client : ClientView R
   pub runs : l.running ≡ Some client
-  pub fresh : IsFresh stands (first_life session) l.home client
+  pub fresh : IsFresh (first_life session) l.home client
   pub late : l.late ≡ None
 
-abbrev pub AreFirst : {R : Type 0} → (stands : R → Standing) → List (LivesView R) → Type 0
-AreFirst {R} stands lives = (session : ℕ) (l : LivesView R) → lives_in session lives ≡ Some l → IsFirst stands session l
+abbrev pub AreFirst : {R : Type 0} → List (LivesView R) → Type 0
+AreFirst {R} lives = (session : ℕ) (l : LivesView R) → lives_in session lives ≡ Some l → IsFirst session l
 
 abbrev pub IsAtHome : {R : Type 0} → Option SiteId → Option (LivesView R) → Type 0
 IsAtHome None None = Unit {0}
@@ -585,11 +585,11 @@ abbrev pub AreAtHome : {R : Type 0} → (homes : List SiteId) → List (LivesVie
 AreAtHome homes lives = (session : ℕ) → IsAtHome (slice_get homes session) (lives_in session lives)
 
 -- empty sites, no notice, sessions in their first life without requests, and nothing happened
-pub record IsNewWorld {R : Type 0} (stands : R → Standing) (w : WorldView R) : Type 0 where
+pub record IsNewWorld {R : Type 0} (w : WorldView R) : Type 0 where
   pub sites : (s : SiteId) → (site_in s w.sites).log ≡ []
   pub ids : (s : SiteId) → (site_in s w.sites).id ≡ s
   pub mail : w.sites.mail ≡ []
-  pub lives : AreFirst stands w.lives
+  pub lives : AreFirst w.lives
   pub history : w.history ≡ []
   pub calls : w.calls ≡ []
 

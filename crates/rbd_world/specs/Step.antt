@@ -4,7 +4,7 @@ use Rattle.std.specs.List.{list_any, flat_map, range_with_len}
 use Rattle.rbd_client.specs.declared.actor.Actor.{Actor}
 use Rattle.rbd_client.specs.declared.actor.Actor.TheVariants as actor
 use Rattle.rbd_client.specs.Actor.{actor_at, op_wanted}
-use Rattle.rbd_client.specs.Client.{ClientView, heard_with, newcomer, slot_state}
+use Rattle.rbd_client.specs.Client.{ClientView, blank_slot, heard_with, newcomer, slot_state}
 use Rattle.rbd_client.specs.Feeding.{DropsAtRest, IsClientAlike, IsFedBy}
 use Rattle.rbd_client.specs.Sound.{IsSoundClient}
 use Rattle.rbd_commands.specs.declared.command.Command.{Command}
@@ -22,7 +22,6 @@ use Rattle.rbd_kinds.specs.declared.reply.Reply.{Reply}
 use Rattle.rbd_kinds.specs.declared.reply.Reply.TheVariants as reply
 use Rattle.rbd_kinds.specs.Instances.{same_instance}
 use Rattle.rbd_lock.specs.Locks.{heard, lock_state_at}
-use Rattle.rbd_lock.specs.States.{blank_state as unknown}
 use Rattle.rbd_machine.specs.Answers.{CanGive}
 use Rattle.rbd_machine.specs.Label.{Label, Lock}
 use Rattle.rbd_machine.specs.Path.{at_operation}
@@ -274,16 +273,24 @@ pub record IsSameHouse {R : Type 0} (old new : ClientView R) : Type 0 where
   pub release : new.release ≡ old.release
   pub heard : new.heard ≡ old.heard
 
--- a life without requests, which knows of no lock, lets none go, and has heard nothing
-pub record IsFresh {R : Type 0} (stands : R → Standing) (who : Instance) (home : SiteId)
-    (c : ClientView R) : Type 0 where
+-- A life without requests, which knows of no lock, lets none go, and has heard nothing: nobody
+-- stands in a line, each slot is free, and slot 1 is the first to be given.
+pub record IsFresh {R : Type 0} (who : Instance) (home : SiteId) (c : ClientView R) : Type 0 where
   pub instance : c.session.instance ≡ who
   pub at_home : c.session.home ≡ home
   pub slots : (slot : ℕ) → held_in slot c.session.slots ≡ None
-  pub locks : (s : SiteId) (image : ℕ) → lock_state_at s image c.locks ≡ unknown
+  pub lowest : c.session.lowest ≡ 1
+  pub lines : (s : SiteId) (image : ℕ) → lines_of c.session.lines s image ≡ []
+  pub states : (slot : ℕ) → slot_state slot c.slots ≡ blank_slot
+  pub many : (length c.session.slots ≡ 65) × (length c.slots ≡ 65)
+  pub noted : c.locks.entries ≡ []
+  pub asked : c.locks.asked ≡ []
   pub release : c.release ≡ None
   pub heard : c.heard ≡ []
-  pub sound : IsSoundClient stands c
+
+abbrev pub IsFreshIf : {R : Type 0} → Instance → SiteId → Option (ClientView R) → Type 0
+IsFreshIf who home None = ⊥
+IsFreshIf who home (Some c) = IsFresh who home c
 
 module _ {R : Type 0} (stands : R → Standing) where
   -- the lowest free slot has the command's request, at its beginning
@@ -338,10 +345,6 @@ module _ {R : Type 0} (stands : R → Standing) where
   BecomesOf e h None new = new ≡ None
   BecomesOf e h (Some old) None = ⊥
   BecomesOf e h (Some old) (Some new) = Becomes e h old new
-
-  abbrev pub IsFreshIf : Instance → SiteId → Option (ClientView R) → Type 0
-  IsFreshIf who home None = ⊥
-  IsFreshIf who home (Some c) = IsFresh stands who home c
 
   -- what becomes of a session's client: a stopped session has none, and a restarted one a new one
   abbrev pub RunsOn : Event → Happening → SiteId → (old new : Option (ClientView R)) → Type 0

@@ -35,7 +35,7 @@ ghost use Rattle.rbd_world.specs.declared.event.Event.{Event};
 
 /// A new world is sound.
 pub fn worlds_begin_sound()
-    ensures { (w : WorldView Standing) → IsNewWorld as_is w → IsSoundWorld as_is w }
+    ensures { (w : WorldView Standing) → IsNewWorld w → IsSoundWorld as_is w }
 {}
 
 /// A sound world stays sound, whatever event comes.

@@ -87,7 +87,7 @@ impl World {
     /// sites are empty, and nothing happened. NoMemory where memory for it is refused.
     pub fn new(alloc: Global, homes: &[SiteId]) -> Result<Self, NoMemory>
         requires { length homes.now ≤ 32 }
-        ensures new { IfOk result (λ w. IsNewWorld as_is (seen w)) }
+        ensures new { IfOk result (λ w. IsNewWorld (seen w)) }
         ensures clients { IfOk result (λ w. AreAtHome homes.now (seen w).lives) }
         ensures sound { IfOk result (λ w. IsSoundWorld as_is (seen w)) }
     {
@@ -315,7 +315,7 @@ fn client_of<R: Request>(lives: &[Lives<R>], session: SessionNo) -> Option<&Clie
 /// The first life of each session, at its home.
 fn first_lives<R: Request>(alloc: Global, homes: &[SiteId]) -> Result<Vec<Lives<R>>, NoMemory>
     requires { length homes.now ≤ 32 }
-    ensures first { IfOk result (λ lives. AreFirst R.stands lives.items) }
+    ensures first { IfOk result (λ lives. AreFirst lives.items) }
     ensures homes { IfOk result (λ lives. AreAtHome homes.now lives.items) }
 {
     let mut lives = Vec::new(alloc);
@@ -334,7 +334,7 @@ fn first_life<R: Request>(
     session: SessionNo,
     home: SiteId,
 ) -> Result<Lives<R>, NoMemory>
-    ensures first { IfOk result (IsFirst R.stands session) }
+    ensures first { IfOk result (IsFirst session) }
     ensures home { IfOk result (λ l. l.home ≡ home) }
 {
     let client = Client::new(alloc, Instance { session, life: 0 }, home)?;

@@ -3,7 +3,7 @@ use Rattle.rbd_machine.specs.Path.{at_operation}
 use Rattle.rbd_machine.specs.Plan.{plan_after}
 use Rattle.rbd_slots.specs.Advance.{track_of, fed_by, wanted_by}
 use Rattle.rbd_slots.specs.Track.{run}
-use Rattle.rbd_slots.proofs.Advancing.{IsAdvancing, advancing_begins, is_live, can_advance, advances, ends_so, stops_so, ended_others, ended_fair}
+use Rattle.rbd_slots.proofs.Advancing.{IsAdvancing, advancing_begins, is_live, can_advance, advances, ends_so, stops_so, stops_on_track, ended_others, ended_fair}
 use Rattle.rbd_slots.proofs.advance.advance.Goals as goal
 
 pub loop-want-init : goal.loop-want-init
@@ -83,6 +83,15 @@ returns-in-Done-clause-fair g c =
 pub returns-clause-comes : goal.returns-clause-comes
 returns-clause-comes g c =
     stops_so g.R.Machine.stands c.args.slot c.args.running.now c.args.lines.now (g.R.Machine.stands c.args.running.now.request).labels
+    (at_operation (g.R.Machine.stands c.args.running.now.request).labels (plan_after (g.R.Machine.stands c.args.running.now.request).plan c.args.fed.now))
+    (run c.args.slot (plan_after (g.R.Machine.stands c.args.running.now.request).plan c.args.fed.now)
+    (fed_by c.args.slot c.args.running.now.extent (track_of c.args.running.now c.args.lines.now) (g.R.Machine.stands c.args.running.now.request).plan c.args.fed.now))
+    c.loop-want.running c.loop-want.lines c.loop-want.due (subst (λ u. IsAdvancing g.R.Machine.stands c.args.slot c.args.running.now c.args.lines.now (g.R.Machine.stands c.args.running.now.request).labels (at_operation (g.R.Machine.stands c.args.running.now.request).labels (plan_after (g.R.Machine.stands c.args.running.now.request).plan c.args.fed.now)) (run c.args.slot (plan_after (g.R.Machine.stands c.args.running.now.request).plan c.args.fed.now) (fed_by c.args.slot c.args.running.now.extent (track_of c.args.running.now c.args.lines.now) (g.R.Machine.stands c.args.running.now.request).plan c.args.fed.now)) u c.loop-want.running c.loop-want.lines c.loop-want.due) c.in-More.is c.loop-want.invariant)
+    (ap (λ u. wanted_by u (g.R.Machine.stands c.loop-want.running.request).plan) (sym c.in-More.is) ∙ sym c.wanted.ensures ∙ c.in_default.is)
+
+pub returns-clause-keeps : goal.returns-clause-keeps
+returns-clause-keeps g c =
+    stops_on_track g.R.Machine.stands c.args.slot c.args.running.now c.args.lines.now (g.R.Machine.stands c.args.running.now.request).labels
     (at_operation (g.R.Machine.stands c.args.running.now.request).labels (plan_after (g.R.Machine.stands c.args.running.now.request).plan c.args.fed.now))
     (run c.args.slot (plan_after (g.R.Machine.stands c.args.running.now.request).plan c.args.fed.now)
     (fed_by c.args.slot c.args.running.now.extent (track_of c.args.running.now c.args.lines.now) (g.R.Machine.stands c.args.running.now.request).plan c.args.fed.now))

@@ -5,6 +5,7 @@ use Rattle.rbd_world.specs.Run.{outcome_of}
 use Rattle.rbd_world.specs.Step.{LivesOn, last_life, next_life, restarted_of}
 use Rattle.rbd_world.specs.World.{LivesView}
 use Rattle.rbd_world.specs.declared.event.Event.TheVariants as of_event
+use Rattle.rbd_world.proofs.FreshLives.{is_fresh}
 use Rattle.rbd_world.proofs.Ongoing.{restart_lives_on, restarts}
 use Rattle.rbd_world.proofs.stop.restart_life.Goals as goal
 
@@ -27,5 +28,6 @@ returns-clause-life g c = λ session.
     (record { home = c.life.inside.home; latest = c.instance-life-inside.result; running = running; late = c.life.inside.late })) (sym c.replace.ensures.after)
     (restart_lives_on g.R.Machine.stands session c.args.life.now before c.life.view_is (restarts g.R.Machine.stands c.args.life.now.latest c.args.life.now.running none below)
     c.in_ok-client.client
-    (record { instance = who; at_home = home; slots = c.in_ok-client.ensures.slots; locks = c.in_ok-client.ensures.locks; release = c.in_ok-client.ensures.release; heard = c.in_ok-client.ensures.heard; sound = c.in_ok-client.ensures.sound })
+    (is_fresh (next_life c.args.life.now.latest) c.args.life.now.home c.in_ok-client.client g.R.Machine.stands c.in_ok-client.ensures.sound who home c.in_ok-client.ensures.slots
+    c.in_ok-client.ensures.lines c.in_ok-client.ensures.locks c.in_ok-client.ensures.release c.in_ok-client.ensures.heard)
     c.instance-life-inside.result (c.instance-life-inside.ensures ∙ who))
