@@ -95,9 +95,8 @@ pub fn looks_refuse_what_isnt_there()
 {}
 
 /// Where a request that isn't a read looks at a header, it either waits for the lock of its image
-/// next, and then looks at the header of that image first, or it looks at no header and waits for no
-/// lock any more. Nor does a piece that begins again wait for one. So it goes one way to a lock at
-/// most.
+/// next, and then looks at the header of that image first, or it waits for no lock any more. Nor does
+/// a piece that begins again wait for one. So it goes one way to a lock at most.
 pub fn commands_look_once()
     ensures walk { (seat : Seat) (command : Command) (s : Standing) (feds : List Fed) (steps : List Answered)
         (last : Plan)
