@@ -1,7 +1,8 @@
 -- What was told of other images stays true, and what is told is true.
-use Rattle.std.proofs.Common.{◌≡◌, ◌⊎◌, inl, inr, ℕ, ◌<◌, ◌≤◌, ◌==◌, ◌&&◌, cond, leb, Bool, true, false, List, [], ◌∷◌, Option, Some, None, refl, sym, ap, ◌∙◌, subst, arith}
-use Rattle.std.proofs.lemmas.Bool.{and_parts, cases_lt, eqb-true, leb-true, true≢false}
+use Rattle.std.proofs.Common.{◌≡◌, inl, inr, ℕ, ◌≤◌, ◌==◌, ◌&&◌, cond, leb, Bool, true, false, List, [], ◌∷◌, Option, Some, None, refl, sym, ap, ◌∙◌, subst, arith}
+use Rattle.std.proofs.lemmas.Bool.{and_parts, eqb-true, leb-true, true≢false}
 use Rattle.std.proofs.lemmas.Option.{none-some, same_Some}
+use Rattle.rbd_kinds.specs.declared.answer.Answer.{Answer}
 use Rattle.rbd_kinds.specs.declared.answer.Answer.TheVariants as answer
 use Rattle.rbd_kinds.specs.declared.data_op.DataOp.TheVariants as object
 use Rattle.rbd_kinds.specs.declared.header.HeaderView.{HeaderView}
@@ -11,48 +12,32 @@ use Rattle.rbd_kinds.specs.declared.id.SiteId.{SiteId}
 use Rattle.rbd_kinds.specs.declared.layout.Part.{Part}
 use Rattle.rbd_kinds.specs.declared.operation.Op.{Op}
 use Rattle.rbd_kinds.specs.declared.operation.Op.TheVariants as op
-use Rattle.rbd_kinds.proofs.Images.{at_itself, same_site_is}
-use Rattle.rbd_header.specs.Later.{IsLaterOf}
-use Rattle.rbd_header.proofs.Later.{later_itself, later_onward}
-use Rattle.rbd_flat.specs.Flat.{Flat, FlatSnap, image_at}
+use Rattle.rbd_kinds.proofs.Images.{same_site_is}
+use Rattle.rbd_flat.specs.Flat.{Flat, FlatSnap}
 use Rattle.rbd_flat.specs.declared.effect.Effect.{Effect}
 use Rattle.rbd_flat.proofs.Steps.{snap_keeps}
 use Rattle.rbd_machine.specs.Ancestors.{HeaderSeen, IsAmong, ObjectTold, has_seen, is_dated, seen_by, told_by, told_when}
-use Rattle.rbd_machine.specs.Knowledge.{Knowledge, is_at, is_drawn, same_site}
+use Rattle.rbd_machine.specs.Knowledge.{Knowledge, is_at, is_drawn, learned, same_site}
 use Rattle.rbd_machine.specs.Permits.{Permits}
-use Rattle.rbd_site.specs.HeaderStep.{header_answer}
 use Rattle.rbd_site.specs.InForm.{AreInForm}
+use Rattle.rbd_site.specs.Laws.{is_look}
 use Rattle.rbd_site.specs.Log.{expired, trimmed}
-use Rattle.rbd_site.specs.Records.{Records, object_at}
-use Rattle.rbd_site.specs.Step.{is_fenced, answer_to, after}
+use Rattle.rbd_site.specs.Records.{Records}
+use Rattle.rbd_site.specs.Step.{answer_to, after}
 use Rattle.rbd_site.specs.declared.done.DoneOp.TheVariants as done
-use Rattle.rbd_site.proofs.StepLemmas.{where_fenced}
-use Rattle.rbd_stands.specs.Condition.{IsDrawn}
-use Rattle.rbd_stands.specs.Effect.{effect_of}
-use Rattle.rbd_stands.specs.Shown.{links_of, snapshots_of}
+use Rattle.rbd_site.proofs.GenerationLemmas.{looked_at}
+use Rattle.rbd_stands.specs.Effect.{effect_of, effect_of_op}
 use Rattle.rbd_stands.specs.Site.{StandsFor}
 use Rattle.rbd_stands.specs.Told.{IsDated, IsStillTold, KeepsSnapshots}
-use Rattle.rbd_stands.proofs.EditSteps.{drawn_stays}
-use Rattle.rbd_stands.proofs.SiteSteps.{here}
-use Rattle.rbd_stands.proofs.Told.{absent_still, bytes_still, dated_behind, later_behind, told_behind_operation}
-use Rattle.rbd_interference.specs.Ancestors.{AreSeenTrue, AreToldTrue, DrewNoneOf, IsSeenTrue, IsToldTrue}
+use Rattle.rbd_stands.proofs.Told.{absent_still, bytes_still, dated_behind, told_behind_operation}
+use Rattle.rbd_interference.specs.Ancestors.{AreSeenTrue, AreToldTrue, DrewNoneOf, IsToldTrue}
 use Rattle.rbd_interference.specs.Truth.{AreMapped, AreStandalone, IsTrueAt, changed_by}
 use Rattle.rbd_interference.proofs.Done.{may_do}
 use Rattle.rbd_interference.proofs.Effects.{has_its_effect}
-use Rattle.rbd_interference.proofs.Kept.{still_none}
+use Rattle.rbd_interference.proofs.Kept.{none_still}
+use Rattle.rbd_interference.proofs.Seen.{among_seen}
 
--- ---- lists
-
--- who is on the list of headers was seen
-among_seen : (site : SiteId) (image : ℕ) (h : HeaderView) (seen : List HeaderSeen) → IsAmong (record { site = site; image = image; header = h }) seen → has_seen seen site image ≡ true
-among_seen site image h [] among = absurd among
-among_seen site image h (s ∷ seen) (inl same) =
-    ap (λ b. cond b true (has_seen seen site image)) (subst (λ (e : HeaderSeen). is_at site image e.site e.image ≡ true) (sym same) (at_itself site image))
-among_seen site image h (s ∷ seen) (inr among) = by (is_at site image s.site s.image) (among_seen site image h seen among)
-  where
-    by : (b : Bool) → has_seen seen site image ≡ true → cond b true (has_seen seen site image) ≡ true
-    by true more = refl
-    by false more = more
+-- ---- dates
 
 -- a header by which a snapshot has its date
 record Dates (site : SiteId) (image snap : ℕ) (seen : List HeaderSeen) : Type 0 where
@@ -82,28 +67,14 @@ kept_by_effect : (f : Flat) (e : Option Effect) → KeepsSnapshots f (changed_by
 kept_by_effect f None image snap old new was is = ap (λ (s : FlatSnap). s.bytes) (same_Some new old (sym is ∙ was))
 kept_by_effect f (Some e) image snap old new was is = (snap_keeps f e image snap old new was is).0
 
--- ---- headers that were told
+-- ---- dates last
 
 module _ (site : SiteId) (r : Records) (you : Instance) (j : Knowledge) (o : Op) (permits : Permits j site o) where
-  -- an image whose id isn't drawn anew, and that has no header, gets none
-  none_behind : (image : ℕ) → is_drawn j.drawn site image ≡ false → r.headers image ≡ None → (after r you o).headers image ≡ None
-  none_behind image undrawn none = where_fenced (λ (s : Records). s.headers image ≡ None) r you o none (still_none site j image undrawn r you o permits none)
-
-  seen_behind : (image : ℕ) (h : HeaderView) → is_drawn j.drawn site image ≡ false → IsSeenTrue r image h → IsSeenTrue (after r you o) image h
-  seen_behind image h undrawn was = record { drawn = drawn_stays r you o image was.drawn; later = λ now is. by now is (r.headers image) refl; numbered = was.numbered }
-    where
-      by : (now : HeaderView) → (after r you o).headers image ≡ Some now → (before : Option HeaderView) → r.headers image ≡ before → IsLaterOf h now
-      by now is None none = absurd (none-some now (sym (none_behind image undrawn none) ∙ is))
-      by now is (Some mid) there = later_onward h mid now (was.later mid there) (later_behind r you o image mid now there is)
-
-  pub seen_kept : (seen : List HeaderSeen) → DrewNoneOf site seen j → AreSeenTrue site r seen → AreSeenTrue site (after r you o) seen
-  seen_kept seen drew was image h among = seen_behind image h (drew image (among_seen site image h seen among)) (was image h among)
-
   dated_kept : (image snap : ℕ) → is_drawn j.drawn site image ≡ false → IsDated r image snap → IsDated (after r you o) image snap
   dated_kept image snap undrawn was = by (r.headers image) refl
     where
       by : (before : Option HeaderView) → r.headers image ≡ before → IsDated (after r you o) image snap
-      by None none = λ h is. absurd (none-some h (sym (none_behind image undrawn none) ∙ is))
+      by None none = λ h is. absurd (none-some h (sym (none_still site j image undrawn r you o permits none) ∙ is))
       by (Some h) there = dated_behind r you o image snap h there (was h there)
 
 -- ---- what was read
@@ -138,40 +109,7 @@ saw_more site image e seen saw = by (is_at site image e.site e.image)
     by true = refl
     by false = saw
 
--- the header that is there
-got : (r : Records) (me : Instance) (image : ℕ) (h : HeaderView) → answer_to r me (op.Header image header.Get) ≡ answer.Header h → r.headers image ≡ Some h
-got r me image h = by (is_fenced r me) (r.headers image) refl
-  where
-    by : (b : Bool) (there : Option HeaderView) → r.headers image ≡ there → cond b answer.Fenced (header_answer me (r.headers image) (r.watchers image) header.Get) ≡ answer.Header h → r.headers image ≡ Some h
-    by true there at answered = absurd (cc)
-    by false None at answered = absurd (let e = sym (ap (λ p. header_answer me p (r.watchers image) header.Get) at) ∙ answered in cc)
-    by false (Some k) at answered =
-        let e : answer.Header k ≡ answer.Header h = sym (ap (λ p. header_answer me p (r.watchers image) header.Get) at) ∙ answered in
-        at ∙ ap Some (let same : k ≡ h = cc in same)
-
 module _ (site : SiteId) (r : Records) (f : Flat) (me : Instance) (stands : StandsFor [] r f) where
-  -- an image that has a header was drawn
-  header_drawn : (image : ℕ) (h : HeaderView) → r.headers image ≡ Some h → IsDrawn r image
-  header_drawn image h is = by (cases_lt r.directory.drawn image)
-    where
-      by : (r.directory.drawn < image) ⊎ (image ≤ r.directory.drawn) → IsDrawn r image
-      by (inl past) = absurd (none-some h (sym (stands.fresh image past).header ∙ is))
-      by (inr within) = within
-
-  header_true : (image : ℕ) (h : HeaderView) → r.headers image ≡ Some h → IsSeenTrue r image h
-  header_true image h is = record {
-    drawn = header_drawn image h is;
-    later = λ now at. subst (IsLaterOf h) (same_Some h now (sym is ∙ at)) (later_itself h);
-    numbered = λ t s listed. ((here (snapshots_of f) (links_of f image) (r.headers image) (object_at r image) (image_at f image) h is (stands.images image)).stands.numbered.snap t s listed).1;
-  }
-
-  -- a header that is told is the one that is there
-  pub header_told_true : (image : ℕ) (h : HeaderView) (seen : List HeaderSeen) → answer_to r me (op.Header image header.Get) ≡ answer.Header h → AreSeenTrue site r seen
-      → AreSeenTrue site r (seen_by seen site (op.Header image header.Get) (answer.Header h))
-  header_told_true image h seen answered was i k (inl same) =
-      subst (λ (e : HeaderSeen). IsSeenTrue r e.image e.header) same (header_true image h (got r me image h answered))
-  header_told_true image h seen answered was i k (inr among) = was i k among
-
   -- what is read of a snapshot that has its date
   dated_now : (image snap : ℕ) (seen : List HeaderSeen) → AreSeenTrue site r seen → is_dated seen site image snap ≡ true → IsDated r image snap
   dated_now image snap seen was dated h is =
@@ -210,10 +148,44 @@ told_by_more site r f e seen told was image snap number parts bytes among =
     let it = was image snap number parts bytes among in
     record { saw = saw_more site image e seen it.saw; dated = it.dated; still = it.still }
 
--- ---- the store
+-- ---- behind a request's own operation
 
-pub seen_trimmed : (site : SiteId) (r : Records) (seen : List HeaderSeen) (image number : ℕ) → AreSeenTrue site r seen → AreSeenTrue site (trimmed image number r) seen
-seen_trimmed site r seen image number was i h among = let it = was i h among in record { drawn = it.drawn; later = it.later; numbered = it.numbered }
+-- a read of a snapshot has no effect
+read_bytes_only : (header : Option HeaderView) (image snap number : ℕ) (parts : List Part) (bytes : List ℕ) → effect_of_op header (op.Data image number (object.Read (Some snap) parts)) (answer.Bytes bytes) ≡ None
+read_bytes_only None image snap number parts bytes = refl
+read_bytes_only (Some h) image snap number parts bytes = refl
+
+read_absence_only : (header : Option HeaderView) (image snap number : ℕ) (parts : List Part) → effect_of_op header (op.Data image number (object.Read (Some snap) parts)) answer.Absent ≡ None
+read_absence_only None image snap number parts = refl
+read_absence_only (Some h) image snap number parts = refl
+
+module _ (site : SiteId) (r : Records) (f : Flat) (me : Instance) (stands : StandsFor [] r f) (seen : List HeaderSeen) (are : AreSeenTrue site r seen) (told : List ObjectTold) (was : AreToldTrue site r f seen told) where
+  -- a look leaves the records, and the flat site
+  behind_look : (o : Op) (a : Answer) (more : List ObjectTold) → is_look o ≡ true → effect_of r (done.Op o) a ≡ None → AreToldTrue site r f seen more
+      → AreToldTrue site (after r me o) (changed_by f (effect_of r (done.Op o) a)) seen more
+  behind_look o a more look none true_now =
+      subst (λ e. AreToldTrue site (after r me o) (changed_by f e) seen more) (sym none) (subst (λ s. AreToldTrue site s f seen more) (sym (looked_at r me o look)) true_now)
+
+  told_taught : (o : Op) (a : Answer) → answer_to r me o ≡ a → AreToldTrue site (after r me o) (changed_by f (effect_of r (done.Op o) a)) seen told
+      → AreToldTrue site (after r me o) (changed_by f (effect_of r (done.Op o) a)) (seen_by seen site o a) (told_by seen told site o a)
+  told_taught (op.Header image header.Get) (answer.Header h) answered kept =
+      told_by_more site (after r me (op.Header image header.Get)) (changed_by f (effect_of r (done.Op (op.Header image header.Get)) (answer.Header h))) (record { site = site; image = image; header = h }) seen told kept
+  told_taught (op.Data image number (object.Read (Some snap) parts)) (answer.Bytes bytes) answered kept =
+      behind_look (op.Data image number (object.Read (Some snap) parts)) (answer.Bytes bytes) (told_by seen told site (op.Data image number (object.Read (Some snap) parts)) (answer.Bytes bytes)) refl
+      (read_bytes_only (r.headers image) image snap number parts bytes) (bytes_told_true site r f me stands image snap number parts bytes seen told answered are was)
+  told_taught (op.Data image number (object.Read (Some snap) parts)) answer.Absent answered kept =
+      behind_look (op.Data image number (object.Read (Some snap) parts)) answer.Absent (told_by seen told site (op.Data image number (object.Read (Some snap) parts)) answer.Absent) refl
+      (read_absence_only (r.headers image) image snap number parts) (absence_told_true site r f me stands image snap number parts seen told answered are was)
+  told_taught _ _ answered kept = kept
+
+pub told_learned : (site : SiteId) (r : Records) (f : Flat) (k : Knowledge) (me : Instance) (o : Op) (most : ℕ) → StandsFor [] r f → AreInForm r most → AreStandalone r → AreMapped r → IsTrueAt site r me k
+    → Permits k site o → AreToldTrue site r f k.seen k.told
+    → AreToldTrue site (after r me o) (changed_by f (effect_of r (done.Op o) (answer_to r me o))) (learned k site o (answer_to r me o)).seen (learned k site o (answer_to r me o)).told
+told_learned site r f k me o most stands form standalone mapped t permits was =
+    told_taught site r f me stands k.seen t.seen k.told was o (answer_to r me o) refl
+    (told_kept site r f me k o most stands form standalone mapped t permits k.seen k.told t.strange was)
+
+-- ---- the store
 
 pub told_trimmed : (site : SiteId) (r : Records) (f : Flat) (seen : List HeaderSeen) (told : List ObjectTold) (image number : ℕ) → AreToldTrue site r f seen told
     → AreToldTrue site (trimmed image number r) f seen told

@@ -7,12 +7,15 @@ use Rattle.rbd_kinds.specs.declared.id.Instance.{Instance}
 use Rattle.rbd_kinds.specs.declared.id.SiteId.{SiteId}
 use Rattle.rbd_kinds.specs.declared.layout.Layout.{Layout}
 use Rattle.rbd_object.specs.Mapped.{Mapped}
+use Rattle.rbd_machine.specs.Ancestors.{IsAmong, has_seen}
 use Rattle.rbd_machine.specs.Knowledge.{Knowledge, ObjectsKnown, is_drawn, is_fenced_by, is_gone, maps_of, objects_known_of, own_of}
 use Rattle.rbd_site.specs.Records.{Records, object_at}
 use Rattle.rbd_site.specs.Step.{is_fenced}
 use Rattle.rbd_stands.specs.Covering.{Maps}
+use Rattle.rbd_interference.specs.Ancestors.{IsSeenTrue}
 use Rattle.rbd_interference.specs.Truth.{AreMapsTrue, AreObjectsTrue, AreZeros, HasNoStates, IsCountTrue, IsGoneAt, IsStill, IsTrueAt, IsWaiting, KnowsNoHeader, header_of_own, is_alone_on, is_own_alone, known_header}
 use Rattle.rbd_interference.proofs.MapsBehind.{at_each}
+use Rattle.rbd_interference.proofs.Seen.{seen_there}
 
 pub record IsTrueOfImage (site : SiteId) (r : Records) (me : Instance) (k : Knowledge) (image : ℕ) : Type 0 where
   pub owned : IsFalse (is_fenced r me) → IsStill (known_header k site image) (r.headers image)
@@ -23,6 +26,8 @@ pub record IsTrueOfImage (site : SiteId) (r : Records) (me : Instance) (k : Know
   pub gone : is_gone k.gone site image ≡ true → IsGoneAt r image
   pub apart : is_gone k.gone site image ≡ true → is_drawn k.drawn site image ≡ false
   pub counted : KnowsNoHeader k site image → IsCountTrue (maps_of k.maps site image).count (r.maps image None)
+  pub seen : (h : HeaderView) → IsAmong (record { site = site; image = image; header = h }) k.seen → IsSeenTrue r image h
+  pub strange : has_seen k.seen site image ≡ true → is_drawn k.drawn site image ≡ false
 
 pub of_image : (site : SiteId) (r : Records) (me : Instance) (k : Knowledge) → IsTrueAt site r me k → (image : ℕ) → IsTrueOfImage site r me k image
 of_image site r me k t image = record {
@@ -33,6 +38,8 @@ of_image site r me k t image = record {
   gone = t.gone image;
   apart = t.apart image;
   counted = t.counted image;
+  seen = t.seen image;
+  strange = t.strange image;
 }
 
 pub of_all : (site : SiteId) (r : Records) (me : Instance) (k : Knowledge) → ((i : Instance) → is_fenced_by k.fenced site i ≡ true → is_fenced r i ≡ true)
@@ -46,6 +53,8 @@ of_all site r me k fenced each = record {
   gone = λ image. (each image).gone;
   apart = λ image. (each image).apart;
   counted = λ image. (each image).counted;
+  seen = λ image. (each image).seen;
+  strange = λ image. (each image).strange;
 }
 
 -- ---- images that nothing was done to
@@ -57,9 +66,10 @@ pub record IsKnownAs (site : SiteId) (new k : Knowledge) (image : ℕ) : Type 0 
   pub maps : maps_of new.maps site image ≡ maps_of k.maps site image
   pub objects : objects_known_of new.objects site image ≡ objects_known_of k.objects site image
   pub gone : is_gone new.gone site image ≡ is_gone k.gone site image
+  pub seen : new.seen ≡ k.seen
 
 pub known_as_itself : (site : SiteId) (k : Knowledge) (image : ℕ) → IsKnownAs site k k image
-known_as_itself site k image = record { own = refl; drawn = refl; maps = refl; objects = refl; gone = refl }
+known_as_itself site k image = record { own = refl; drawn = refl; maps = refl; objects = refl; gone = refl; seen = refl }
 
 -- its records are the same
 pub record IsThereAs (r new : Records) (image : ℕ) : Type 0 where
@@ -118,6 +128,8 @@ module _ (site : SiteId) (r new : Records) (me : Instance) (k learnt : Knowledge
     counted = λ without.
         subst (λ m. IsCountTrue m.count (new.maps image None)) (sym like.maps)
         (subst (λ maps. IsCountTrue (maps_of k.maps site image).count (maps None)) (sym there.maps) (t.counted (was_without without)));
+    seen = λ h among. seen_there r new image h there.header there.drawn (t.seen h (subst (IsAmong (record { site = site; image = image; header = h })) like.seen among));
+    strange = λ saw. like.drawn ∙ t.strange (ap (λ seen. has_seen seen site image) (sym like.seen) ∙ saw);
   }
 
 -- What is done to one image, and learned of it, leaves the others.

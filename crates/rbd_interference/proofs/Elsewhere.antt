@@ -1,5 +1,5 @@
 -- What is learned at one site says nothing of the other.
-use Rattle.std.proofs.Common.{◌≡◌, inl, ℕ, ◌==◌, ◌&&◌, not, cond, Bool, true, false, List, [], ◌∷◌, filter, Option, Some, None, option_map, refl, sym, ap, ◌∙◌}
+use Rattle.std.proofs.Common.{◌≡◌, inl, inr, ℕ, ◌==◌, ◌&&◌, not, cond, Bool, true, false, List, [], ◌∷◌, filter, Option, Some, None, option_map, refl, sym, ap, ◌∙◌, subst}
 use Rattle.std.proofs.lemmas.Bool.{true≢false, and_parts}
 use Rattle.rbd_kinds.specs.declared.answer.Answer.{Answer}
 use Rattle.rbd_kinds.specs.declared.answer.Answer.TheVariants as answer
@@ -18,14 +18,17 @@ use Rattle.rbd_kinds.specs.declared.map_op.MapOp.TheVariants as states
 use Rattle.rbd_kinds.specs.declared.operation.Op.{Op}
 use Rattle.rbd_kinds.specs.declared.operation.Op.TheVariants as op
 use Rattle.rbd_kinds.specs.Instances.{same_instance}
+use Rattle.rbd_kinds.proofs.Images.{at_itself}
 use Rattle.rbd_header.specs.Header.{with_size, with_snap, without_snap}
-use Rattle.rbd_machine.specs.Ancestors.{seen_by, told_by}
+use Rattle.rbd_machine.specs.Ancestors.{HeaderSeen, IsAmong, ObjectTold, has_seen, seen_by, told_by}
 use Rattle.rbd_machine.specs.Knowledge.{ImageMaps, Knowledge, MapsKnown, ObjectsKnown, Own, ImagePlace, first_told, header_told, is_at, is_drawn, is_fenced_by, is_gone, learned, learned_of_directory, learned_of_header, learned_of_listing, learned_of_map, learned_of_object, learned_own, looked_behind, looked_by, looked_under_lock, maps_of, maps_told, objects_known_of, only_there, own_of, removed_header, same_site, unmapped, with_drawn, without_drawn}
+use Rattle.rbd_machine.proofs.AtLeast.{own_as_before}
 use Rattle.rbd_site.specs.Records.{Records}
 use Rattle.rbd_interference.specs.Beside.{AreBeside}
 use Rattle.rbd_interference.specs.Truth.{IsTrueAt}
 use Rattle.rbd_interference.proofs.Told.{told_apart}
-use Rattle.rbd_interference.proofs.Less.{IsLess, afresh_less, as_maps, left_there, less_beside, less_itself, less_then, less_true, same_maps, telling_less, unfenced_less}
+use Rattle.rbd_interference.proofs.Less.{IsLess, afresh_less, as_maps, left_there, less_beside, less_itself, less_then, less_true, same_maps, unfenced_less}
+use Rattle.rbd_interference.proofs.Seen.{IsSeenLess, same_seen}
 
 -- a site is one of two
 apart_sites : (s t there : SiteId) → same_site s t ≡ false → same_site there s ≡ true → same_site there t ≡ false
@@ -83,6 +86,7 @@ module _ (s t : SiteId) (differ : same_site s t ≡ false) where
     maps = λ i. as_maps (maps_of (maps_told s image m k.maps) t i) (maps_of k.maps t i) (told_maps image m k.maps i);
     objects = λ i. inl refl;
     gone = λ i gone. gone;
+    seen = same_seen t k.seen;
   }
 
   map_same : (k : Knowledge) (image : ℕ) (o : MapOp) (a : Answer) → IsLess t (learned_of_map k s image o a) k
@@ -101,6 +105,7 @@ module _ (s t : SiteId) (differ : same_site s t ≡ false) where
     maps = λ i. same_maps (maps_of k.maps t i);
     objects = λ i. inl (ap (λ b. cond b o (objects_known_of k.objects t i)) (not_there image i));
     gone = λ i gone. gone;
+    seen = same_seen t k.seen;
   }
 
   object_same : (k : Knowledge) (image number : ℕ) (o : DataOp) (a : Answer) → IsLess t (learned_of_object k s image number o a) k
@@ -120,6 +125,7 @@ module _ (s t : SiteId) (differ : same_site s t ≡ false) where
     maps = λ i. same_maps (maps_of k.maps t i);
     objects = λ i. inl refl;
     gone = λ i gone. gone;
+    seen = same_seen t k.seen;
   }
 
   drawn_same : (k : Knowledge) (image : ℕ) → IsLess t (with_drawn s image k) k
@@ -130,6 +136,7 @@ module _ (s t : SiteId) (differ : same_site s t ≡ false) where
     maps = λ i. as_maps (maps_of (maps_told s image unmapped k.maps) t i) (maps_of k.maps t i) (told_maps image unmapped k.maps i);
     objects = λ i. inl refl;
     gone = λ i gone. gone;
+    seen = same_seen t k.seen;
   }
 
   made_same : (k : Knowledge) (image : ℕ) → IsLess t (without_drawn s image k) k
@@ -140,6 +147,7 @@ module _ (s t : SiteId) (differ : same_site s t ≡ false) where
     maps = λ i. same_maps (maps_of k.maps t i);
     objects = λ i. inl refl;
     gone = λ i gone. gone;
+    seen = same_seen t k.seen;
   }
 
   removed_same : (k : Knowledge) (image : ℕ) → IsLess t (removed_header s image k) k
@@ -150,6 +158,7 @@ module _ (s t : SiteId) (differ : same_site s t ≡ false) where
     maps = λ i. as_maps (maps_of (maps_told s image only_there k.maps) t i) (maps_of k.maps t i) (told_maps image only_there k.maps i);
     objects = λ i. inl refl;
     gone = λ i gone. sym (ap (λ b. cond b true (is_gone k.gone t i)) (not_there image i)) ∙ gone;
+    seen = same_seen t k.seen;
   }
 
   directory_same : (k : Knowledge) (o : DirectoryOp) (a : Answer) → IsLess t (learned_of_directory k s o a) k
@@ -176,6 +185,7 @@ module _ (s t : SiteId) (differ : same_site s t ≡ false) where
     maps = λ image. same_maps (maps_of k.maps t image);
     objects = λ image. inl refl;
     gone = λ image gone. gone;
+    seen = same_seen t k.seen;
   }
   listing_same k i _ = less_itself t k
 
@@ -187,9 +197,36 @@ module _ (s t : SiteId) (differ : same_site s t ≡ false) where
   own_same k (op.Map image o) a = map_same k image o a
   own_same k _ a = less_itself t k
 
+  -- a header of an image of this site is none of the other site's
+  seen_same : (seen : List HeaderSeen) (o : Op) (a : Answer) → IsSeenLess t (seen_by seen s o a) seen
+  seen_same seen (op.Header image header.Get) (answer.Header h) = record {
+    among = λ i k among. unlisted i k among;
+    has = λ i saw. sym (ap (λ b. cond b true (has_seen seen t i)) (not_there image i)) ∙ saw;
+  }
+    where
+      unlisted : (i : ℕ) (k : HeaderView) → IsAmong (record { site = t; image = i; header = k }) (record { site = s; image = image; header = h } ∷ seen) → IsAmong (record { site = t; image = i; header = k }) seen
+      unlisted i k (inl same) = absurd (true≢false (sym (at_itself t i) ∙ subst (λ (e : HeaderSeen). is_at t i e.site e.image ≡ false) same (not_there image i)))
+      unlisted i k (inr among) = among
+  seen_same seen _ _ = same_seen t seen
+
+  -- what is told of any image adds nothing here
+  telling_same : (k : Knowledge) (seen : List HeaderSeen) (told : List ObjectTold) → IsSeenLess t seen k.seen → IsLess t (record k { seen = seen; told = told }) k
+  telling_same k seen told less = record {
+    owns = λ i some. refl;
+    drawn = λ i drawn. drawn;
+    fenced = λ i known. known;
+    maps = λ i. same_maps (maps_of k.maps t i);
+    objects = λ i. inl refl;
+    gone = λ i gone. gone;
+    seen = less;
+  }
+
   pub learned_same : (k : Knowledge) (o : Op) (a : Answer) → IsLess t (learned k s o a) k
   learned_same k o a =
-      less_then t (learned k s o a) (learned_own k s o a) k (telling_less t (learned_own k s o a) (seen_by k.seen s o a) (told_by k.seen k.told s o a)) (own_same k o a)
+      let own : Knowledge = learned_own k s o a in
+      less_then t (learned k s o a) own k
+      (telling_same own (seen_by k.seen s o a) (told_by k.seen k.told s o a) (subst (IsSeenLess t (seen_by k.seen s o a)) (sym (own_as_before k s o a).0) (seen_same k.seen o a)))
+      (own_same k o a)
 
   pub true_elsewhere : (r : Records) (me : Instance) (k : Knowledge) (o : Op) (a : Answer) → IsTrueAt t r me k → IsTrueAt t r me (learned k s o a)
   true_elsewhere r me k o a holds = less_true t (learned k s o a) k (learned_same k o a) r me holds

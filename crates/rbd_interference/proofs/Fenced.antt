@@ -20,6 +20,10 @@ where_free P r me o fenced served = go (is_fenced r me) refl
     go true is = fenced
     go false is = served is
 
+-- who isn't fenced is served
+pub served_is : (r : Records) (me : Instance) (o : Op) → IsFalse (is_fenced r me) → after r me o ≡ after_served r me o
+served_is r me o free = ap (λ b. cond b r (after_served r me o)) free
+
 -- the same of the records alone
 pub after_free : (P : Records → Type 0) (r : Records) (me : Instance) (o : Op) → P r → (IsFalse (is_fenced r me) → P (after_served r me o)) → P (after r me o)
 after_free P r me o fenced served = where_free (λ a s. P s) r me o fenced served

@@ -19,6 +19,7 @@ use Rattle.rbd_kinds.specs.declared.sharing.Sharing.{Sharing}
 use Rattle.rbd_kinds.specs.declared.sharing.Sharing.TheVariants.{Alone}
 use Rattle.rbd_kinds.specs.Sharing.{is_alone}
 use Rattle.rbd_object.specs.Mapped.{Mapped, mapped_blank, mapped_trim}
+use Rattle.rbd_machine.specs.Ancestors.{HeaderSeen}
 use Rattle.rbd_machine.specs.Knowledge.{Knowledge, is_drawn, is_gone, maps_of, objects_known_of}
 use Rattle.rbd_machine.specs.Permits.{Permits, PermitsOnHeader, PermitsOnMap, PermitsOnObject, OwnsBy}
 use Rattle.rbd_site.specs.HeaderStep.{header_after, is_owner}
@@ -34,6 +35,7 @@ use Rattle.rbd_stands.specs.Unseen.{is_about}
 use Rattle.rbd_stands.proofs.EditSteps.{untouched_served, drawn_served}
 use Rattle.rbd_stands.proofs.StoreSteps.{blank_trimmed}
 use Rattle.rbd_flat.specs.Flat.{no_images}
+use Rattle.rbd_interference.specs.Ancestors.{AreSeenTrue, DrewNoneOf}
 use Rattle.rbd_interference.specs.Beside.{AreBeside, GoBesideOthers, MayAct}
 use Rattle.rbd_interference.specs.Truth.{AreMapsTrue, AreObjectsTrue, HasNoStates, is_alone_on, is_own_alone, IsCountTrue, IsGoneAt, IsStill, IsTrueAt, IsWaiting, known_header}
 use Rattle.rbd_interference.proofs.Each.{alike_true, objects_alike}
@@ -42,6 +44,7 @@ use Rattle.rbd_interference.proofs.Headers.{not_waiting, own_known, unknown_of_n
 use Rattle.rbd_interference.proofs.MapsKept.{counted_kept, mapped_kept}
 use Rattle.rbd_interference.proofs.NoStates.{none_raised, none_there}
 use Rattle.rbd_interference.proofs.ObjectsKept.{objects_kept}
+use Rattle.rbd_interference.proofs.Seen.{among_seen, seen_after}
 
 -- where both know the header of an image, neither is alone on it
 abbrev AreBothShared : SiteId → (k j : Knowledge) → Type 0
@@ -138,6 +141,10 @@ kept_by site r me you k other o keeps t = record {
   counted = λ image without.
       let was = t.counted image without in
       where_fenced (λ s. IsCountTrue (maps_of k.maps site image).count (s.maps image None)) r you (op.Header other o) was was;
+  seen = λ image h among.
+      let was = t.seen image h among in
+      seen_after r you (op.Header other o) image h (λ none. (gone_by r you other o keeps image (record { drawn = was.drawn; header = none })).header) was;
+  strange = t.strange;
 }
   where
     by : (image : ℕ) (b : Bool) → (image == other) ≡ b → ((i : ℕ) → IsStill (known_header k site i) (r.headers i)) → IsStill (known_header k site image) (cond b (header_after you (r.headers other) o) (r.headers image))
@@ -297,9 +304,19 @@ module _ (site : SiteId) (j : Knowledge) (image : ℕ) (undrawn : is_drawn j.dra
       by false differ = none
   still_none r you _ permits none = elim permits [ ]
 
+  -- so it is whoever is fenced
+  pub none_still : (r : Records) (you : Instance) (o : Op) → Permits j site o → r.headers image ≡ None → (after r you o).headers image ≡ None
+  none_still r you o permits none = where_fenced (λ (s : Records). s.headers image ≡ None) r you o none (still_none r you o permits none)
+
   gone_still : (r : Records) (you : Instance) (o : Op) → Permits j site o → IsGoneAt r image → IsGoneAt (after r you o) image
   gone_still r you o permits g =
       where_fenced (λ s. IsGoneAt s image) r you o g (record { drawn = drawn_served r you o image g.drawn; header = still_none r you o permits g.header })
+
+-- headers that were told
+pub seen_kept : (site : SiteId) (r : Records) (you : Instance) (j : Knowledge) (o : Op) → Permits j site o → (seen : List HeaderSeen) → DrewNoneOf site seen j → AreSeenTrue site r seen
+    → AreSeenTrue site (after r you o) seen
+seen_kept site r you j o permits seen drew was image h among =
+    seen_after r you o image h (none_still site j image (drew image (among_seen site image h seen among)) r you o permits) (was image h among)
 
 not_gone_there : (site : SiteId) (r : Records) (me you : Instance) (k j : Knowledge) → AreBeside site r me you k j → (image : ℕ) → is_drawn k.drawn site image ≡ true → is_gone j.gone site image ≡ false
 not_gone_there site r me you k j beside image drawn = by (is_gone j.gone site image) refl
@@ -319,9 +336,14 @@ others_keep site r k j me you o t u beside permits may = record {
   gone = λ image gone. gone_still site j image (beside.gone image gone) r you o permits (t.gone image gone);
   apart = t.apart;
   counted = counted_kept site r k j me you t u beside o permits;
+  seen = seen_kept site r you j o permits k.seen beside.unseen t.seen;
+  strange = t.strange;
 }
 
 -- ---- the store
+
+pub seen_trimmed : (site : SiteId) (r : Records) (seen : List HeaderSeen) (image number : ℕ) → AreSeenTrue site r seen → AreSeenTrue site (trimmed image number r) seen
+seen_trimmed site r seen image number was i h among = let it = was i h among in record { drawn = it.drawn; later = it.later; numbered = it.numbered }
 
 blank_in : (live : List ℕ) (object : Option Mapped) → or_blank object ≡ mapped_blank → or_blank (option_map (mapped_trim live) object) ≡ mapped_blank
 blank_in live None blank = refl
@@ -385,6 +407,8 @@ trims_keep site r me k image number t = record {
   gone = λ i gone. let g = t.gone i gone in record { drawn = g.drawn; header = g.header };
   apart = t.apart;
   counted = t.counted;
+  seen = seen_trimmed site r k.seen image number t.seen;
+  strange = t.strange;
 }
 
 pub expiries_keep : (site : SiteId) (r : Records) (me : Instance) (k : Knowledge) (image : ℕ) (i : Instance) → IsTrueAt site r me k → IsTrueAt site (expired image i r) me k

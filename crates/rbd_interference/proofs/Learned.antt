@@ -19,7 +19,7 @@ use Rattle.rbd_kinds.specs.declared.map_op.MapOp.{MapOp}
 use Rattle.rbd_kinds.specs.declared.map_op.MapOp.TheVariants as states
 use Rattle.rbd_kinds.specs.declared.operation.Op.{Op}
 use Rattle.rbd_kinds.specs.declared.operation.Op.TheVariants as op
-use Rattle.rbd_machine.specs.Ancestors.{HeaderSeen, ObjectTold, seen_by, told_by}
+use Rattle.rbd_machine.specs.Ancestors.{HeaderSeen, ObjectTold, has_seen, seen_by, told_by}
 use Rattle.rbd_machine.specs.Knowledge.{Knowledge, Own, ImagePlace, afresh, first_told, header_told, is_at, is_drawn, is_fence_of, is_fenced_by, is_gone, learned, learned_of_directory, learned_of_header, learned_of_listing, learned_of_map, learned_of_object, learned_own, looked_by, looked_under_lock, maps_of, objects_known_of, only_there, own_of, removed_header, same_site, unmapped, unmarked, with_drawn, with_fence, without_drawn, without_fence}
 use Rattle.rbd_kinds.specs.declared.sharing.Sharing.{Sharing}
 use Rattle.rbd_kinds.specs.Sharing.{is_alone}
@@ -29,10 +29,13 @@ use Rattle.rbd_kinds.specs.Instances.{same_instance}
 use Rattle.rbd_kinds.proofs.Images.{at_itself}
 use Rattle.rbd_kinds.proofs.Instances.{same_instance_is}
 use Rattle.rbd_header.specs.Header.{with_size, with_snap, without_snap, snap_in, is_full}
+use Rattle.rbd_header.specs.Later.{IsLaterOf}
+use Rattle.rbd_header.proofs.Later.{later_itself}
+use Rattle.rbd_machine.proofs.AtLeast.{own_as_before}
 use Rattle.rbd_machine.proofs.Lawful.{left_here, told_first}
 use Rattle.rbd_registry.specs.Directory.{added, id_of}
 use Rattle.rbd_registry.specs.Directory as listing
-use Rattle.rbd_flat.specs.Flat.{Flat}
+use Rattle.rbd_flat.specs.Flat.{Flat, image_at}
 use Rattle.rbd_site.specs.DirectoryStep.{name_added, where_added}
 use Rattle.rbd_site.specs.HeaderStep.{header_after, header_answer, snap_added, where_made}
 use Rattle.rbd_site.specs.Found.{done_where}
@@ -44,16 +47,20 @@ use Rattle.rbd_stands.specs.Site.{StandsFor}
 use Rattle.rbd_stands.proofs.ObjectSteps.{put_there, put_elsewhere}
 use Rattle.rbd_stands.proofs.Served.{where_either}
 use Rattle.rbd_stands.specs.Condition.{IsDrawn}
+use Rattle.rbd_stands.specs.Shown.{links_of, snapshots_of}
+use Rattle.rbd_stands.proofs.SiteSteps.{here}
 use Rattle.rbd_stands.proofs.EditSteps.{drawn_served}
+use Rattle.rbd_interference.specs.Ancestors.{AreSeenTrue, DrewNoneOf, IsSeenTrue}
 use Rattle.rbd_interference.specs.Truth.{AreMapped, AreMapsTrue, AreObjectsTrue, HasAtLeast, IsCountTrue, IsGoneAt, IsStill, IsTrueAt, IsWaiting, KnowsNoHeader, header_of_own, is_alone_on, is_own_alone, known_header}
 use Rattle.rbd_interference.proofs.Each.{IsKnownAs, IsThereAs, IsTrueOfImage, alike_true, each_true, of_all, of_image, true_as}
-use Rattle.rbd_interference.proofs.Fenced.{where_free, is_put_up, stays_put_up}
+use Rattle.rbd_interference.proofs.Fenced.{served_is, where_free, is_put_up, stays_put_up}
 use Rattle.rbd_interference.proofs.Headers.{own_known, owned_there, not_waiting, unknown_of_none}
-use Rattle.rbd_interference.proofs.Kept.{kept_by}
-use Rattle.rbd_interference.proofs.Less.{afresh_less, left_there, less_true, nothing_of, telling_less, unfenced_less}
+use Rattle.rbd_interference.proofs.Kept.{kept_by, seen_kept}
+use Rattle.rbd_interference.proofs.Less.{afresh_less, left_there, less_true, nothing_of, telling_true, unfenced_less}
 use Rattle.rbd_interference.proofs.MapsBehind.{nothing_mapped}
 use Rattle.rbd_interference.proofs.MapsLearned.{at_no_other, map_taught, told_of_others}
 use Rattle.rbd_interference.proofs.ObjectsLearned.{object_taught}
+use Rattle.rbd_interference.proofs.Seen.{among_seen, seen_after, seen_drawn}
 use Rattle.rbd_interference.proofs.Told.{header_changed, told_alone, told_apart, told_here}
 
 -- ---- where
@@ -77,11 +84,12 @@ module _ (site : SiteId) (r new : Records) (me : Instance) (k : Knowledge) (t : 
     (change : Option HeaderView → Option HeaderView) (o : Option Own) (at : own_of k.owns site image ≡ o) where
   -- what it was told of one image
   pub told_true : (is_drawn k.drawn site image ≡ true → IsWaiting new image) → (is_gone k.gone site image ≡ true → IsGoneAt new image)
+      → ((h : HeaderView) → IsSeenTrue r image h → IsSeenTrue new image h)
       → new.maps image ≡ r.maps image → ((h : HeaderView) → header_changed change o ≡ Some h → IsTold site new k image (is_own_alone o) h)
       → IsTrueAt site new me (header_told site image change k)
-  told_true waits goes maps told =
+  told_true waits goes sees maps told =
       each_true site r new me k learnt image t was fences it
-      (λ i other. record { own = told_apart site site image i change (at_no_other site image i other) k.owns; drawn = refl; maps = refl; objects = refl; gone = refl })
+      (λ i other. record { own = told_apart site site image i change (at_no_other site image i other) k.owns; drawn = refl; maps = refl; objects = refl; gone = refl; seen = refl })
       others
     where
       learnt : Knowledge
@@ -113,6 +121,8 @@ module _ (site : SiteId) (r new : Records) (me : Instance) (k : Knowledge) (t : 
         gone = goes;
         apart = t.apart image;
         counted = λ without. subst (λ m. IsCountTrue (maps_of k.maps site image).count (m None)) (sym maps) (t.counted image without);
+        seen = λ h among. sees h (t.seen image h among);
+        strange = t.strange image;
       }
 
 -- ---- the directory
@@ -131,6 +141,10 @@ module _ (site : SiteId) (r : Records) (f : Flat) (me : Instance) (k : Knowledge
   not_gone : is_gone k.gone site fresh ≡ true → ⊥
   not_gone gone = let before = (t.gone fresh gone).drawn in omega (arith, before)
 
+  -- nor one of which a header was told
+  not_seen : has_seen k.seen site fresh ≡ true → ⊥
+  not_seen saw = let before = seen_drawn site r k.seen t.seen fresh saw in omega (arith, before)
+
   drawn_true : (name : List ℕ) → IsTrueAt site (with_directory (added name r.directory) r) me (with_drawn site fresh k)
   drawn_true name =
       each_true site r new me k learnt fresh t (λ f. f) t.fenced it
@@ -140,6 +154,7 @@ module _ (site : SiteId) (r : Records) (f : Flat) (me : Instance) (k : Knowledge
         maps = ap (λ b. cond b unmapped (maps_of k.maps site i)) (at_no_other site fresh i other);
         objects = refl;
         gone = refl;
+        seen = refl;
       })
       (λ i other. record { header = refl; maps = refl; objects = λ n. refl; drawn = omega arith })
     where
@@ -161,6 +176,8 @@ module _ (site : SiteId) (r : Records) (f : Flat) (me : Instance) (k : Knowledge
         gone = λ gone. absurd (not_gone gone);
         apart = λ gone. absurd (not_gone gone);
         counted = λ without. subst (λ m. IsCountTrue m.count (r.maps fresh None)) (sym unmapped_now) tt;
+        seen = λ h among. absurd (not_seen (among_seen site fresh h k.seen among));
+        strange = λ saw. absurd (not_seen saw);
       }
 
   added_true : (name : List ℕ) (held : Option ℕ) (full : Bool)
@@ -233,7 +250,7 @@ module _ (site : SiteId) (r : Records) (me : Instance) (k : Knowledge) (t : IsTr
           → ((v : HeaderView) → header_changed (first_told h) o ≡ Some v → IsTold site r known image (is_own_alone o) v) → IsTrueAt site r me (header_told site image (first_told h) known)
       look known true_of_it o at told =
           told_true site r r me known true_of_it (λ f. f) true_of_it.fenced image (λ i other. record { header = refl; maps = refl; objects = λ n. refl; drawn = omega arith }) (first_told h) o at
-          (true_of_it.drawn image) (true_of_it.gone image) refl told
+          (true_of_it.drawn image) (true_of_it.gone image) (λ v saw. saw) refl told
 
       -- one that it knows already tells nothing new
       again : (o : Own) (own : HeaderView) → o.header ≡ Some own → own_of k.owns site image ≡ Some o → (v : HeaderView) → first_told h o.header ≡ Some v → IsTold site r k image (is_alone o.sharing) v
@@ -273,7 +290,7 @@ module _ (site : SiteId) (r : Records) (me : Instance) (k : Knowledge) (t : IsTr
   made : (image : ℕ) (view : HeaderView) → MayMake k site image view → IsTrueAt site (doing image (header.Create view)) me (without_drawn site image k)
   made image view may =
       each_true site r (doing image (header.Create view)) me k (without_drawn site image k) image t (λ f. f) t.fenced it
-      (λ i other. record { own = refl; drawn = drawn_elsewhere site image i other k.drawn; maps = refl; objects = refl; gone = refl })
+      (λ i other. record { own = refl; drawn = drawn_elsewhere site image i other k.drawn; maps = refl; objects = refl; gone = refl; seen = refl })
       (others_there image (header.Create view))
     where
       undrawn : is_drawn (without_drawn site image k).drawn site image ≡ true → ⊥
@@ -281,6 +298,9 @@ module _ (site : SiteId) (r : Records) (me : Instance) (k : Knowledge) (t : IsTr
 
       remains : is_gone k.gone site image ≡ true → ⊥
       remains gone = true≢false (sym may.drawn ∙ t.apart image gone)
+
+      unseen : has_seen k.seen site image ≡ true → ⊥
+      unseen saw = true≢false (sym may.drawn ∙ t.strange image saw)
 
       it : IsTrueOfImage site (doing image (header.Create view)) me (without_drawn site image k) image
       it = record {
@@ -291,6 +311,8 @@ module _ (site : SiteId) (r : Records) (me : Instance) (k : Knowledge) (t : IsTr
         gone = λ gone. absurd (remains gone);
         apart = λ gone. absurd (remains gone);
         counted = counted;
+        seen = λ h among. absurd (unseen (among_seen site image h k.seen among));
+        strange = λ saw. absurd (unseen saw);
       }
         where
           counted : KnowsNoHeader (without_drawn site image k) site image → IsCountTrue (maps_of k.maps site image).count (r.maps image None)
@@ -314,7 +336,7 @@ module _ (site : SiteId) (r : Records) (me : Instance) (k : Knowledge) (t : IsTr
       → header_after me (r.headers image) o ≡ Some (edit v) → IsTrueAt site (doing image o) me (header_told site image (option_map edit) k)
   edited image o condition owns edit keeps laid v same owner is =
       told_true site r (doing image o) me k t (λ f. f) t.fenced image (others_there image o) (option_map edit) (Some own) owns.is
-      (λ drawn. absurd (owned_undrawn image condition owns drawn)) (λ gone. absurd (owned_remains image condition owns gone)) refl told
+      (λ drawn. absurd (owned_undrawn image condition owns drawn)) (λ gone. absurd (owned_remains image condition owns gone)) sees refl told
     where
       own : Own
       own = record { site = site; image = image; sharing = owns.sharing; header = Some owns.header }
@@ -324,6 +346,11 @@ module _ (site : SiteId) (r : Records) (me : Instance) (k : Knowledge) (t : IsTr
 
       alone : is_alone_on k site image ≡ is_alone owns.sharing
       alone = ap is_own_alone owns.is
+
+      sees : (h : HeaderView) → IsSeenTrue r image h → IsSeenTrue (doing image o) image h
+      sees h saw =
+          subst (λ s. IsSeenTrue s image h) (served_is r me (op.Header image o) free)
+          (seen_after r me (op.Header image o) image h (λ none. absurd (not_waiting site r me k image condition t free owns none)) saw)
 
       still : IsStill (Some (edit owns.header)) ((doing image o).headers image)
       still =
@@ -418,6 +445,7 @@ module _ (site : SiteId) (r : Records) (me : Instance) (k : Knowledge) (t : IsTr
         maps = told_of_others site image only_there k.maps i other;
         objects = refl;
         gone = ap (λ b. cond b true (is_gone k.gone site i)) (at_no_other site image i other);
+        seen = refl;
       }
 
       unowned : known_header learnt site image ≡ None
@@ -435,11 +463,19 @@ module _ (site : SiteId) (r : Records) (me : Instance) (k : Knowledge) (t : IsTr
         drawn = λ d. absurd (owned_undrawn image _ owns d);
         mapped = λ f some. absurd (unsome some);
         objects = λ f v known. absurd (unknown v known);
-        gone = λ g. record { drawn = drawn; header = put_there r.headers image (header_after me (r.headers image) header.Remove) ∙ ap (λ q. header_after me q header.Remove) is };
+        gone = λ g. record { drawn = drawn; header = header_then };
         apart = λ g. unlisted (is_drawn k.drawn site image) refl;
         counted = λ without. subst (λ m. IsCountTrue m.count (r.maps image None)) (sym (told_first site image only_there k.maps)) (at_least (r.maps image None) has_map);
+        seen = λ v among. let saw = t.seen image v among in record { drawn = saw.drawn; later = λ now there. absurd (none_now now there); numbered = saw.numbered };
+        strange = t.strange image;
       }
         where
+          header_then : (doing image header.Remove).headers image ≡ None
+          header_then = put_there r.headers image (header_after me (r.headers image) header.Remove) ∙ ap (λ q. header_after me q header.Remove) is
+
+          none_now : (now : HeaderView) → (doing image header.Remove).headers image ≡ Some now → ⊥
+          none_now now there = none-some now (sym header_then ∙ there)
+
           unlisted : (b : Bool) → is_drawn k.drawn site image ≡ b → b ≡ false
           unlisted false d = refl
           unlisted true d = absurd (owned_undrawn image _ owns d)
@@ -460,7 +496,7 @@ listed_true : (site : SiteId) (r : Records) (me : Instance) (k : Knowledge) (i :
     → IsTrueAt site (after_served r me (op.BlockAdd i)) me (with_fence site i k)
 listed_true site r me k i t free =
     of_all site new me learnt (λ other known. by other (is_fence_of site other (record { site = site; instance = i })) refl known)
-    (λ image. true_as site r new me k learnt image (of_image site r me k t image) (record { own = refl; drawn = refl; maps = refl; objects = refl; gone = refl })
+    (λ image. true_as site r new me k learnt image (of_image site r me k t image) (record { own = refl; drawn = refl; maps = refl; objects = refl; gone = refl; seen = refl })
     (record { header = refl; maps = refl; objects = λ n. refl; drawn = omega arith }) (λ f. free))
   where
     new : Records
@@ -477,17 +513,17 @@ listed_true site r me k i t free =
 
 -- ---- headers, whether it is fenced or not
 
+-- the id of an image that has a header was drawn
+has_drawn : (r : Records) (f : Flat) → StandsFor [] r f → (image : ℕ) (h : HeaderView) → r.headers image ≡ Some h → IsDrawn r image
+has_drawn r f stands image h is = by (cases_lt r.directory.drawn image)
+  where
+    by : (r.directory.drawn < image) ⊎ (image ≤ r.directory.drawn) → IsDrawn r image
+    by (inl past) = absurd (none-some h (sym (stands.fresh image past).header ∙ is))
+    by (inr within) = within
+
 module _ (site : SiteId) (r : Records) (f : Flat) (me : Instance) (k : Knowledge) (stands : StandsFor [] r f) (mapped : AreMapped r) (t : IsTrueAt site r me k) where
   abbrev HeaderTeaches : (image : ℕ) → HeaderOp → Answer → Records → Type 0
   HeaderTeaches image o a s = IsTrueAt site s me (learned_of_header k site image o a)
-
-  -- the id of an image that has a header was drawn
-  has_drawn : (image : ℕ) (h : HeaderView) → r.headers image ≡ Some h → IsDrawn r image
-  has_drawn image h is = by (cases_lt r.directory.drawn image)
-    where
-      by : (r.directory.drawn < image) ⊎ (image ≤ r.directory.drawn) → IsDrawn r image
-      by (inl past) = absurd (none-some h (sym (stands.fresh image past).header ∙ is))
-      by (inr within) = within
 
   header_learned : (image : ℕ) (o : HeaderOp) → PermitsOnHeader k site image o
       → HeaderTeaches image o (answer_to r me (op.Header image o)) (after r me (op.Header image o))
@@ -507,7 +543,7 @@ module _ (site : SiteId) (r : Records) (f : Flat) (me : Instance) (k : Knowledge
   header_learned image header.Remove permits =
       where_free (HeaderTeaches image header.Remove) r me (op.Header image header.Remove) t (λ free.
       let there = owned_there site r me k image _ t free permits in
-      gone site r me k t free image (has_drawn image there.view there.is) (mapped.images image there.view there.is).there.head permits)
+      gone site r me k t free image (has_drawn r f stands image there.view there.is) (mapped.images image there.view there.is).there.head permits)
   header_learned image (header.LockBreak owner) permits =
       broken_true site (after r me (op.Header image (header.LockBreak owner))) me k image owner (answer_to r me (op.Header image (header.LockBreak owner)))
       (kept_by site r me me k image (header.LockBreak owner) refl t)
@@ -593,9 +629,73 @@ own_taught site r f k me (op.Map image o) most stands form mapped t permits =
     (λ free. map_taught site r me k most form mapped t free image o permits)
 own_taught site r f k me _ most stands form mapped t permits = elim permits [ ]
 
+-- ---- headers that were told
+
+-- the header that is there
+header_got : (r : Records) (me : Instance) (image : ℕ) (h : HeaderView) → answer_to r me (op.Header image header.Get) ≡ answer.Header h → r.headers image ≡ Some h
+header_got r me image h = by (is_fenced r me) (r.headers image) refl
+  where
+    by : (b : Bool) (there : Option HeaderView) → r.headers image ≡ there → cond b answer.Fenced (header_answer me (r.headers image) (r.watchers image) header.Get) ≡ answer.Header h → r.headers image ≡ Some h
+    by true there at answered = absurd (cc)
+    by false None at answered = absurd (let e = sym (ap (λ p. header_answer me p (r.watchers image) header.Get) at) ∙ answered in cc)
+    by false (Some k) at answered =
+        let e : answer.Header k ≡ answer.Header h = sym (ap (λ p. header_answer me p (r.watchers image) header.Get) at) ∙ answered in
+        at ∙ ap Some (let same : k ≡ h = cc in same)
+
+module _ (site : SiteId) (r : Records) (f : Flat) (me : Instance) (stands : StandsFor [] r f) where
+  header_true : (image : ℕ) (h : HeaderView) → r.headers image ≡ Some h → IsSeenTrue r image h
+  header_true image h is = record {
+    drawn = has_drawn r f stands image h is;
+    later = λ now at. subst (IsLaterOf h) (same_Some h now (sym is ∙ at)) (later_itself h);
+    numbered = λ t s listed. ((here (snapshots_of f) (links_of f image) (r.headers image) (object_at r image) (image_at f image) h is (stands.images image)).stands.numbered.snap t s listed).1;
+  }
+
+  -- a header that is told is the one that is there
+  pub header_told_true : (image : ℕ) (h : HeaderView) (seen : List HeaderSeen) → answer_to r me (op.Header image header.Get) ≡ answer.Header h → AreSeenTrue site r seen
+      → AreSeenTrue site r (seen_by seen site (op.Header image header.Get) (answer.Header h))
+  header_told_true image h seen answered was i k (inl same) =
+      subst (λ (e : HeaderSeen). IsSeenTrue r e.image e.header) same (header_true image h (header_got r me image h answered))
+  header_told_true image h seen answered was i k (inr among) = was i k among
+
+  -- so are all that were told, behind an operation that leaves those before
+  seen_taught : (seen : List HeaderSeen) (o : Op) (a : Answer) → answer_to r me o ≡ a → AreSeenTrue site r seen → AreSeenTrue site (after r me o) seen → AreSeenTrue site (after r me o) (seen_by seen site o a)
+  seen_taught seen (op.Header image header.Get) (answer.Header h) answered was kept =
+      subst (λ s. AreSeenTrue site s (seen_by seen site (op.Header image header.Get) (answer.Header h))) (sym (looked_at r me (op.Header image header.Get) refl)) (header_told_true image h seen answered was)
+  seen_taught seen _ _ answered was kept = kept
+
+-- a header that is told is there
+abbrev pub TellsThere : Records → Op → Answer → Type 0
+TellsThere s (op.Header image header.Get) (answer.Header h) = s.headers image ≡ Some h
+TellsThere s o a = Unit {0}
+
+pub told_there : (r : Records) (me : Instance) (o : Op) (a : Answer) → answer_to r me o ≡ a → TellsThere r o a
+told_there r me (op.Header image header.Get) (answer.Header h) answered = header_got r me image h answered
+told_there r me _ _ answered = tt
+
+told_behind : (r : Records) (me : Instance) (o : Op) (a : Answer) → answer_to r me o ≡ a → TellsThere (after r me o) o a
+told_behind r me (op.Header image header.Get) (answer.Header h) answered =
+    ap (λ (s : Records). s.headers image) (looked_at r me (op.Header image header.Get) refl) ∙ header_got r me image h answered
+told_behind r me _ _ answered = tt
+
+-- So whose header is told is no id that somebody drew, and that waits for one.
+pub strange_taught : (site : SiteId) (s : Records) (seen : List HeaderSeen) (j : Knowledge) (o : Op) (a : Answer) → TellsThere s o a → ((image : ℕ) → is_drawn j.drawn site image ≡ true → s.headers image ≡ None)
+    → DrewNoneOf site seen j → DrewNoneOf site (seen_by seen site o a) j
+strange_taught site s seen j (op.Header image header.Get) (answer.Header h) there waits was i saw = by (is_at site i site image) refl saw (is_drawn j.drawn site i) refl
+  where
+    by : (b : Bool) → is_at site i site image ≡ b → cond b true (has_seen seen site i) ≡ true → (c : Bool) → is_drawn j.drawn site i ≡ c → c ≡ false
+    by b at found false drawn = refl
+    by true at found true drawn = absurd (none-some h (sym (ap s.headers (eqb-true image i (and_parts (same_site site site) (image == i) at).1) ∙ waits i drawn) ∙ there))
+    by false at found true drawn = absurd (true≢false (sym drawn ∙ was i found))
+strange_taught site s seen j _ _ there waits was i saw = was i saw
+
 pub own_learned : (site : SiteId) (r : Records) (f : Flat) (k : Knowledge) (me : Instance) (o : Op) (most : ℕ) → StandsFor [] r f → AreInForm r most → AreMapped r → IsTrueAt site r me k → Permits k site o
     → IsTrueAt site (after r me o) me (learned k site o (answer_to r me o))
 own_learned site r f k me o most stands form mapped t permits =
     let a = answer_to r me o in
-    less_true site (learned k site o a) (learned_own k site o a) (telling_less site (learned_own k site o a) (seen_by k.seen site o a) (told_by k.seen k.told site o a)) (after r me o) me
-    (own_taught site r f k me o most stands form mapped t permits)
+    let own : Knowledge = learned_own k site o a in
+    let taught = own_taught site r f k me o most stands form mapped t permits in
+    let before = own_as_before k site o a in
+    let strange : DrewNoneOf site k.seen own = subst (λ seen. DrewNoneOf site seen own) before.0 taught.strange in
+    telling_true site (after r me o) me own (seen_by k.seen site o a) (told_by k.seen k.told site o a)
+    (seen_taught site r f me stands k.seen o a refl t.seen (seen_kept site r me k o permits k.seen t.strange t.seen))
+    (strange_taught site (after r me o) k.seen own o a (told_behind r me o a refl) (λ image drawn. (taught.drawn image drawn).header) strange) taught

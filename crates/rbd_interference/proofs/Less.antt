@@ -18,9 +18,11 @@ use Rattle.rbd_machine.proofs.Lawful.{left_here}
 use Rattle.rbd_site.specs.Records.{Records, object_at}
 use Rattle.rbd_site.specs.Step.{is_fenced}
 use Rattle.rbd_stands.specs.Covering.{Maps}
+use Rattle.rbd_interference.specs.Ancestors.{AreSeenTrue, DrewNoneOf}
 use Rattle.rbd_interference.specs.Beside.{AreBeside}
 use Rattle.rbd_interference.specs.Truth.{AreMapsTrue, AreObjectsTrue, AreZeros, IsCountTrue, IsStill, IsTrueAt, KnowsNoHeader, header_of_own, is_alone_on, is_own_alone, known_header}
 use Rattle.rbd_interference.specs.Turns.{KnowsOf}
+use Rattle.rbd_interference.proofs.Seen.{IsSeenLess, same_seen}
 
 -- ---- less
 
@@ -45,6 +47,7 @@ pub record IsLess (site : SiteId) (new old : Knowledge) : Type 0 where
   pub maps : (image : ℕ) → AreMapsLess (maps_of new.maps site image) (maps_of old.maps site image)
   pub objects : (image : ℕ) → AreObjectsLess (objects_known_of new.objects site image) (objects_known_of old.objects site image)
   pub gone : (image : ℕ) → is_gone new.gone site image ≡ true → is_gone old.gone site image ≡ true
+  pub seen : IsSeenLess site new.seen old.seen
 
 pub same_maps : (m : MapsKnown) → AreMapsLess m m
 same_maps m = record { raised = λ view object marked. marked; states = λ states told. told; count = λ count known. known; put = λ snap known. known }
@@ -60,17 +63,7 @@ less_itself site k = record {
   maps = λ image. same_maps (maps_of k.maps site image);
   objects = λ image. inl refl;
   gone = λ image gone. gone;
-}
-
--- whatever was told of other images, what is the request's own is the same
-pub telling_less : (site : SiteId) (k : Knowledge) (seen : List HeaderSeen) (told : List ObjectTold) → IsLess site (record k { seen = seen; told = told }) k
-telling_less site k seen told = record {
-  owns = λ image some. refl;
-  drawn = λ image drawn. drawn;
-  fenced = λ i known. known;
-  maps = λ image. same_maps (maps_of k.maps site image);
-  objects = λ image. inl refl;
-  gone = λ image gone. gone;
+  seen = same_seen site k.seen;
 }
 
 -- ---- less is true
@@ -146,6 +139,8 @@ module _ (site : SiteId) (new old : Knowledge) (less : IsLess site new old) wher
     gone = λ image gone. t.gone image (less.gone image gone);
     apart = λ image gone. undrawn image (t.apart image (less.gone image gone));
     counted = λ image without. count_less (maps_of new.maps site image).count (maps_of old.maps site image).count (r.maps image None) (less.maps image).count (t.counted image (was_without image without));
+    seen = λ image h among. t.seen image h (less.seen.among image h among);
+    strange = λ image saw. undrawn image (t.strange image (less.seen.has image saw));
   }
     where
       still : (image : ℕ) → IsFalse (is_fenced r me) → (known : Option HeaderView) → known_header new site image ≡ known → IsStill known (r.headers image)
@@ -155,8 +150,8 @@ module _ (site : SiteId) (new old : Knowledge) (less : IsLess site new old) wher
 -- Who knows no more of headers and ids stays beside the others.
 pub known_beside : (site : SiteId) (r : Records) (me you : Instance) (new old j : Knowledge) → ((image : ℕ) → IsOwnOf (own_of new.owns site image) (own_of old.owns site image))
     → ((image : ℕ) → is_drawn new.drawn site image ≡ true → is_drawn old.drawn site image ≡ true)
-    → ((image : ℕ) → is_gone new.gone site image ≡ true → is_gone old.gone site image ≡ true) → AreBeside site r me you old j → AreBeside site r me you new j
-known_beside site r me you new old j owns drawn gone beside = record {
+    → ((image : ℕ) → is_gone new.gone site image ≡ true → is_gone old.gone site image ≡ true) → IsSeenLess site new.seen old.seen → AreBeside site r me you old j → AreBeside site r me you new j
+known_beside site r me you new old j owns drawn gone seen beside = record {
   shared = λ free image some others.
       let both = beside.shared free image (before image some) others in
       record { one = ap is_own_alone (owns image some) ∙ both.one; other = both.other };
@@ -164,6 +159,8 @@ known_beside site r me you new old j owns drawn gone beside = record {
   gone_there = λ image g. undrawn image (beside.gone_there image g);
   removed = λ image g. beside.removed image (gone image g);
   apart = λ image d. beside.apart image (drawn image d);
+  unseen = λ image saw. beside.unseen image (seen.has image saw);
+  unseen_there = λ image saw. undrawn image (beside.unseen_there image saw);
 }
   where
     before : (image : ℕ) → IsSome (header_of_own (own_of new.owns site image)) → IsSome (header_of_own (own_of old.owns site image))
@@ -177,7 +174,37 @@ known_beside site r me you new old j owns drawn gone beside = record {
         by true is = absurd (true≢false (sym (drawn image is) ∙ none))
 
 pub less_beside : (site : SiteId) (r : Records) (me you : Instance) (new old j : Knowledge) → IsLess site new old → AreBeside site r me you old j → AreBeside site r me you new j
-less_beside site r me you new old j less beside = known_beside site r me you new old j less.owns less.drawn less.gone beside
+less_beside site r me you new old j less beside = known_beside site r me you new old j less.owns less.drawn less.gone less.seen beside
+
+-- ---- what is told of any image
+
+-- Who was told more of other images knows the same of its own.
+pub telling_true : (site : SiteId) (r : Records) (me : Instance) (k : Knowledge) (seen : List HeaderSeen) (told : List ObjectTold) → AreSeenTrue site r seen → DrewNoneOf site seen k → IsTrueAt site r me k
+    → IsTrueAt site r me (record k { seen = seen; told = told })
+telling_true site r me k seen told are strange t = record {
+  owned = t.owned;
+  drawn = t.drawn;
+  fenced = t.fenced;
+  mapped = t.mapped;
+  objects = t.objects;
+  gone = t.gone;
+  apart = t.apart;
+  counted = t.counted;
+  seen = are;
+  strange = strange;
+}
+
+pub telling_beside : (site : SiteId) (r : Records) (me you : Instance) (k j : Knowledge) (seen : List HeaderSeen) (told : List ObjectTold) → DrewNoneOf site seen j → AreBeside site r me you k j
+    → AreBeside site r me you (record k { seen = seen; told = told }) j
+telling_beside site r me you k j seen told unseen beside = record {
+  shared = λ free image mine others. let both = beside.shared free image mine others in record { one = both.one; other = both.other };
+  apart = beside.apart;
+  gone = beside.gone;
+  gone_there = beside.gone_there;
+  removed = beside.removed;
+  unseen = unseen;
+  unseen_there = beside.unseen_there;
+}
 
 -- who knows less than one that knows less
 pub less_then : (site : SiteId) (a b c : Knowledge) → IsLess site a b → IsLess site b c → IsLess site a c
@@ -193,6 +220,10 @@ less_then site a b c first then_less = record {
   };
   objects = λ image. objects (objects_known_of a.objects site image) (objects_known_of b.objects site image) (objects_known_of c.objects site image) (first.objects image) (then_less.objects image);
   gone = λ image gone. then_less.gone image (first.gone image gone);
+  seen = record {
+    among = λ image h among. then_less.seen.among image h (first.seen.among image h among);
+    has = λ image saw. then_less.seen.has image (first.seen.has image saw);
+  };
 }
   where
     objects : (x y z : ObjectsKnown) → AreObjectsLess x y → AreObjectsLess y z → AreObjectsLess x z
@@ -288,6 +319,7 @@ turned site k turn = record {
   maps = λ image. unmarked_maps k.maps site image;
   objects = λ image. inr refl;
   gone = λ image gone. gone;
+  seen = same_seen site k.seen;
 }
 
 pub waited_less : (site : SiteId) (k : Knowledge) (w : Wait) → IsLess site (known_after_wait k w) k
@@ -298,6 +330,7 @@ waited_less site k (wait.Join there image sharing) = record {
   maps = λ image. same_maps (maps_of k.maps site image);
   objects = λ image. inl refl;
   gone = λ image gone. gone;
+  seen = same_seen site k.seen;
 }
 waited_less site k (wait.Hold there place) = record {
   owns = λ image. held_own site there image place k;
@@ -306,6 +339,7 @@ waited_less site k (wait.Hold there place) = record {
   maps = λ image. same_maps (maps_of k.maps site image);
   objects = λ image. inr refl;
   gone = λ image gone. gone;
+  seen = same_seen site k.seen;
 }
 waited_less site k (wait.Turn object) = turned site k (Some object)
 waited_less site k (wait.Applied there image) = turned site k None
@@ -316,6 +350,7 @@ waited_less site k (wait.Leave there place) = record {
   maps = λ image. same_maps (maps_of k.maps site image);
   objects = λ image. inl refl;
   gone = λ image gone. gone;
+  seen = same_seen site k.seen;
 }
 
 pub waits_learned : (site : SiteId) (r : Records) (me : Instance) (k : Knowledge) → IsTrueAt site r me k → (w : Wait) → IsTrueAt site r me (known_after_wait k w)
@@ -338,6 +373,7 @@ afresh_less site there place k = record {
   maps = λ image. maps image (is_at site image there place);
   objects = λ image. inr refl;
   gone = λ image gone. gone;
+  seen = same_seen site k.seen;
 }
   where
     maps : (image : ℕ) (b : Bool) → AreMapsLess (cond b unmapped (maps_of (unmarked k.maps) site image)) (maps_of k.maps site image)
@@ -365,4 +401,5 @@ unfenced_less site there owner k = record {
   maps = λ image. same_maps (maps_of k.maps site image);
   objects = λ image. inl refl;
   gone = λ image gone. gone;
+  seen = same_seen site k.seen;
 }

@@ -23,6 +23,7 @@ pub mod Effects
 pub mod Ancestors
 pub mod Ranked
 pub mod AncestorsKept
+pub mod Seen
 pub mod Told
 pub mod Turns
 pub mod PaysSteps

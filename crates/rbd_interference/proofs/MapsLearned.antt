@@ -31,6 +31,7 @@ use Rattle.rbd_interference.proofs.Each.{IsKnownAs, IsTrueOfImage, each_true, ob
 use Rattle.rbd_interference.proofs.Headers.{not_waiting, owned_there}
 use Rattle.rbd_interference.proofs.MapsBehind.{maps_behind, maps_here, maps_there, nothing_mapped, with_view}
 use Rattle.rbd_interference.proofs.NoStates.{none_raised, none_there}
+use Rattle.rbd_interference.proofs.Seen.{seen_there}
 use Rattle.rbd_interference.proofs.States.{IsMarked, IsNew, WasThere, count_kept, lengthened_state, long_enough, raised_now, raised_still, set_elsewhere, states_changed, states_told, was_marked, marked_apart}
 
 -- ---- what is known of an image's maps from now on
@@ -43,7 +44,7 @@ pub told_of_others : (site : SiteId) (image : ℕ) (m : MapsKnown) (maps : List 
 told_of_others site image m maps other differ = ap (λ b. cond b m (maps_of maps site other)) (at_no_other site image other differ)
 
 pub maps_known : (site : SiteId) (k : Knowledge) (image : ℕ) (m : MapsKnown) (i : ℕ) → i ≢ image → IsKnownAs site (record k { maps = maps_told site image m k.maps }) k i
-maps_known site k image m i other = record { own = refl; drawn = refl; maps = told_of_others site image m k.maps i other; objects = refl; gone = refl }
+maps_known site k image m i other = record { own = refl; drawn = refl; maps = told_of_others site image m k.maps i other; objects = refl; gone = refl; seen = refl }
 
 -- What it learned of one image's maps, where all else is as it was.
 pub maps_are_true : (site : SiteId) (r new : Records) (me : Instance) (k : Knowledge) (image : ℕ) (m : MapsKnown) → IsTrueAt site r me k
@@ -74,6 +75,8 @@ maps_are_true site r new me k image m t was fences headers objects drawn others 
       gone = λ gone. let g = t.gone image gone in let before = g.drawn in record { drawn = omega (arith, before, drawn); header = headers image ∙ g.header };
       apart = t.apart image;
       counted = λ without. subst (λ n. IsCountTrue n.count (new.maps image None)) (sym told) (counts without);
+      seen = λ h among. seen_there r new image h (headers image) drawn (t.seen image h among);
+      strange = t.strange image;
     }
 
 module _ (site : SiteId) (r : Records) (me : Instance) (k : Knowledge) (most : ℕ) (form : AreInForm r most) (mapped : AreMapped r) (t : IsTrueAt site r me k) (free : IsFalse (is_fenced r me)) (image : ℕ) where

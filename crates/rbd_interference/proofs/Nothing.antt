@@ -18,6 +18,8 @@ nothing_is_true s r me = record {
   gone = λ image gone. absurd (true≢false (sym gone));
   apart = λ image gone. absurd (true≢false (sym gone));
   counted = λ image without. absurd (by image without);
+  seen = λ image h among. absurd among;
+  strange = λ image saw. absurd (true≢false (sym saw));
 }
   where
     by : (image : ℕ) → KnowsNoHeader nothing_known s image → ⊥
@@ -31,6 +33,8 @@ nothing_is_beside s r me you j = record {
   gone_there = λ image gone. refl;
   removed = λ image gone. absurd (true≢false (sym gone));
   apart = λ image drawn. absurd (true≢false (sym drawn));
+  unseen = λ image saw. absurd (true≢false (sym saw));
+  unseen_there = λ image saw. refl;
 }
 
 pub none_standalone : AreStandalone no_records

@@ -34,6 +34,7 @@ use Rattle.rbd_interference.proofs.Headers.{find_there, not_waiting, own_known, 
 use Rattle.rbd_interference.proofs.MapsLearned.{at_no_other}
 use Rattle.rbd_interference.proofs.Objects.{emptied_true, forgotten_true, removed_true, zeroed_true}
 use Rattle.rbd_interference.proofs.ObjectsKept.{changed_object, other_image, other_object}
+use Rattle.rbd_interference.proofs.Seen.{seen_there}
 
 -- ---- what is known of an image's objects from now on
 
@@ -63,7 +64,7 @@ module _ (site : SiteId) (r : Records) (me : Instance) (k : Knowledge) (most : �
       → IsTrueAt site (doing o) me (told now)
   told_true o now undrawn here =
       each_true site r (doing o) me k (told now) image t (λ f. f) t.fenced it
-      (λ i other. record { own = refl; drawn = refl; maps = refl; objects = told_of_others site image now k.objects i other; gone = refl })
+      (λ i other. record { own = refl; drawn = refl; maps = refl; objects = told_of_others site image now k.objects i other; gone = refl; seen = refl })
       (λ i other. record { header = refl; maps = refl; objects = λ n. other_image r me image number o i n other; drawn = omega arith })
     where
       is : objects_known_of (told now).objects site image ≡ now
@@ -78,6 +79,8 @@ module _ (site : SiteId) (r : Records) (me : Instance) (k : Knowledge) (most : �
         gone = λ gone. let g = t.gone image gone in record { drawn = g.drawn; header = g.header };
         apart = t.apart image;
         counted = t.counted image;
+        seen = λ h among. seen_there r (doing o) image h refl (omega arith) (t.seen image h among);
+        strange = t.strange image;
       }
 
   -- what isn't done leaves all as it is

@@ -21,7 +21,7 @@ use Rattle.rbd_kinds.specs.declared.operation.Op.TheVariants as op
 use Rattle.rbd_kinds.specs.declared.sharing.Sharing.TheVariants.{Alone}
 use Rattle.rbd_kinds.specs.Sharing.{is_alone}
 use Rattle.rbd_header.specs.Header.{with_size, with_snap, without_snap}
-use Rattle.rbd_machine.specs.Ancestors.{seen_by, told_by}
+use Rattle.rbd_machine.specs.Ancestors.{has_seen, seen_by, told_by}
 use Rattle.rbd_machine.specs.Knowledge.{Fence, ImageMaps, ImageObjects, Knowledge, Own, afresh, first_told, header_told, is_at, is_drawn, is_gone, learned, learned_of_directory, learned_of_header, learned_of_listing, learned_of_map, learned_of_object, learned_own, owns_without, looked_behind, looked_by, looked_under_lock, maps_told, only_there, own_of, known_after_wait, removed_header, same_site, unfenced, with_drawn, without_drawn}
 use Rattle.rbd_machine.specs.Permits.{Permits, PermitsOnHeader, HoldsUnlooked, OwnsAlone}
 use Rattle.rbd_machine.specs.Wait.{Wait}
@@ -36,10 +36,11 @@ use Rattle.rbd_interference.specs.Beside.{AreBeside, AreUnfenced, GoBesideOthers
 use Rattle.rbd_interference.specs.Truth.{IsTrueAt, header_of_own, known_header, is_own_alone}
 use Rattle.rbd_interference.proofs.Fenced.{was_free}
 use Rattle.rbd_interference.proofs.Headers.{own_known}
-use Rattle.rbd_interference.proofs.Learned.{drawn_left}
+use Rattle.rbd_interference.proofs.Learned.{drawn_left, strange_taught, told_there}
 use Rattle.rbd_interference.proofs.MapsLearned.{at_no_other}
 use Rattle.rbd_interference.proofs.Told.{header_changed, told_alone, told_apart, told_here}
-use Rattle.rbd_interference.proofs.Less.{known_beside, left_own, less_beside, telling_less, waited_less}
+use Rattle.rbd_interference.proofs.Less.{known_beside, left_own, less_beside, telling_beside, waited_less}
+use Rattle.rbd_interference.proofs.Seen.{same_seen, seen_drawn}
 
 module _ (site : SiteId) (r : Records) (me you : Instance) (k j : Knowledge) (beside : AreBeside site r me you k j) where
   pub told_beside : (image : ℕ) (change : Option HeaderView → Option HeaderView)
@@ -51,6 +52,8 @@ module _ (site : SiteId) (r : Records) (me you : Instance) (k j : Knowledge) (be
     gone_there = beside.gone_there;
     removed = beside.removed;
     apart = beside.apart;
+    unseen = beside.unseen;
+    unseen_there = beside.unseen_there;
   }
     where
       told : Knowledge
@@ -82,7 +85,7 @@ module _ (site : SiteId) (r : Records) (me you : Instance) (k j : Knowledge) (be
       by (Some o) some = of o.header some
 
   made_beside : (image : ℕ) → AreBeside site r me you (without_drawn site image k) j
-  made_beside image = known_beside site r me you (without_drawn site image k) k j (λ i some. refl) (λ i drawn. (drawn_left site image i k.drawn drawn).0) (λ i gone. gone) beside
+  made_beside image = known_beside site r me you (without_drawn site image k) k j (λ i some. refl) (λ i drawn. (drawn_left site image i k.drawn drawn).0) (λ i gone. gone) (same_seen site k.seen) beside
 
   drawn_beside : IsTrueAt site r you j → AreBeside site r me you (with_drawn site (r.directory.drawn + 1) k) j
   drawn_beside u = record {
@@ -91,6 +94,8 @@ module _ (site : SiteId) (r : Records) (me you : Instance) (k j : Knowledge) (be
     gone_there = λ i gone. unlisted i (is_at site i site (r.directory.drawn + 1)) refl gone;
     removed = beside.removed;
     apart = λ i drawn. by i (is_at site i site (r.directory.drawn + 1)) refl (is_drawn j.drawn site i) refl drawn;
+    unseen = beside.unseen;
+    unseen_there = λ i saw. undrawn i (is_at site i site (r.directory.drawn + 1)) refl saw;
   }
     where
       is_fresh : (i : ℕ) → is_at site i site (r.directory.drawn + 1) ≡ true → r.directory.drawn + 1 ≡ i
@@ -101,6 +106,14 @@ module _ (site : SiteId) (r : Records) (me you : Instance) (k j : Knowledge) (be
       unlisted i true is gone =
           let new = is_fresh i is in
           let before = (u.gone i gone).drawn in
+          absurd (omega (arith, new, before))
+
+      -- no header was told of an image whose id is drawn only now
+      undrawn : (i : ℕ) (b : Bool) → is_at site i site (r.directory.drawn + 1) ≡ b → has_seen j.seen site i ≡ true → cond b true (is_drawn k.drawn site i) ≡ false
+      undrawn i false is saw = beside.unseen_there i saw
+      undrawn i true is saw =
+          let new = is_fresh i is in
+          let before = seen_drawn site r j.seen u.seen i saw in
           absurd (omega (arith, new, before))
 
       by : (i : ℕ) (b : Bool) → is_at site i site (r.directory.drawn + 1) ≡ b → (c : Bool) → is_drawn j.drawn site i ≡ c → cond b true (is_drawn k.drawn site i) ≡ true → c ≡ false
@@ -127,14 +140,14 @@ module _ (site : SiteId) (r : Records) (me you : Instance) (k j : Knowledge) (be
 
   -- whatever it knows of fences
   fence_beside : (fenced : List Fence) → AreBeside site r me you (record k { fenced = fenced }) j
-  fence_beside fenced = known_beside site r me you (record k { fenced = fenced }) k j (λ i some. refl) (λ i drawn. drawn) (λ i gone. gone) beside
+  fence_beside fenced = known_beside site r me you (record k { fenced = fenced }) k j (λ i some. refl) (λ i drawn. drawn) (λ i gone. gone) (same_seen site k.seen) beside
 
   -- whatever it knows of maps and objects
   maps_beside : (maps : List ImageMaps) → AreBeside site r me you (record k { maps = maps }) j
-  maps_beside maps = known_beside site r me you (record k { maps = maps }) k j (λ i some. refl) (λ i drawn. drawn) (λ i gone. gone) beside
+  maps_beside maps = known_beside site r me you (record k { maps = maps }) k j (λ i some. refl) (λ i drawn. drawn) (λ i gone. gone) (same_seen site k.seen) beside
 
   objects_beside : (objects : List ImageObjects) → AreBeside site r me you (record k { objects = objects }) j
-  objects_beside objects = known_beside site r me you (record k { objects = objects }) k j (λ i some. refl) (λ i drawn. drawn) (λ i gone. gone) beside
+  objects_beside objects = known_beside site r me you (record k { objects = objects }) k j (λ i some. refl) (λ i drawn. drawn) (λ i gone. gone) (same_seen site k.seen) beside
 
   map_beside : (image : ℕ) (o : MapOp) (a : Answer) → AreBeside site r me you (learned_of_map k site image o a) j
   map_beside image (states.Resize count) answer.Done = maps_beside _
@@ -161,13 +174,15 @@ module _ (site : SiteId) (r : Records) (me you : Instance) (k j : Knowledge) (be
     gone_there = less.gone_there;
     removed = λ i gone. remains i (is_at site i site image) refl gone (is_gone j.gone site i) refl;
     apart = less.apart;
+    unseen = less.unseen;
+    unseen_there = less.unseen_there;
   }
     where
       there : Knowledge
       there = record k { owns = owns_without site image k.owns; maps = maps_told site image only_there k.maps }
 
       less : AreBeside site r me you there j
-      less = known_beside site r me you there k j (λ i some. left_own site site i image k.owns some) (λ i drawn. drawn) (λ i gone. gone) beside
+      less = known_beside site r me you there k j (λ i some. left_own site site i image k.owns some) (λ i drawn. drawn) (λ i gone. gone) (same_seen site k.seen) beside
 
       header_there : (i : ℕ) → is_at site i site image ≡ true → r.headers i ≡ None → ⊥
       header_there i at none = none-some h (sym (ap r.headers (eqb-true image i (and_parts (same_site site site) (image == i) at).1) ∙ none) ∙ is)
@@ -198,7 +213,7 @@ looked_beside site r me you k j beside image h may = by (own_of k.owns site imag
     first : (o : Own) → own_of k.owns site image ≡ Some o → AreBeside site r me you (header_told site image (first_told h) (afresh site image k)) j
     first o at =
         told_beside site r me you (afresh site image k) j
-        (known_beside site r me you (afresh site image k) k j (λ i some. refl) (λ i drawn. drawn) (λ i gone. gone) beside)
+        (known_beside site r me you (afresh site image k) k j (λ i some. refl) (λ i drawn. drawn) (λ i gone. gone) (same_seen site k.seen) beside)
         image (first_told h) (λ free mine others.
         let both = may free (ap is_some at) others in record { one = both.one; other = both.other })
 
@@ -254,11 +269,6 @@ module _ (site : SiteId) (r : Records) (me you : Instance) (k j : Knowledge) (be
   own_beside (op.Map image o) u permits may = map_beside site r me you k j beside image o (answer_to r me (op.Map image o))
   own_beside _ u permits may = elim permits [ ]
 
-  pub answered_beside : (o : Op) → IsTrueAt site r you j → Permits k site o → MayAct site r me you k j o → AreBeside site r me you (learned k site o (answer_to r me o)) j
-  answered_beside o u permits may =
-      let a = answer_to r me o in
-      less_beside site r me you (learned k site o a) (learned_own k site o a) j (telling_less site (learned_own k site o a) (seen_by k.seen site o a) (told_by k.seen k.told site o a)) (own_beside o u permits may)
-
   -- ---- waits
 
   pub waited_beside : (w : Wait) → AreBeside site r me you (known_after_wait k w) j
@@ -278,16 +288,23 @@ still_beside site r new me you k j were beside = record {
   gone_there = beside.gone_there;
   removed = beside.removed;
   apart = beside.apart;
+  unseen = beside.unseen;
+  unseen_there = beside.unseen_there;
 }
 
 pub beside_stays : (site : SiteId) (r : Records) (him me you : Instance) (k j : Knowledge) (o : Op) → AreBeside site r me you k j → AreBeside site (after r him o) me you k j
 beside_stays site r him me you k j o beside = still_beside site r (after r him o) me you k j (were_free r him me you o) beside
 
--- behind its own operation it is beside the other with what it learned
+-- Behind its own operation it is beside the other with what it learned: an image whose header was
+-- told is none whose id the other drew, and that waits for a header.
 pub learned_beside : (site : SiteId) (r : Records) (me you : Instance) (k j : Knowledge) → AreBeside site r me you k j → (o : Op) → IsTrueAt site r you j → Permits k site o
     → MayAct site r me you k j o → AreBeside site (after r me o) me you (learned k site o (answer_to r me o)) j
 learned_beside site r me you k j beside o u permits may =
-    beside_stays site r me me you (learned k site o (answer_to r me o)) j o (answered_beside site r me you k j beside o u permits may)
+    let a = answer_to r me o in
+    let own : Knowledge = learned_own k site o a in
+    let now = beside_stays site r me me you own j o (own_beside site r me you k j beside o u permits may) in
+    telling_beside site (after r me o) me you own j (seen_by k.seen site o a) (told_by k.seen k.told site o a)
+    (strange_taught site r k.seen j o a (told_there r me o a refl) (λ image drawn. (u.drawn image drawn).header) beside.unseen) now
 
 -- ---- a lock that is given up
 
@@ -320,6 +337,8 @@ beside_mutual t r me you k j beside = record {
   gone_there = beside.gone;
   removed = λ image gone. unremoved image gone (is_gone k.gone t image) refl;
   apart = λ image drawn. by image drawn (is_drawn k.drawn t image) refl;
+  unseen = beside.unseen_there;
+  unseen_there = beside.unseen;
 }
   where
     unremoved : (image : ℕ) → is_gone j.gone t image ≡ true → (b : Bool) → is_gone k.gone t image ≡ b → is_gone k.gone t image ≡ false

@@ -8,6 +8,7 @@ use Rattle.rbd_kinds.specs.declared.map_op.MapOp.TheVariants as states
 use Rattle.rbd_kinds.specs.declared.operation.Op.{Op}
 use Rattle.rbd_kinds.specs.declared.operation.Op.TheVariants as op
 use Rattle.rbd_machine.specs.Knowledge.{Knowledge, own_of, is_drawn, is_gone}
+use Rattle.rbd_interference.specs.Ancestors.{DrewNoneOf}
 use Rattle.rbd_interference.specs.Truth.{is_alone_on, known_header}
 use Rattle.rbd_interference.specs.Turns.{KnowsOf}
 use Rattle.rbd_site.specs.Records.{Records}
@@ -24,8 +25,8 @@ AreUnfenced r me you = IsFalse (is_fenced r me) × IsFalse (is_fenced r you)
 
 -- Where both requests know the header of an image, after their looks under the lock, neither is
 -- alone on it. What a fenced instance knows of headers doesn't count: it does nothing by them. No
--- id was drawn by both; none was drawn by one whose header the other removed; and no header was
--- removed by both.
+-- id was drawn by both; none was drawn by one whose header the other removed, or was told; and no
+-- header was removed by both.
 pub record AreBeside (site : SiteId) (r : Records) (me you : Instance) (k j : Knowledge) : Type 0 where
   pub shared : AreUnfenced r me you → (image : ℕ) → IsSome (known_header k site image)
       → IsSome (known_header j site image) → GoBesideOthers site image k j
@@ -33,6 +34,8 @@ pub record AreBeside (site : SiteId) (r : Records) (me you : Instance) (k j : Kn
   pub gone : (image : ℕ) → is_gone k.gone site image ≡ true → is_drawn j.drawn site image ≡ false
   pub gone_there : (image : ℕ) → is_gone j.gone site image ≡ true → is_drawn k.drawn site image ≡ false
   pub removed : (image : ℕ) → is_gone k.gone site image ≡ true → is_gone j.gone site image ≡ false
+  pub unseen : DrewNoneOf site k.seen j
+  pub unseen_there : DrewNoneOf site j.seen k
 
 -- Where one request waited for the lock of an image, and the other knows its header, neither is
 -- alone.

@@ -23,6 +23,7 @@ use Rattle.rbd_site.specs.Step.{is_fenced}
 use Rattle.rbd_stands.specs.Condition.{IsDrawn}
 use Rattle.rbd_stands.specs.Covering.{AreCovered, Maps}
 use Rattle.rbd_stands.specs.View.{EachView}
+use Rattle.rbd_interference.specs.Ancestors.{AreSeenTrue, DrewNoneOf}
 
 -- ---- headers
 
@@ -149,7 +150,8 @@ KnowsNoHeader k site image = (is_drawn k.drawn site image ≡ true) ⊎ (is_gone
 
 -- What a request of an instance knows is true at the site. Where the instance is fenced, its
 -- headers say nothing: its lock may be broken, and another may change the image. It does nothing by
--- them any more. No id whose header the request removed waits for one.
+-- them any more. No id whose header the request removed waits for one. Each header that it was told,
+-- of whatever image, was the image's, and none of the ids that it drew is such an image's.
 pub record IsTrueAt (site : SiteId) (r : Records) (me : Instance) (k : Knowledge) : Type 0 where
   pub owned : IsFalse (is_fenced r me) → (image : ℕ) → IsStill (known_header k site image) (r.headers image)
   pub drawn : (image : ℕ) → is_drawn k.drawn site image ≡ true → IsWaiting r image
@@ -162,6 +164,8 @@ pub record IsTrueAt (site : SiteId) (r : Records) (me : Instance) (k : Knowledge
   pub apart : (image : ℕ) → is_gone k.gone site image ≡ true → is_drawn k.drawn site image ≡ false
   pub counted : (image : ℕ) → KnowsNoHeader k site image
       → IsCountTrue (maps_of k.maps site image).count (r.maps image None)
+  pub seen : AreSeenTrue site r k.seen
+  pub strange : DrewNoneOf site k.seen k
 
 -- ---- the site
 

@@ -119,7 +119,8 @@ pub fn what_was_told_stays_true()
 {}
 
 /// A header that is told is true, and so is what is read of a snapshot once it has its date: a
-/// header was told that could list it. More headers leave what was read true.
+/// header was told that could list it. More headers leave what was read true. So all that a request
+/// read of snapshots is true behind each of its own operations, as it was before.
 pub fn what_is_told_is_true()
     ensures header { (site : Site) (r : Records) (f : Flat) (me : Instance) (image : ℕ) (h : HeaderView)
         (seen : List HeaderSeen) → StandsFor [] r f
@@ -141,6 +142,11 @@ pub fn what_is_told_is_true()
     ensures more { (site : Site) (r : Records) (f : Flat) (e : HeaderSeen) (seen : List HeaderSeen)
         (told : List ObjectTold)
         → AreToldTrue site r f seen told → AreToldTrue site r f (e ∷ seen) told }
+    ensures kept { (site : Site) (r : Records) (f : Flat) (k : Knowledge) (me : Instance) (op : Op) (most : ℕ)
+        → StandsFor [] r f → AreInForm r most → AreStandalone r → AreMapped r → IsTrueAt site r me k
+        → Permits k site op → AreToldTrue site r f k.seen k.told
+        → AreToldTrue site (after r me op) (changed_by f (effect_of r (done.Op op) (answer_to r me op)))
+        (learned k site op (answer_to r me op)).seen (learned k site op (answer_to r me op)).told }
 {}
 
 /// A byte that is known of a snapshot, by what was read of it and of those below it at several
@@ -219,6 +225,7 @@ pub fn a_lock_has_one_owner()
         → ((image : ℕ) → is_gone k.gone site image ≡ true → is_drawn j.drawn site image ≡ false)
         → ((image : ℕ) → is_gone j.gone site image ≡ true → is_drawn k.drawn site image ≡ false)
         → ((image : ℕ) → is_gone k.gone site image ≡ true → is_gone j.gone site image ≡ false)
+        → DrewNoneOf site k.seen j → DrewNoneOf site j.seen k
         → AreBeside site r me you k j }
     ensures looks { (site : Site) (r : Records) (me you : Instance) (k j : Knowledge) (image : ℕ)
         → me ≢ you → HasLockWhileFree r me image → KnowsByLock site r you j

@@ -30,6 +30,7 @@
 //! | alone: how long that map is | the map is there, and as long at least |
 //! | alone: a snapshot's map that it put | it has the head's states |
 //! | alone: places that it made zeros | they are zeros |
+//! | a header that it was told, of any image | the one that the image has, if any, is a later one |
 //!
 //! How long a map is, a request also knows of an image that has no header, by its id that was drawn
 //! or its header that was removed.
@@ -39,8 +40,9 @@
 //!   each of its operations is refused. The ids that it drew still wait.
 //! - Two requests are *beside* each other where neither is alone on an image whose header both
 //!   know, unless the instance of one is fenced. No id was drawn by both, or by one and its header
-//!   removed by the other, and no header was removed by both. The line of an image sees to the
-//!   first within a session (`rbd_queue`), and the lock between clients.
+//!   removed by the other, and no header was removed by both. Nor did one draw the id of an image
+//!   whose header the other was told. The line of an image sees to the first within a session
+//!   (`rbd_queue`), and the lock between clients.
 //! - Only where it is so may a request look at its image's header the first time under the lock, or
 //!   give the lock up. It may change an object, or its state in the head's map, only where the
 //!   other knows nothing of that object. This is what one may do beside another (`MayAct`). All

@@ -6,6 +6,7 @@ use Rattle.rbd_knowledge.specs.ClientsKnowing.{known_to_drop, known_to_release, 
 use Rattle.rbd_kinds.specs.declared.id.Instance.{Instance}
 use Rattle.rbd_kinds.specs.declared.id.SiteId.{SiteId}
 use Rattle.rbd_kinds.proofs.Images.{at_itself}
+use Rattle.rbd_machine.specs.Ancestors.{has_seen}
 use Rattle.rbd_machine.specs.Knowledge.{Knowledge, is_at, is_drawn, is_gone}
 use Rattle.rbd_machine.specs.Permits.{Permits}
 use Rattle.rbd_lock.specs.declared.release.Release.{Release}
@@ -44,6 +45,10 @@ removed_nothing : (s : ReleaseStage) (site : SiteId) (image : ℕ) (there : Site
 removed_nothing releasing.Telling site image there other = refl
 removed_nothing releasing.Dropping site image there other = refl
 
+saw_nothing : (s : ReleaseStage) (site : SiteId) (image : ℕ) (there : SiteId) (other : ℕ) → has_seen (known_to_drop s site image).seen there other ≡ false
+saw_nothing releasing.Telling site image there other = refl
+saw_nothing releasing.Dropping site image there other = refl
+
 true_at : (there : SiteId) (r : Records) (me : Instance) (s : ReleaseStage) (site : SiteId) (image : ℕ) → IsTrueAt there r me (known_to_drop s site image)
 true_at there r me releasing.Telling site image = nothing_is_true there r me
 true_at there r me releasing.Dropping site image = record {
@@ -55,6 +60,8 @@ true_at there r me releasing.Dropping site image = record {
   gone = λ other gone. absurd (true≢false (sym gone));
   apart = λ other gone. refl;
   counted = λ other without. absurd (by other without);
+  seen = λ other h among. absurd among;
+  strange = λ other saw. refl;
 }
   where
     by : (other : ℕ) → KnowsNoHeader (known_to_drop releasing.Dropping site image) there other → ⊥
@@ -71,4 +78,6 @@ beside_release there r me you k x = record {
   gone = λ image gone. drew_nothing x.stage x.site x.image there image;
   gone_there = λ image gone. absurd (true≢false (sym gone ∙ removed_nothing x.stage x.site x.image there image));
   removed = λ image gone. removed_nothing x.stage x.site x.image there image;
+  unseen = λ image saw. drew_nothing x.stage x.site x.image there image;
+  unseen_there = λ image saw. absurd (true≢false (sym saw ∙ saw_nothing x.stage x.site x.image there image));
 }

@@ -28,6 +28,7 @@ use Rattle.rbd_machine.specs.Lawful.{IsLawful}
 use Rattle.rbd_machine.specs.Path.{at_operation}
 use Rattle.rbd_machine.specs.Permits.{Permits}
 use Rattle.rbd_machine.specs.Plan.{Plan, Ask, Await, Note, Return, Goto, plan_after}
+use Rattle.rbd_interference.specs.Ancestors.{DrewNoneOf}
 use Rattle.rbd_interference.specs.Beside.{AreBeside, LeavesObject, MayAct, SharesLock}
 use Rattle.rbd_interference.specs.Truth.{header_of_own}
 use Rattle.rbd_site.specs.Records.{Records}
@@ -139,13 +140,15 @@ module _ (labels : Label → Plan) (there : (label : Label) → IsCalm (labels l
 
 module _ (site : SiteId) (r : Records) (me you : Instance) (k j : Knowledge) where
   pub calm_beside : OwnsNothing k → ((image : ℕ) → is_drawn k.drawn site image ≡ true → is_drawn j.drawn site image ≡ false)
-      → ((image : ℕ) → is_gone j.gone site image ≡ true → is_drawn k.drawn site image ≡ false) → AreBeside site r me you k j
-  calm_beside none apart gone = record {
+      → ((image : ℕ) → is_gone j.gone site image ≡ true → is_drawn k.drawn site image ≡ false) → DrewNoneOf site k.seen j → DrewNoneOf site j.seen k → AreBeside site r me you k j
+  calm_beside none apart gone unseen unseen_there = record {
     shared = λ free image mine others. absurd (true≢false (sym mine ∙ ap (λ q. is_some (header_of_own q)) (none.owns site image)));
     apart = apart;
     gone = λ image removed. absurd (true≢false (sym removed ∙ none.gone site image));
     gone_there = gone;
     removed = λ image removed. absurd (true≢false (sym removed ∙ none.gone site image));
+    unseen = unseen;
+    unseen_there = unseen_there;
   }
 
   calm_shares : (image : ℕ) → OwnsNothing k → SharesLock site image r me you k j

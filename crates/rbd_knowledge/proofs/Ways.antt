@@ -1,5 +1,5 @@
 -- What a way to a lock knows: it may do what it does by that, it is true, and it goes beside all.
-use Rattle.std.proofs.Common.{◌≡◌, inl, inr, ℕ, ◌&&◌, cond, Bool, true, false, Option, Some, None, refl, sym, ap, ◌∙◌, subst, true≢false}
+use Rattle.std.proofs.Common.{◌≡◌, inl, inr, ℕ, ◌&&◌, cond, Bool, true, false, [], Option, Some, None, refl, sym, ap, ◌∙◌, subst, true≢false}
 use Rattle.std.specs.Prelude.{is_some}
 use Rattle.std.proofs.lemmas.Bool.{and_parts}
 use Rattle.std.proofs.lemmas.Option.{none-some, same_Some}
@@ -16,6 +16,7 @@ use Rattle.rbd_kinds.specs.declared.operation.Op.TheVariants as op
 use Rattle.rbd_kinds.specs.declared.reply.Reply.TheVariants as reply
 use Rattle.rbd_kinds.specs.Instances.{same_instance}
 use Rattle.rbd_kinds.proofs.Instances.{same_instance_is}
+use Rattle.rbd_machine.specs.Ancestors.{IsAmong, has_seen}
 use Rattle.rbd_machine.specs.Knowledge.{Knowledge, is_drawn, is_fenced_by, is_gone, nothing_known, own_of, same_site}
 use Rattle.rbd_machine.specs.Permits.{Permits}
 use Rattle.rbd_machine.specs.Plan.{Plan, Ask, Return, plan_after, past_label}
@@ -72,6 +73,14 @@ removed_nothing : (s : Stage) (site there : SiteId) (image : ℕ) → is_gone (k
 removed_nothing (stage.Breaking owner) site there image = refl
 removed_nothing _ site there image = refl
 
+-- nor was it told any header
+sees_none : (s : Stage) (site : SiteId) → (known_at_stage s site).seen ≡ []
+sees_none (stage.Breaking owner) site = refl
+sees_none _ site = refl
+
+saw_nothing : (s : Stage) (site there : SiteId) (image : ℕ) → has_seen (known_at_stage s site).seen there image ≡ false
+saw_nothing s site there image = ap (λ seen. has_seen seen there image) (sees_none s site)
+
 -- it knows of no image that has no header
 without_none : (s : Stage) (site there : SiteId) (image : ℕ) → KnowsNoHeader (known_at_stage s site) there image → ⊥
 without_none s site there image (inl drawn) = true≢false (sym drawn ∙ drew_nothing s site there image)
@@ -84,6 +93,8 @@ beside_way there r me you k a = record {
   gone = λ image gone. drew_nothing a.stage a.site there image;
   gone_there = λ image gone. absurd (true≢false (sym gone ∙ removed_nothing a.stage a.site there image));
   removed = λ image gone. removed_nothing a.stage a.site there image;
+  unseen = λ image saw. drew_nothing a.stage a.site there image;
+  unseen_there = λ image saw. absurd (true≢false (sym saw ∙ saw_nothing a.stage a.site there image));
 }
 
 -- ---- it is true where its fence is up
@@ -99,6 +110,8 @@ fences_are_true there r me s site fences = record {
   gone = λ image gone. absurd (true≢false (sym gone ∙ removed_nothing s site there image));
   apart = λ image gone. drew_nothing s site there image;
   counted = λ image without. absurd (without_none s site there image without);
+  seen = λ image h among. absurd (subst (IsAmong (record { site = there; image = image; header = h })) (sees_none s site) among);
+  strange = λ image saw. drew_nothing s site there image;
 }
 
 pub way_stays_true : (there : SiteId) (r : Records) (me you : Instance) (a : Acquire) (o : Op) → IsTrueAt there r me (known_on_way a) → IsTrueAt there (after r you o) me (known_on_way a)

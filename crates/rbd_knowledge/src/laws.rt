@@ -17,6 +17,7 @@ ghost use Rattle.rbd_machine.specs.Plan.{Plan, Ask, Standing, plan_after};
 ghost use Rattle.rbd_machine.specs.Standalone.{IsFedStandalone};
 ghost use Rattle.rbd_machine.specs.declared.reason.Reason.{Reason};
 ghost use Rattle.rbd_machine.specs.declared.seat.Seat.{Seat};
+ghost use Rattle.rbd_interference.specs.Ancestors.{DrewNoneOf};
 ghost use Rattle.rbd_interference.specs.Beside.{AreBeside, MayAct};
 ghost use Rattle.rbd_interference.specs.Truth.{IsTrueAt};
 ghost use Rattle.rbd_catalog.specs.Plans.{IsPlanFor};
@@ -87,8 +88,8 @@ pub fn waits_change_little()
 {}
 
 /// A request that waits for nothing owns and removes nothing. So it goes beside each other request
-/// that neither drew nor removed an id which it drew: each of the two may do whatever it does
-/// beside the other.
+/// that neither drew nor removed an id which it drew, where neither was told a header of an image
+/// whose id the other drew: each of the two may do whatever it does beside the other.
 pub fn calm_requests_own_nothing()
     ensures first { OwnsNothing nothing_known }
     ensures fed { (labels : Label → Plan) (known_at : Label → Knowledge) (k : Knowledge) (plan : Plan) (f : Fed)
@@ -101,6 +102,7 @@ pub fn calm_requests_own_nothing()
     ensures beside { (site : Site) (r : Records) (me you : Instance) (k j : Knowledge) → OwnsNothing k
         → ((image : ℕ) → is_drawn k.drawn site image ≡ true → is_drawn j.drawn site image ≡ false)
         → ((image : ℕ) → is_gone j.gone site image ≡ true → is_drawn k.drawn site image ≡ false)
+        → DrewNoneOf site k.seen j → DrewNoneOf site j.seen k
         → AreBeside site r me you k j }
     ensures acts { (site : Site) (r : Records) (me you : Instance) (k j : Knowledge) (op : Op) → OwnsNothing k
         → MayAct site r me you k j op }

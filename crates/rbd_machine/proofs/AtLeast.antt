@@ -937,7 +937,7 @@ told_stays seen told site (op.Data image number (object.Read (Some snap) parts))
 told_stays seen told site _ _ t among = among
 
 -- what is known of the request's own is no header and no snapshot of another's
-abbrev ToldAsBefore : Knowledge → Knowledge → Type 0
+abbrev pub ToldAsBefore : Knowledge → Knowledge → Type 0
 ToldAsBefore k own = (own.seen ≡ k.seen) × (own.told ≡ k.told)
 
 looked_as_before : (k : Knowledge) (site : SiteId) (image : ℕ) → ToldAsBefore k (looked_behind site image k)
@@ -987,7 +987,8 @@ header_as_before k site image (header.LockBreak owner) answer.Done = (refl, refl
 header_as_before k site image (header.LockBreak owner) answer.Changed = (refl, refl)
 header_as_before k site image _ _ = (refl, refl)
 
-own_as_before : (k : Knowledge) (site : SiteId) (o : Op) (a : Answer) → ToldAsBefore k (learned_own k site o a)
+-- what is its own adds nothing to what it was told of any image
+pub own_as_before : (k : Knowledge) (site : SiteId) (o : Op) (a : Answer) → ToldAsBefore k (learned_own k site o a)
 own_as_before k site (op.Directory o) a = directory_as_before k site o a
 own_as_before k site (op.Header image o) a = header_as_before k site image o a
 own_as_before k site (op.Data image number o) a = object_as_before k site image number o a

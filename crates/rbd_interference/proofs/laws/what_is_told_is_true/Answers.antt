@@ -1,4 +1,5 @@
-use Rattle.rbd_interference.proofs.AncestorsKept.{absence_told_true, bytes_told_true, header_told_true, told_by_more}
+use Rattle.rbd_interference.proofs.AncestorsKept.{absence_told_true, bytes_told_true, told_by_more, told_learned}
+use Rattle.rbd_interference.proofs.Learned.{header_told_true}
 use Rattle.rbd_interference.proofs.laws.what_is_told_is_true.Goals as goal
 
 pub returns-clause-header : goal.returns-clause-header
@@ -12,3 +13,6 @@ returns-clause-absence c = λ site r f me image snap number parts seen told stan
 
 pub returns-clause-more : goal.returns-clause-more
 returns-clause-more c = told_by_more
+
+pub returns-clause-kept : goal.returns-clause-kept
+returns-clause-kept c = told_learned

@@ -1,4 +1,5 @@
-use Rattle.rbd_interference.proofs.AncestorsKept.{seen_expired, seen_kept, seen_trimmed, told_expired, told_kept, told_trimmed}
+use Rattle.rbd_interference.proofs.AncestorsKept.{seen_expired, told_expired, told_kept, told_trimmed}
+use Rattle.rbd_interference.proofs.Kept.{seen_kept, seen_trimmed}
 use Rattle.rbd_interference.proofs.laws.what_was_told_stays_true.Goals as goal
 
 pub returns-clause-headers : goal.returns-clause-headers
