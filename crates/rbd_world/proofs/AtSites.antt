@@ -26,6 +26,7 @@ use Rattle.rbd_interference.proofs.Effects.{has_its_effect}
 use Rattle.rbd_interference.proofs.Kept.{others_keep}
 use Rattle.rbd_interference.proofs.Locks.{lock_lasts}
 use Rattle.rbd_interference.proofs.Maps.{mapped_stays}
+use Rattle.rbd_interference.proofs.Ranked.{ranked_behind}
 use Rattle.rbd_interference.proofs.Standalone.{standalone_stays, told_standalone}
 use Rattle.rbd_interference.proofs.Together.{beside_stays}
 use Rattle.rbd_site.specs.Records.{Records}
@@ -101,6 +102,7 @@ module _ {R : Type 0} (stands : R → Standing) (old new : WorldView R) (w : IsS
       here = record {
         standalone = standalone_stays s (records_in s old.sites) k who o (w.standalone s) permits;
         mapped = mapped_stays s (records_in s old.sites) (flat_after s w.told.run) k who o (length (site_in s old.sites).log) (stands_in s) (w.form s) (w.mapped s) (known s) permits;
+        ranked = ranked_behind s (records_in s old.sites) (flat_after s w.told.run) k who (stands_in s) (w.ranked s) o permits;
       }
 
   pub can_give : IsGiven o answered

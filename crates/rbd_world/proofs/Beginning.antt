@@ -15,9 +15,10 @@ use Rattle.rbd_knowledge.specs.Knowing.{KnowsIn}
 use Rattle.rbd_machine.specs.Knowledge.{nothing_known}
 use Rattle.rbd_lock.specs.declared.lock_state.LockState.{LockState}
 use Rattle.rbd_machine.specs.Plan.{Standing}
-use Rattle.rbd_interference.specs.Truth.{AreMapped, AreStandalone}
+use Rattle.rbd_interference.specs.Truth.{AreMapped, AreRanked, AreStandalone}
 use Rattle.rbd_interference.proofs.Maps.{none_mapped}
 use Rattle.rbd_interference.proofs.Nothing.{none_standalone, nothing_is_beside}
+use Rattle.rbd_interference.proofs.Ranked.{none_ranked}
 use Rattle.rbd_slots.specs.Session.{running_at, running_in, script_line}
 use Rattle.rbd_site.specs.InForm.{AreInForm}
 use Rattle.rbd_site.specs.Log.{after_all}
@@ -136,7 +137,7 @@ module _ {R : Type 0} (stands : R → Standing) where
       logs = new.sites;
       records = λ s. ap (after_all no_records) (new.sites s);
       mail = new.mail;
-      right = λ s. record { stands = nothing_stands; standalone = none_standalone; mapped = none_mapped; form = form_at_first };
+      right = λ s. record { stands = nothing_stands; standalone = none_standalone; mapped = none_mapped; ranked = none_ranked; form = form_at_first };
       exact = λ calm s. subst (λ log. IsExactBut (IsOwed (owed_in []) s) (after_all no_records log)) (sym (new.sites s)) (none_exact (IsOwed (owed_in []) s));
       lives = first_lives w new;
       order = tt;
@@ -146,6 +147,7 @@ module _ {R : Type 0} (stands : R → Standing) where
     form = λ s. subst (λ log. AreInForm (after_all no_records log) (length log)) (sym (new.sites s)) form_at_first;
     standalone = λ s. subst (λ log. AreStandalone (after_all no_records log)) (sym (new.sites s)) none_standalone;
     mapped = λ s. subst (λ log. AreMapped (after_all no_records log)) (sym (new.sites s)) none_mapped;
+    ranked = λ s. subst (λ log. AreRanked (after_all no_records log)) (sym (new.sites s)) none_ranked;
     clients = first_living w new;
     in_slots = λ session slot c is. sym (has_first w new session c is).fresh.instance;
     nobody = λ session none slot. refl;

@@ -16,7 +16,7 @@ use Rattle.rbd_machine.specs.Knowledge.{Knowledge, is_drawn, nothing_known}
 use Rattle.rbd_machine.specs.Label.{Label}
 use Rattle.rbd_machine.specs.Plan.{Plan, Ask, Await, Note, Return, Goto, Standing}
 use Rattle.rbd_interference.specs.Beside.{AreBeside, MayAct}
-use Rattle.rbd_interference.specs.Truth.{AreMapped, AreStandalone}
+use Rattle.rbd_interference.specs.Truth.{AreMapped, AreRanked, AreStandalone}
 use Rattle.rbd_slots.specs.declared.running.Occupant.{Occupant}
 use Rattle.rbd_slots.specs.declared.running.Occupant.TheVariants as occupant
 use Rattle.rbd_slots.specs.declared.running.Running.{Running}
@@ -47,10 +47,11 @@ use Rattle.rbd_world.proofs.OwningNow.{IsByItsClient, owns_now}
 abbrev pub StandFlat : List Happening → Type 0
 StandFlat run = (s : SiteId) → StandsFor [] (records_after s run) (flat_after s run)
 
--- No image has a parent, and each has its object maps.
+-- No image has a parent, each has its object maps, and a parent is less deep than its child.
 pub record HasWholeImages (r : Records) : Type 0 where
   pub standalone : AreStandalone r
   pub mapped : AreMapped r
+  pub ranked : AreRanked r
 
 -- ---- it is the event's
 
@@ -162,7 +163,7 @@ module _ {R : Type 0} (stands : R → Standing) where
       by false = tt
 
   pub whole_in : (w : WorldView R) → IsSoundWorld stands w → (s : SiteId) → HasWholeImages (records_in s w.sites)
-  whole_in w sound s = record { standalone = sound.standalone s; mapped = sound.mapped s }
+  whole_in w sound s = record { standalone = sound.standalone s; mapped = sound.mapped s; ranked = sound.ranked s }
 
   -- ---- what has to be shown
 
@@ -236,6 +237,7 @@ module _ {R : Type 0} (stands : R → Standing) where
         form = λ s. at_sites.form s (w.form s);
         standalone = λ s. (carries.whole s).standalone;
         mapped = λ s. (carries.whole s).mapped;
+        ranked = λ s. (carries.whole s).ranked;
         clients = carries.clients;
         in_slots = carries.in_slots;
         nobody = carries.nobody;
@@ -277,6 +279,7 @@ module _ {R : Type 0} (stands : R → Standing) where
         stands = standing s;
         standalone = subst AreStandalone (records_now s) (whole s).standalone;
         mapped = subst AreMapped (records_now s) (whole s).mapped;
+        ranked = subst AreRanked (records_now s) (whole s).ranked;
         form =
             subst (λ ds. AreInForm (records_after s (h ∷ w.told.run)) (length ds)) (logs_now s)
             (subst (λ r. AreInForm r (length (site_in s new.sites).log)) (records_now s) (at_sites.form s (w.form s)));

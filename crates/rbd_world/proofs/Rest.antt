@@ -13,6 +13,7 @@ use Rattle.rbd_interference.proofs.Together.{still_beside}
 use Rattle.rbd_interference.specs.Truth.{IsTrueAt}
 use Rattle.rbd_interference.proofs.Kept.{expiries_keep, trims_keep}
 use Rattle.rbd_interference.proofs.Maps.{mapped_expired, mapped_trimmed}
+use Rattle.rbd_interference.proofs.Ranked.{ranked_expired, ranked_trimmed}
 use Rattle.rbd_slots.specs.Session.{script_line}
 use Rattle.rbd_site.specs.Log.{expired, trimmed}
 use Rattle.rbd_site.specs.Records.{Records}
@@ -66,7 +67,7 @@ module _ {R : Type 0} (stands : R → Standing) (old new : WorldView R) (w : IsS
     known = λ me k t. trims_keep s (records_in s old.sites) me k image number t;
     locks = λ me k t i known free. let lock = t i known free in record { header = lock.header; there = lock.there; owner = lock.owner };
     beside = λ me you k j t. still_beside s (records_in s old.sites) (trimmed image number (records_in s old.sites)) me you k j (λ free. free) t;
-    whole = λ t. record { standalone = t.standalone; mapped = mapped_trimmed (records_in s old.sites) image number t.mapped };
+    whole = λ t. record { standalone = t.standalone; mapped = mapped_trimmed (records_in s old.sites) image number t.mapped; ranked = ranked_trimmed (records_in s old.sites) image number t.ranked };
   }
 
   expiry_true : (s : SiteId) (image : ℕ) (who : Instance) → StaysTrue s (expired image who (records_in s old.sites))
@@ -75,7 +76,7 @@ module _ {R : Type 0} (stands : R → Standing) (old new : WorldView R) (w : IsS
     known = λ me k t. expiries_keep s (records_in s old.sites) me k image who t;
     locks = λ me k t i known free. let lock = t i known free in record { header = lock.header; there = lock.there; owner = lock.owner };
     beside = λ me you k j t. still_beside s (records_in s old.sites) (expired image who (records_in s old.sites)) me you k j (λ free. free) t;
-    whole = λ t. record { standalone = t.standalone; mapped = mapped_expired (records_in s old.sites) image who t.mapped };
+    whole = λ t. record { standalone = t.standalone; mapped = mapped_expired (records_in s old.sites) image who t.mapped; ranked = ranked_expired (records_in s old.sites) image who t.ranked };
   }
 
   pub still_may_come : (r : SiteId → Records) → ((s : SiteId) → StaysTrue s (r s)) → (m : ℕ) (x : Sent) (k : Knowledge) → MayStillCome m (λ s. records_in s old.sites) x k → MayStillCome m r x k

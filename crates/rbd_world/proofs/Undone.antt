@@ -18,7 +18,7 @@ use Rattle.rbd_machine.specs.Path.{IsWalk}
 use Rattle.rbd_machine.specs.Plan.{Standing}
 use Rattle.rbd_machine.specs.Refused.{AreGiven}
 use Rattle.rbd_interference.specs.Beside.{AreBeside}
-use Rattle.rbd_interference.specs.Truth.{AreMapped, AreStandalone}
+use Rattle.rbd_interference.specs.Truth.{AreMapped, AreRanked, AreStandalone}
 use Rattle.rbd_slots.specs.declared.running.Occupant.{Occupant}
 use Rattle.rbd_slots.specs.declared.running.Occupant.TheVariants as occupant
 use Rattle.rbd_slots.specs.declared.running.Running.{Running}
@@ -242,6 +242,7 @@ module _ {R : Type 0} (stands : R → Standing) where
     form = subst (λ (sites : Sites). (s : SiteId) → AreInForm (records_in s sites) (length (site_in s sites).log)) (sym undone.sites) w.form;
     standalone = subst (λ (sites : Sites). (s : SiteId) → AreStandalone (records_in s sites)) (sym undone.sites) w.standalone;
     mapped = subst (λ (sites : Sites). (s : SiteId) → AreMapped (records_in s sites)) (sym undone.sites) w.mapped;
+    ranked = subst (λ (sites : Sites). (s : SiteId) → AreRanked (records_in s sites)) (sym undone.sites) w.ranked;
     clients = λ session.
         alike_if (IsLiving stands (w.told.homes session) session w.told.run (known_in w.knows session)) (client_in session old.lives) (client_in session new.lives) (same session) (sound session)
         (λ c d was alike is_sound. alike_client (w.told.homes session) session w.told.run (known_in w.knows session) c d alike is_sound (w.clients session c was));

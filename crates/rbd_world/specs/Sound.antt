@@ -36,7 +36,7 @@ use Rattle.rbd_meaning.specs.Meant.{IsMeantBy}
 use Rattle.rbd_lock.specs.Steps.{lock_take}
 use Rattle.rbd_interference.specs.Beside.{AreBeside, MayAct}
 use Rattle.rbd_interference.specs.Locks.{KnowsByLock}
-use Rattle.rbd_interference.specs.Truth.{AreMapped, IsTrueAt, AreStandalone}
+use Rattle.rbd_interference.specs.Truth.{AreMapped, AreRanked, IsTrueAt, AreStandalone}
 use Rattle.rbd_catalog.specs.Plans.{IsPlanFor}
 use Rattle.rbd_slots.specs.declared.running.Occupant.{Occupant}
 use Rattle.rbd_slots.specs.declared.running.Occupant.TheVariants as occupant
@@ -332,11 +332,12 @@ IsDue homes (Restarted who) before = IsRestart who before
 IsDue homes h before = Unit {0}
 
 -- The site's records stand for its flat site. No image has a parent, each has its object maps,
--- which cover its objects, and headers are in form.
+-- which cover its objects, a parent is less deep than its child, and headers are in form.
 pub record IsStanding (s : SiteId) (run : List Happening) : Type 0 where
   pub stands : StandsFor [] (records_after s run) (flat_after s run)
   pub standalone : AreStandalone (records_after s run)
   pub mapped : AreMapped (records_after s run)
+  pub ranked : AreRanked (records_after s run)
   pub form : AreInForm (records_after s run) (length (log_of s run))
 
 -- so it is at both sites
@@ -519,10 +520,11 @@ pub record IsSoundWorld {R : Type 0} (stands : R → Standing) (w : WorldView R)
   -- who knows what
   pub who : Holder → Instance
   pub knows : Holder → Knowledge
-  -- each site's headers are in form, and no image has a parent
+  -- each site's headers are in form, no image has a parent, and a parent would be less deep
   pub form : (s : SiteId) → AreInForm (records_in s w.sites) (length (site_in s w.sites).log)
   pub standalone : (s : SiteId) → AreStandalone (records_in s w.sites)
   pub mapped : (s : SiteId) → AreMapped (records_in s w.sites)
+  pub ranked : (s : SiteId) → AreRanked (records_in s w.sites)
   -- the requests of a life that runs are under way by what they know
   pub clients : (session : ℕ) (c : ClientView R) → client_in session w.lives ≡ Some c
       → IsLiving stands (told.homes session) session told.run (known_in knows session) c
