@@ -12,7 +12,7 @@ use Rattle.rbd_kinds.specs.declared.id.SiteId.{SiteId}
 use Rattle.rbd_kinds.specs.declared.layout.Part.{Part}
 use Rattle.rbd_kinds.specs.declared.operation.Op.{Op}
 use Rattle.rbd_kinds.specs.declared.operation.Op.TheVariants as op
-use Rattle.rbd_kinds.proofs.Images.{same_site_is}
+use Rattle.rbd_kinds.proofs.Images.{same_site_is, same_site_itself}
 use Rattle.rbd_flat.specs.Flat.{Flat, FlatSnap}
 use Rattle.rbd_flat.specs.declared.effect.Effect.{Effect}
 use Rattle.rbd_flat.proofs.Steps.{snap_keeps}
@@ -30,7 +30,7 @@ use Rattle.rbd_stands.specs.Effect.{effect_of, effect_of_op}
 use Rattle.rbd_stands.specs.Site.{StandsFor}
 use Rattle.rbd_stands.specs.Told.{IsDated, IsStillTold, KeepsSnapshots}
 use Rattle.rbd_stands.proofs.Told.{absent_still, bytes_still, dated_behind, told_behind_operation}
-use Rattle.rbd_interference.specs.Ancestors.{AreSeenTrue, AreToldTrue, DrewNoneOf, IsToldTrue}
+use Rattle.rbd_interference.specs.Ancestors.{AreSeenTrue, AreToldTrue, DrewNoneOf, HasReadTruly, IsToldTrue}
 use Rattle.rbd_interference.specs.Truth.{AreMapped, AreStandalone, IsTrueAt, changed_by}
 use Rattle.rbd_interference.proofs.Done.{may_do}
 use Rattle.rbd_interference.proofs.Effects.{has_its_effect}
@@ -147,6 +147,35 @@ pub told_by_more : (site : SiteId) (r : Records) (f : Flat) (e : HeaderSeen) (se
 told_by_more site r f e seen told was image snap number parts bytes among =
     let it = was image snap number parts bytes among in
     record { saw = saw_more site image e seen it.saw; dated = it.dated; still = it.still }
+
+-- ---- at the other site
+
+module _ (s t : SiteId) (differ : same_site s t ≡ false) where
+  -- what was read of snapshots here is nothing that was read there
+  told_when_same : (dated : Bool) (e x : ObjectTold) (told : List ObjectTold) → e.site ≡ s → x.site ≡ t → IsAmong x (told_when dated e told) → IsAmong x told
+  told_when_same false e x told here there among = among
+  told_when_same true e x told here there (inl same) =
+      let one : s ≡ t = sym here ∙ ap (λ (y : ObjectTold). y.site) same ∙ there in
+      absurd (true≢false (sym (same_site_itself s) ∙ ap (same_site s) one ∙ differ))
+  told_when_same true e x told here there (inr among) = among
+
+  told_same : (seen : List HeaderSeen) (told : List ObjectTold) (o : Op) (a : Answer) (x : ObjectTold) → x.site ≡ t → IsAmong x (told_by seen told s o a) → IsAmong x told
+  told_same seen told (op.Data image number (object.Read (Some snap) parts)) (answer.Bytes bytes) x there among =
+      told_when_same (is_dated seen s image snap) (record { site = s; image = image; snap = snap; object = number; parts = parts; bytes = Some bytes }) x told refl there among
+  told_same seen told (op.Data image number (object.Read (Some snap) parts)) answer.Absent x there among =
+      told_when_same (is_dated seen s image snap) (record { site = s; image = image; snap = snap; object = number; parts = parts; bytes = None }) x told refl there among
+  told_same seen told _ _ x there among = among
+
+  -- and more headers that are told here are none fewer there
+  seen_more : (seen : List HeaderSeen) (o : Op) (a : Answer) (image : ℕ) → has_seen seen t image ≡ true → has_seen (seen_by seen s o a) t image ≡ true
+  seen_more seen (op.Header of header.Get) (answer.Header h) image saw = saw_more t image (record { site = s; image = of; header = h }) seen saw
+  seen_more seen _ _ image saw = saw
+
+  pub reads_elsewhere : (r : Records) (f : Flat) (k : Knowledge) (o : Op) (a : Answer) → HasReadTruly t r f k → HasReadTruly t r f (learned k s o a)
+  reads_elsewhere r f k o a was image snap number parts bytes among =
+      let it = was image snap number parts bytes
+      (told_same k.seen k.told o a (record { site = t; image = image; snap = snap; object = number; parts = parts; bytes = bytes }) refl among) in
+      record { saw = seen_more k.seen o a image it.saw; dated = it.dated; still = it.still }
 
 -- ---- behind a request's own operation
 

@@ -10,6 +10,7 @@ use Rattle.rbd_kinds.specs.declared.id.SiteId.{SiteId}
 use Rattle.rbd_kinds.specs.declared.layout.Layout.{Layout}
 use Rattle.rbd_kinds.proofs.Images.{same_site_is}
 use Rattle.rbd_object.specs.Mapped.{Mapped}
+use Rattle.rbd_flat.specs.Flat.{Flat}
 use Rattle.rbd_machine.specs.Ancestors.{HeaderSeen, ObjectTold}
 use Rattle.rbd_machine.specs.Knowledge.{Fence, ImageMaps, Knowledge, MapsKnown, ObjectsKnown, Own, afresh, owns_when_held, is_absent, is_at, is_drawn, is_fence_of, is_fenced_by, is_gone, is_raised, owns_without, maps_of, objects_known_of, own_of, known_after_wait, same_site, unfenced, unmapped, unmarked, untouched, without_fence}
 use Rattle.rbd_machine.specs.Wait.{Wait}
@@ -18,7 +19,7 @@ use Rattle.rbd_machine.proofs.Lawful.{left_here}
 use Rattle.rbd_site.specs.Records.{Records, object_at}
 use Rattle.rbd_site.specs.Step.{is_fenced}
 use Rattle.rbd_stands.specs.Covering.{Maps}
-use Rattle.rbd_interference.specs.Ancestors.{AreSeenTrue, DrewNoneOf}
+use Rattle.rbd_interference.specs.Ancestors.{AreSeenTrue, DrewNoneOf, HasReadTruly}
 use Rattle.rbd_interference.specs.Beside.{AreBeside}
 use Rattle.rbd_interference.specs.Truth.{AreMapsTrue, AreObjectsTrue, AreZeros, IsCountTrue, IsStill, IsTrueAt, KnowsNoHeader, header_of_own, is_alone_on, is_own_alone, known_header}
 use Rattle.rbd_interference.specs.Turns.{KnowsOf}
@@ -355,6 +356,14 @@ waited_less site k (wait.Leave there place) = record {
 
 pub waits_learned : (site : SiteId) (r : Records) (me : Instance) (k : Knowledge) → IsTrueAt site r me k → (w : Wait) → IsTrueAt site r me (known_after_wait k w)
 waits_learned site r me k t w = less_true site (known_after_wait k w) k (waited_less site k w) r me t
+
+-- no wait adds to what was read of snapshots
+pub waits_read : (site : SiteId) (r : Records) (f : Flat) (k : Knowledge) (w : Wait) → HasReadTruly site r f k → HasReadTruly site r f (known_after_wait k w)
+waits_read site r f k (wait.Join there image sharing) was = was
+waits_read site r f k (wait.Hold there place) was = was
+waits_read site r f k (wait.Turn object) was = was
+waits_read site r f k (wait.Applied there image) was = was
+waits_read site r f k (wait.Leave there place) was = was
 
 -- at the look under the lock
 marked_afresh : (site : SiteId) (k : Knowledge) (image object : ℕ) (b : Bool) → is_raised None object (cond b unmapped (maps_of (unmarked k.maps) site image)).raised ≡ true → ⊥

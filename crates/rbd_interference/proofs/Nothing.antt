@@ -3,8 +3,10 @@ use Rattle.std.proofs.Common.{inl, inr, ℕ, refl, sym}
 use Rattle.std.proofs.lemmas.Bool.{true≢false}
 use Rattle.rbd_kinds.specs.declared.id.Instance.{Instance}
 use Rattle.rbd_kinds.specs.declared.id.SiteId.{SiteId}
+use Rattle.rbd_flat.specs.Flat.{Flat}
 use Rattle.rbd_machine.specs.Knowledge.{Knowledge, nothing_known}
 use Rattle.rbd_site.specs.Records.{Records, no_records}
+use Rattle.rbd_interference.specs.Ancestors.{HasReadTruly}
 use Rattle.rbd_interference.specs.Beside.{AreBeside}
 use Rattle.rbd_interference.specs.Truth.{IsTrueAt, AreStandalone, KnowsNoHeader}
 
@@ -25,6 +27,9 @@ nothing_is_true s r me = record {
     by : (image : ℕ) → KnowsNoHeader nothing_known s image → ⊥
     by image (inl drawn) = true≢false (sym drawn)
     by image (inr gone) = true≢false (sym gone)
+
+pub nothing_is_read : (s : SiteId) (r : Records) (f : Flat) → HasReadTruly s r f nothing_known
+nothing_is_read s r f image snap number parts bytes among = absurd among
 
 pub nothing_is_beside : (s : SiteId) (r : Records) (me you : Instance) (j : Knowledge) → AreBeside s r me you nothing_known j
 nothing_is_beside s r me you j = record {

@@ -39,6 +39,10 @@ AreToldTrue site r f seen told = (image snap object : ℕ) (parts : List Part) (
     → IsAmong (record { site = site; image = image; snap = snap; object = object; parts = parts; bytes = bytes }) told
     → IsToldTrue site r f seen image snap object parts bytes
 
+-- so is all that a request read of snapshots
+abbrev pub HasReadTruly : SiteId → Records → Flat → Knowledge → Type 0
+HasReadTruly site r f k = AreToldTrue site r f k.seen k.told
+
 -- Who does operations drew no image's id of which a header was told: so none of these images is
 -- made anew.
 abbrev pub DrewNoneOf : SiteId → List HeaderSeen → Knowledge → Type 0

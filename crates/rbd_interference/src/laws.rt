@@ -30,7 +30,7 @@ ghost use Rattle.rbd_stands.specs.Condition.{IsGathered};
 ghost use Rattle.rbd_stands.specs.Effect.{effect_of};
 ghost use Rattle.rbd_stands.specs.Shown.{snapshots_of};
 ghost use Rattle.rbd_stands.specs.Site.{StandsFor};
-ghost use Rattle.rbd_interference.specs.Ancestors.{AreSeenTrue, AreToldTrue, DrewNoneOf};
+ghost use Rattle.rbd_interference.specs.Ancestors.{AreSeenTrue, AreToldTrue, DrewNoneOf, HasReadTruly};
 ghost use Rattle.rbd_interference.specs.Beside.{AreBeside, AreUnfenced, LeavesObject, MayAct};
 ghost use Rattle.rbd_interference.specs.Locks.{HasLockWhileFree, KnowsByLock, gives_up};
 ghost use Rattle.rbd_stands.specs.Owned.{HasLock};
@@ -83,10 +83,12 @@ pub fn waits_teach_what_is_true()
 {}
 
 /// What a request learns at one site changes nothing of what it knows of the other: that stays
-/// true, and two requests stay beside each other there.
+/// true, with what it read of snapshots there, and two requests stay beside each other.
 pub fn sites_are_known_apart()
     ensures truth { (site other : Site) (r : Records) (me : Instance) (k : Knowledge) (op : Op) (answer : Answer)
         → IsFalse (same_site site other) → IsTrueAt other r me k → IsTrueAt other r me (learned k site op answer) }
+    ensures reads { (site other : Site) (r : Records) (f : Flat) (k : Knowledge) (op : Op) (answer : Answer)
+        → IsFalse (same_site site other) → HasReadTruly other r f k → HasReadTruly other r f (learned k site op answer) }
     ensures beside { (site other : Site) (r : Records) (me you : Instance) (k j : Knowledge) (op : Op) (answer : Answer)
         → IsFalse (same_site site other) → AreBeside other r me you k j
         → AreBeside other r me you (learned k site op answer) j }

@@ -1,6 +1,7 @@
 //! What the requests of a session know, and that they may count on it: each law is the contract of
 //! a function that does nothing.
 ghost use Rattle.std.specs.Prelude.{◌≡◌, ◌≢◌, ℕ, false, true, Some, Option};
+ghost use Rattle.rbd_flat.specs.Flat.{Flat};
 ghost use Rattle.rbd_kinds.specs.declared.answer.Answer.{Answer};
 ghost use Rattle.rbd_commands.specs.declared.command.Command.{Command};
 ghost use Rattle.rbd_kinds.specs.declared.id.Instance.{Instance};
@@ -17,7 +18,7 @@ ghost use Rattle.rbd_machine.specs.Plan.{Plan, Ask, Standing, plan_after};
 ghost use Rattle.rbd_machine.specs.Standalone.{IsFedStandalone};
 ghost use Rattle.rbd_machine.specs.declared.reason.Reason.{Reason};
 ghost use Rattle.rbd_machine.specs.declared.seat.Seat.{Seat};
-ghost use Rattle.rbd_interference.specs.Ancestors.{DrewNoneOf};
+ghost use Rattle.rbd_interference.specs.Ancestors.{DrewNoneOf, HasReadTruly};
 ghost use Rattle.rbd_interference.specs.Beside.{AreBeside, MayAct};
 ghost use Rattle.rbd_interference.specs.Truth.{IsTrueAt};
 ghost use Rattle.rbd_catalog.specs.Plans.{IsPlanFor};
@@ -74,8 +75,8 @@ pub fn who_may_go_on_may_act<R: Request>()
         → (r : Records) (me you : Instance) → MayAct site r me you (knows slot) (knows other) op }
 {}
 
-/// What a request knows at its next operation is lawful for it to go by, and is as true, and as
-/// much beside what another knows, as it was before the waits.
+/// What a request knows at its next operation is lawful for it to go by, and is as true, what it
+/// read of snapshots too, and as much beside what another knows, as it was before the waits.
 pub fn waits_change_little()
     ensures lawful { (labels : Label → Plan) (known_at : Label → Knowledge)
         → ((label : Label) → IsFit label → IsLawful known_at (known_at label) (labels label))
@@ -83,6 +84,8 @@ pub fn waits_change_little()
         → IsLawful known_at (known_at_operation k plan) (at_operation labels plan) }
     ensures truth { (site : Site) (r : Records) (me : Instance) (k : Knowledge) (plan : Plan) → IsTrueAt site r me k
         → IsTrueAt site r me (known_at_operation k plan) }
+    ensures reads { (site : Site) (r : Records) (f : Flat) (k : Knowledge) (plan : Plan) → HasReadTruly site r f k
+        → HasReadTruly site r f (known_at_operation k plan) }
     ensures beside { (site : Site) (r : Records) (me you : Instance) (k j : Knowledge) (plan : Plan)
         → AreBeside site r me you k j → AreBeside site r me you (known_at_operation k plan) j }
 {}

@@ -26,18 +26,19 @@ use Rattle.rbd_kinds.specs.declared.machine.Fed.TheVariants as fed
 use Rattle.rbd_kinds.specs.declared.operation.Op.{Op}
 use Rattle.rbd_kinds.specs.declared.reply.Reply.{Reply}
 use Rattle.rbd_knowledge.specs.Knowing.{AllKnow, known_behind, unless_ended}
-use Rattle.rbd_knowledge.proofs.Little.{still_beside}
+use Rattle.rbd_knowledge.proofs.Little.{still_beside, still_read}
 use Rattle.rbd_knowledge.proofs.Wanting.{wants, Wants}
 use Rattle.rbd_machine.specs.Knowledge.{Knowledge, learned, nothing_known, same_site, is_drawn}
 use Rattle.rbd_machine.specs.Permits.{Permits}
 use Rattle.rbd_machine.specs.Plan.{Ask, Standing}
 use Rattle.rbd_machine.specs.Refused.{IsGiven}
 use Rattle.rbd_machine.specs.Standalone.{TellsStandalone}
+use Rattle.rbd_interference.specs.Ancestors.{DrewNoneOf, HasReadTruly}
 use Rattle.rbd_interference.specs.Beside.{AreBeside, MayAct}
 use Rattle.rbd_interference.specs.Locks.{KnowsByLock}
 use Rattle.rbd_interference.specs.Truth.{IsTrueAt, known_header}
 use Rattle.rbd_interference.proofs.Elsewhere.{beside_elsewhere}
-use Rattle.rbd_interference.proofs.Nothing.{nothing_is_beside}
+use Rattle.rbd_interference.proofs.Nothing.{nothing_is_beside, nothing_is_read}
 use Rattle.rbd_interference.proofs.Together.{beside_mutual, learned_beside}
 use Rattle.rbd_slots.specs.Session.{held_in, running_at, running_in}
 use Rattle.rbd_site.specs.Records.{Records}
@@ -47,8 +48,9 @@ use Rattle.rbd_world.specs.Past.{HadNoHeader}
 use Rattle.rbd_world.specs.Sound.{AreStrangers, Holder, InSlot, Sending, IsRightlyDone, IsLiving, IsNextOf, IsOf, IsSoundWorld, MayStillCome, known_in, RecallsBy}
 use Rattle.rbd_world.specs.Step.{DoesAtSites, Goes, operation_at}
 use Rattle.rbd_world.specs.World.{LateView, LivesView, WorldView, client_in, late_at, late_of, lives_in, records_in, sent_in, site_in}
+use Rattle.rbd_world.proofs.ReadTruly.{acted_reads}
 use Rattle.rbd_world.proofs.Unborn.{IsNew, acted_drawn, learned_drawn, never_born, new_is_past, way_drawn}
-use Rattle.rbd_world.proofs.AtSites.{at_either, beside_then, can_give, elsewhere_now, here_now, is_done, others_true, sending_then, stands_in, stands_then, tells_alone, whole_then}
+use Rattle.rbd_world.proofs.AtSites.{at_either, beside_then, can_give, elsewhere_now, here_now, is_done, others_true, reads_kept, reads_learned, sending_then, stands_in, stands_then, tells_alone, whole_then}
 use Rattle.rbd_world.proofs.Carried.{HasWholeImages, StandFlat}
 use Rattle.rbd_world.proofs.Changed.{lives_there, same_or_other}
 
@@ -370,3 +372,60 @@ module _ {R : Type 0} (stands : R → Standing) (old new : WorldView R) (w : IsS
         by (actor.Way y) is false = still
         by actor.Request is true = over (known_behind (knew slot) (plan_in_slot stands (running_at slot c.session)) (fed.Answer a)) (learns_new is t image) result
         by actor.Request is false = still
+
+    -- ---- what was read of snapshots
+
+    abbrev Reads : SiteId → Knowledge → Type 0
+    Reads t k = HasReadTruly t (records_after t (does_it ∷ w.told.run)) (flat_after t (does_it ∷ w.told.run)) k
+
+    -- who acts drew no id of an image whose header a request of its client was told
+    strange_here : (m : Actor) → DrewNoneOf s (knew slot).seen (known_to (knew slot) m)
+    strange_here actor.Nobody = λ image saw. refl
+    strange_here actor.Request = ((was_true s).requests slot).strange
+    strange_here (actor.Way y) = (beside_way s (records_in s old.sites) me me (knew slot) y).unseen
+    strange_here (actor.Release y) = (beside_release s (records_in s old.sites) me me (knew slot) y).unseen
+
+    strange_to : (x : ℕ) → DrewNoneOf s (knew x).seen goes_by
+    strange_to x = by (same_or_other x slot)
+      where
+        by : (x ≡ slot) ⊎ (x ≢ slot) → DrewNoneOf s (knew x).seen goes_by
+        by (inl same) = subst (λ y. DrewNoneOf s (knew y).seen goes_by) (sym same) (strange_here acts)
+        by (inr differ) = (acting_beside s (records_in s old.sites) me (knew x) ((was_true s).beside x slot differ) acts).unseen
+
+    reads_still : (x : ℕ) (t : SiteId) → Reads t (knew x)
+    reads_still x = reads_kept stands old new w me doer s o result goes_by known permits (locked s) at_sites (knew x) (strange_to x) (w.reads (InSlot session x))
+
+    pub others_read : (g : Holder) → AreStrangers (InSlot session slot) g → (t : SiteId) → Reads t (w.knows g)
+    others_read g differ = reads_kept stands old new w me doer s o result goes_by known permits (locked s) at_sites (w.knows g) (acts_beside g differ s).unseen (w.reads g)
+
+    -- a request that learns
+    learns_reads : actor.Request ≡ acts → (t : SiteId) → Reads t (known_behind (knew slot) (plan_in_slot stands (running_at slot c.session)) (fed.Answer a))
+    learns_reads requests t =
+        subst (λ p. Reads t (known_behind (knew slot) p (fed.Answer a))) (sym plan_is)
+        (still_read t (records_after t (does_it ∷ w.told.run)) (flat_after t (does_it ∷ w.told.run)) (asks.next a) (learned (knew slot) s o a) learned_then)
+      where
+        asks : Wants stands slot c.session.lines s o (held_in slot c.session.slots)
+        asks = wants stands slot c.session.lines s o (held_in slot c.session.slots) (subst (λ m. op_by stands slot c.session m ≡ Some (s, o)) (sym requests) wanted)
+
+        plan_is : plan_in_slot stands (running_at slot c.session) ≡ Ask s asks.why o asks.next
+        plan_is = ap (λ h. plan_in_slot stands (running_in h)) asks.is ∙ asks.plan
+
+        learned_then : Reads t (learned (knew slot) s o a)
+        learned_then =
+            subst (λ m. Reads t (learned (known_to (knew slot) m) s o a)) (sym requests)
+            (reads_learned stands old new w me doer s o result goes_by known permits (locked s) at_sites
+            (λ q. acted_reads q (records_after q w.told.run) (flat_after q w.told.run) (knew slot) acts (w.reads (InSlot session slot) q)) t)
+
+    pub reads_now : (x : ℕ) (t : SiteId) → Reads t (knows_now x)
+    reads_now x t = subst (Reads t) (sym (known_so x acts)) (by acts refl (x == slot))
+      where
+        over : (k : Knowledge) → Reads t k → Reads t (unless_ended result k)
+        over k reads = unless_over (Reads t) result k (nothing_is_read t (records_after t (does_it ∷ w.told.run)) (flat_after t (does_it ∷ w.told.run))) reads
+
+        by : (m : Actor) → m ≡ acts → (b : Bool) → Reads t (known_by x m b)
+        by actor.Nobody is b = reads_still x t
+        by (actor.Release r) is b = reads_still x t
+        by (actor.Way y) is true = over (knew x) (reads_still x t)
+        by (actor.Way y) is false = reads_still x t
+        by actor.Request is true = over (known_behind (knew slot) (plan_in_slot stands (running_at slot c.session)) (fed.Answer a)) (learns_reads is t)
+        by actor.Request is false = reads_still x t

@@ -12,14 +12,16 @@ use Rattle.rbd_kinds.specs.declared.id.SiteId.TheVariants as site
 use Rattle.rbd_kinds.specs.declared.operation.Op.{Op}
 use Rattle.rbd_kinds.specs.declared.reply.Reply.{Reply}
 use Rattle.rbd_kinds.proofs.Images.{same_site_itself}
-use Rattle.rbd_machine.specs.Knowledge.{Knowledge, same_site, is_drawn}
+use Rattle.rbd_machine.specs.Knowledge.{Knowledge, learned, same_site, is_drawn}
 use Rattle.rbd_machine.specs.Permits.{Permits}
 use Rattle.rbd_machine.specs.Plan.{Standing}
 use Rattle.rbd_machine.specs.Refused.{IsGiven}
 use Rattle.rbd_machine.specs.Standalone.{TellsStandalone}
+use Rattle.rbd_interference.specs.Ancestors.{DrewNoneOf, HasReadTruly}
 use Rattle.rbd_interference.specs.Beside.{AreBeside, MayAct}
 use Rattle.rbd_interference.specs.Locks.{KnowsByLock, gives_up}
 use Rattle.rbd_interference.specs.Truth.{IsTrueAt, changed_by, known_header}
+use Rattle.rbd_interference.proofs.AncestorsKept.{reads_elsewhere, told_kept, told_learned}
 use Rattle.rbd_interference.proofs.Fenced.{was_free}
 use Rattle.rbd_interference.proofs.Done.{gives_it}
 use Rattle.rbd_interference.proofs.Effects.{has_its_effect}
@@ -127,6 +129,44 @@ module _ {R : Type 0} (stands : R → Standing) (old new : WorldView R) (w : IsS
     recalls = recalls;
     owned = subst (λ r. IsOwnedStep r who o answered) (w.told.records s) (is_owned s (records_in s old.sites) who k (known s) locked o permits);
   }
+
+  -- ---- what was read of snapshots
+
+  abbrev pub HasReadThen : SiteId → Knowledge → Type 0
+  HasReadThen t j = HasReadTruly t (records_after t (does_it ∷ w.told.run)) (flat_after t (does_it ∷ w.told.run)) j
+
+  abbrev pub HadRead : SiteId → Knowledge → Type 0
+  HadRead t j = HasReadTruly t (records_after t w.told.run) (flat_after t w.told.run) j
+
+  had_read : (j : Knowledge) → HadRead s j → HasReadTruly s (records_in s old.sites) (flat_after s w.told.run) j
+  had_read j was = subst (λ r. HasReadTruly s r (flat_after s w.told.run) j) (sym (w.told.records s)) was
+
+  reads_at : (j : Knowledge) → HasReadTruly s (after (records_in s old.sites) who o) (changed_by (flat_after s w.told.run) operation.effect) j
+      → ((t : SiteId) → same_site s t ≡ false → HadRead t j) → (t : SiteId) → HasReadThen t j
+  reads_at j here there = at_either s (λ t. HasReadThen t j) its_own elsewhere
+    where
+      its_own : HasReadThen s j
+      its_own =
+          subst (λ b. HasReadTruly s (cond b (after (records_after s w.told.run) who o) (records_after s w.told.run)) (cond b (changed_by (flat_after s w.told.run) operation.effect) (flat_after s w.told.run)) j) (sym (same_site_itself s))
+          (subst (λ r. HasReadTruly s (after r who o) (changed_by (flat_after s w.told.run) operation.effect) j) (w.told.records s) here)
+
+      elsewhere : (t : SiteId) → same_site s t ≡ false → HasReadThen t j
+      elsewhere t differ =
+          subst (λ b. HasReadTruly t (cond b (after (records_after t w.told.run) who o) (records_after t w.told.run)) (cond b (changed_by (flat_after t w.told.run) operation.effect) (flat_after t w.told.run)) j) (sym differ) (there t differ)
+
+  -- by anybody of whose images' ids it drew none
+  pub reads_kept : (j : Knowledge) → DrewNoneOf s j.seen k → ((t : SiteId) → HadRead t j) → (t : SiteId) → HasReadThen t j
+  reads_kept j strange was =
+      reads_at j
+      (told_kept s (records_in s old.sites) (flat_after s w.told.run) who k o (length (site_in s old.sites).log) (stands_in s) (w.form s) (w.standalone s) (w.mapped s) (known s) permits j.seen j.told strange (had_read j (was s)))
+      (λ t differ. was t)
+
+  -- and by who does it, with what it learns
+  pub reads_learned : ((t : SiteId) → HadRead t k) → (t : SiteId) → HasReadThen t (learned k s o answered)
+  reads_learned was =
+      reads_at (learned k s o answered)
+      (told_learned s (records_in s old.sites) (flat_after s w.told.run) k who o (length (site_in s old.sites).log) (stands_in s) (w.form s) (w.standalone s) (w.mapped s) (known s) permits (had_read k (was s)))
+      (λ t differ. reads_elsewhere s t differ (records_after t w.told.run) (flat_after t w.told.run) k o answered (was t))
 
   -- ---- what others know
 

@@ -17,7 +17,7 @@ use Rattle.rbd_lock.specs.declared.lock_state.LockState.{LockState}
 use Rattle.rbd_machine.specs.Plan.{Standing}
 use Rattle.rbd_interference.specs.Truth.{AreMapped, AreRanked, AreStandalone}
 use Rattle.rbd_interference.proofs.Maps.{none_mapped}
-use Rattle.rbd_interference.proofs.Nothing.{none_standalone, nothing_is_beside}
+use Rattle.rbd_interference.proofs.Nothing.{none_standalone, nothing_is_beside, nothing_is_read}
 use Rattle.rbd_interference.proofs.Ranked.{none_ranked}
 use Rattle.rbd_slots.specs.Session.{running_at, running_in, script_line}
 use Rattle.rbd_site.specs.InForm.{AreInForm}
@@ -27,7 +27,7 @@ use Rattle.rbd_site.proofs.FormLemmas.{form_at_first}
 use Rattle.rbd_stands.proofs.Nothing.{nothing_stands}
 use Rattle.rbd_world.specs.LetGo.{release_of}
 use Rattle.rbd_world.specs.Owing.{owed_in}
-use Rattle.rbd_world.specs.Run.{Happening}
+use Rattle.rbd_world.specs.Run.{Happening, flat_after}
 use Rattle.rbd_world.specs.Closes.{StandsFirstIf}
 use Rattle.rbd_world.specs.Seats.{seat_of_home}
 use Rattle.rbd_world.specs.Sound.{HasLearnedIf, AreLivesOf, Holder, InSlot, Sending, IsFirst, IsHeldRightly, IsLiving, IsNewWorld, IsRunning, IsSoundWorld, KeepsToItsWay, first_life, held_of, line_at}
@@ -163,6 +163,7 @@ module _ {R : Type 0} (stands : R → Standing) where
     unsent = λ session slot none. refl;
     drops = λ session slot there x differ is. absurd (none-some x (sym (none_late w new session slot) ∙ is));
     new = λ h s image drawn. tt;
+    reads = λ h s. nothing_is_read s no_records (flat_after s []);
     beside = λ h g strangers s. nothing_is_beside s _ _ _ nothing_known;
     in_order = λ session c is.
         let has = has_first w new session c is in

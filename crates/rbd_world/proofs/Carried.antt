@@ -15,6 +15,7 @@ use Rattle.rbd_kinds.specs.Instances.{same_instance}
 use Rattle.rbd_machine.specs.Knowledge.{Knowledge, is_drawn, nothing_known}
 use Rattle.rbd_machine.specs.Label.{Label}
 use Rattle.rbd_machine.specs.Plan.{Plan, Ask, Await, Note, Return, Goto, Standing}
+use Rattle.rbd_interference.specs.Ancestors.{HasReadTruly}
 use Rattle.rbd_interference.specs.Beside.{AreBeside, MayAct}
 use Rattle.rbd_interference.specs.Truth.{AreMapped, AreRanked, AreStandalone}
 use Rattle.rbd_slots.specs.declared.running.Occupant.{Occupant}
@@ -187,6 +188,7 @@ module _ {R : Type 0} (stands : R → Standing) where
     pub drops : (session slot there : ℕ) (x : Sent) → slot ≢ there → late_at session slot new.lives ≡ Some x → (r : Records)
         → MayAct x.site r (who (Sending session slot)) (who (Sending session there)) (knows (Sending session slot)) (knows (Sending session there)) x.op
     pub none_yet : (g : Holder) (s : SiteId) (image : ℕ) → is_drawn (knows g).drawn s image ≡ true → HadNoHeader s image w.told.run
+    pub reads : (g : Holder) (s : SiteId) → HasReadTruly s (records_after s (h ∷ w.told.run)) (flat_after s (h ∷ w.told.run)) (knows g)
     pub beside : (h g : Holder) → AreStrangers h g → (s : SiteId) → AreBeside s (records_in s new.sites) (who h) (who g) (knows h) (knows g)
     pub owes : IsOwedFor h w.told.run
     pub turn : IsInTurn h w.told.run
@@ -251,6 +253,7 @@ module _ {R : Type 0} (stands : R → Standing) where
         unsent = carries.unsent;
         drops = carries.drops;
         new = λ g s image drawn. (none_now g s image drawn, carries.none_yet g s image drawn);
+        reads = carries.reads;
         beside = carries.beside;
         in_order = carries.in_order;
       }

@@ -21,27 +21,28 @@ use Rattle.rbd_kinds.proofs.Plain.{eqb_flip}
 use Rattle.rbd_machine.specs.Knowledge.{Knowledge, nothing_known, is_drawn}
 use Rattle.rbd_machine.specs.Permits.{Permits}
 use Rattle.rbd_machine.specs.Plan.{Standing}
+use Rattle.rbd_interference.specs.Ancestors.{DrewNoneOf, HasReadTruly}
 use Rattle.rbd_interference.specs.Beside.{AreBeside, MayAct}
 use Rattle.rbd_interference.specs.Locks.{KnowsByLock, gives_up}
 use Rattle.rbd_interference.specs.Truth.{IsTrueAt, known_header}
 use Rattle.rbd_interference.proofs.Locks.{changes_by_lock, shares_by_lock}
-use Rattle.rbd_interference.proofs.Nothing.{nothing_is_beside, nothing_is_true}
+use Rattle.rbd_interference.proofs.Nothing.{nothing_is_beside, nothing_is_read, nothing_is_true}
 use Rattle.rbd_interference.proofs.Together.{alone_knows, beside_mutual, nobody_knows}
 use Rattle.rbd_slots.specs.Session.{held_in, script_line}
 use Rattle.rbd_site.specs.Records.{Records}
 use Rattle.rbd_site.specs.Step.{is_fenced}
 use Rattle.rbd_world.specs.declared.event.Event.{Event}
 use Rattle.rbd_world.specs.declared.event.Event.TheVariants as event
-use Rattle.rbd_world.specs.Run.{AfterStop, Happening, Sent, sent_after, sent_of}
+use Rattle.rbd_world.specs.Run.{AfterStop, Happening, Sent, flat_after, records_after, sent_after, sent_of}
 use Rattle.rbd_world.specs.Past.{HadNoHeader}
 use Rattle.rbd_world.specs.Sound.{AreLivesOf, AreStrangers, Holder, InSlot, Sending, IsRightlyDone, IsSoundWorld, KnewTruly, MayStillCome, WasLeft, held_of, known_in, line_at}
 use Rattle.rbd_world.specs.Step.{BecomesOf, Does, DoesAtSites, LivesOnIf, come, operation_at, without_sent}
 use Rattle.rbd_world.specs.World.{LateView, LivesView, WorldView, client_in, late_at, late_of, lives_in, records_in, running_of, sent_in, session_of_client, site_in}
-use Rattle.rbd_world.proofs.AtSites.{beside_then, is_done, known_then, locks_then, others_true, sending_then, stands_then, whole_then}
+use Rattle.rbd_world.proofs.AtSites.{beside_then, is_done, known_then, locks_then, others_true, reads_kept, sending_then, stands_then, whole_then}
 use Rattle.rbd_world.proofs.Carried.{IsCarried}
 use Rattle.rbd_world.proofs.Changed.{IsElsewhere, here_or_elsewhere, lives_there, living_on, same_or_other}
 use Rattle.rbd_world.proofs.Debts.{none_sent}
-use Rattle.rbd_world.proofs.Elsewhere.{IsAs, Same, Silent, beside_still, unknown_looks, new_still}
+use Rattle.rbd_world.proofs.Elsewhere.{IsAs, Same, Silent, all_still, beside_still, unknown_looks, new_still}
 use Rattle.rbd_world.proofs.Left.{left_on}
 use Rattle.rbd_world.proofs.OrderedWorld.{no_turn, order_on}
 use Rattle.rbd_world.proofs.Quiet.{IsQuiet, quiet_did}
@@ -444,6 +445,23 @@ module _ {R : Type 0} (stands : R → Standing) (old new : WorldView R) (w : IsS
       by (inr apart) =
           late_elsewhere m y apart ∙ w.late m y ∙ sym (ap (λ b. cond b None (sent_after m y w.told.run)) (from false (it_isnt m y apart)))
 
+  -- ---- what was read of snapshots
+
+  -- it drew no id of an image whose header anybody was told
+  strange_there : (g : Holder) → DrewNoneOf x.site (w.knows g).seen goes_by
+  strange_there (InSlot m y) = (beside_goes (InSlot m y) (w.who (InSlot m y)) tt refl x.site).unseen
+  strange_there (Sending m y) = by (here_or_elsewhere session slot m y)
+    where
+      by : ((m ≡ session) × (y ≡ slot)) ⊎ IsElsewhere session slot m y → DrewNoneOf x.site (w.knows (Sending m y)).seen goes_by
+      by (inr apart) = (beside_goes (Sending m y) (w.who (Sending m y)) apart refl x.site).unseen
+      by (inl (one, two)) =
+          subst (λ i. DrewNoneOf x.site (w.knows (Sending i y)).seen goes_by) (sym one)
+          (subst (λ i. DrewNoneOf x.site (w.knows (Sending session i)).seen goes_by) (sym two)
+          (less_by (DrewNoneOf x.site k.seen) x.op k (λ image saw. refl) (may.truth x.site).strange))
+
+  reads_then : (g : Holder) (s : SiteId) → HasReadTruly s (records_after s (h ∷ w.told.run)) (flat_after s (h ∷ w.told.run)) (w.knows g)
+  reads_then g = reads_kept stands old new w x.instance (AfterStop slot) x.site x.op None goes_by known permits locked at_sites (w.knows g) (strange_there g) (w.reads g)
+
   -- ---- all of it
 
   coming_keeps : IsCarried stands old new w h
@@ -471,6 +489,7 @@ module _ {R : Type 0} (stands : R → Standing) (old new : WorldView R) (w : IsS
           beside_then stands old new w x.instance (AfterStop slot) x.site x.op None goes_by known permits locked at_sites (w.who a) (w.who g) (w.knows a) (w.knows g) (w.beside a g apart) s)
           each_is;
       none_yet = new_still w.who w.who w.knows knows_then (λ s image. HadNoHeader s image w.told.run) w.new each_is;
+      reads = all_still w.who w.who w.knows knows_then (λ s. HasReadTruly s (records_after s (h ∷ w.told.run)) (flat_after s (h ∷ w.told.run))) (λ s. nothing_is_read s (records_after s (h ∷ w.told.run)) (flat_after s (h ∷ w.told.run))) reads_then each_is;
       owes = λ calm. absurd (none-some x (sym (none_sent session slot w.told.run calm.1) ∙ sym (w.late session slot) ∙ sent));
       turn = no_turn (operation_at (site_in x.site old.sites) x.instance (AfterStop slot) x.site x.op) None w.told.run (λ line. refl);
       in_order = λ m q is. order_on stands old new w h (due, truly) m q (was m q is) (λ y line at. quiet line) (λ other writer. refl);

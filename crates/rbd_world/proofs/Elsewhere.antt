@@ -104,6 +104,15 @@ module _ (who who_now : Holder → Instance) (knows knows_now : Holder → Knowl
       by (Silent none) = absurd (true≢false (sym drawn ∙ ap (λ (k : Knowledge). is_drawn k.drawn s image) none))
       by (Same one two) = new g s image (subst (λ (k : Knowledge). is_drawn k.drawn s image ≡ true) two drawn)
 
+  -- so what holds of all that was known holds then
+  pub all_still : (P : SiteId → Knowledge → Type 0) → ((s : SiteId) → P s nothing_known) → ((g : Holder) (s : SiteId) → P s (knows g)) → ((g : Holder) → IsAs g)
+      → (g : Holder) (s : SiteId) → P s (knows_now g)
+  all_still P nothing all each g s = by (each g)
+    where
+      by : IsAs g → P s (knows_now g)
+      by (Silent none) = subst (P s) (sym none) (nothing s)
+      by (Same one two) = subst (P s) (sym two) (all g s)
+
   pub beside_still : (r : SiteId → Records) → ((a g : Holder) → AreStrangers a g → (s : SiteId) → AreBeside s (r s) (who a) (who g) (knows a) (knows g)) → ((g : Holder) → IsAs g)
       → (a g : Holder) → AreStrangers a g → (s : SiteId) → AreBeside s (r s) (who_now a) (who_now g) (knows_now a) (knows_now g)
   beside_still r beside each a g apart s = by (each a) (each g)

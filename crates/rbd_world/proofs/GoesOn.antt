@@ -7,13 +7,14 @@ use Rattle.rbd_knowledge.specs.Truth.{IsTrueOf}
 use Rattle.rbd_kinds.specs.declared.id.SiteId.{SiteId}
 use Rattle.rbd_machine.specs.Knowledge.{Knowledge, is_drawn, nothing_known}
 use Rattle.rbd_machine.specs.Plan.{Standing}
+use Rattle.rbd_interference.specs.Ancestors.{HasReadTruly}
 use Rattle.rbd_interference.specs.Beside.{AreBeside}
 use Rattle.rbd_interference.proofs.Together.{beside_mutual}
 use Rattle.rbd_slots.specs.Session.{held_in, script_line}
 use Rattle.rbd_world.specs.LetGo.{moves_house}
 use Rattle.rbd_world.specs.Order.{AreWritesInOrder, IsInTurn, IsWriterOf}
 use Rattle.rbd_world.specs.Past.{HadNoHeader}
-use Rattle.rbd_world.specs.Run.{Happening, Sent, sent_after, steps_in}
+use Rattle.rbd_world.specs.Run.{Happening, Sent, flat_after, records_after, sent_after, steps_in}
 use Rattle.rbd_world.specs.Sound.{AreLinesApart, AreInSlots, AreStrangers, Holder, InSlot, Sending, IsDue, IsLiving, IsSoundWorld, MayStillCome, known_in}
 use Rattle.rbd_world.specs.World.{WorldView, client_in, late_at, records_in}
 use Rattle.rbd_world.proofs.Carried.{HasWholeImages, IsCarried, StandFlat}
@@ -94,9 +95,11 @@ module _ {R : Type 0} (stands : R → Standing) (old new : WorldView R) (w : IsS
         → ((m : ℕ) (q : ClientView R) → m ≢ session → client_in m old.lives ≡ Some q → (other : ℕ) → IsWriterOf q.session.instance other (h ∷ w.told.run) → steps_in other h ≡ [])
         → AreWritesInOrder stands (w.told.homes session) d.session.instance (h ∷ w.told.run) d.session
         → ((x : ℕ) (s : SiteId) (image : ℕ) → is_drawn (knows_now x).drawn s image ≡ true → HadNoHeader s image w.told.run)
+        → ((x : ℕ) (s : SiteId) → HasReadTruly s (records_after s (h ∷ w.told.run)) (flat_after s (h ∷ w.told.run)) (knows_now x))
+        → ((g : Holder) → ((x : ℕ) → AreStrangers (InSlot session x) g) → (s : SiteId) → HasReadTruly s (records_after s (h ∷ w.told.run)) (flat_after s (h ∷ w.told.run)) (w.knows g))
         → ((m : ℕ) (q : ClientView R) → m ≢ session → client_in m old.lives ≡ Some q → (moves_house q.session.instance h ≡ false) × EndsNone q.session.instance h)
         → IsCarried stands old new w h
-    goes_carries standing due whole living quiet apart slots truth others sending owes turn foreign order none_yet unmoved = record {
+    goes_carries standing due whole living quiet apart slots truth others sending owes turn foreign order none_yet reads others_read unmoved = record {
       who = w.who;
       knows = knows_then;
       carries = record {
@@ -117,6 +120,7 @@ module _ {R : Type 0} (stands : R → Standing) (old new : WorldView R) (w : IsS
         unsent = λ m x none. w.unsent m x (sym (late_same m x) ∙ none);
         drops = λ m x z y differ is. w.drops m x z y differ (sym (late_same m x) ∙ is);
         none_yet = λ g s image. new_by g s image (whose g);
+        reads = λ g s. reads_by g s (whose g);
         beside = beside_then;
         owes = owes;
         turn = turn;
@@ -129,6 +133,10 @@ module _ {R : Type 0} (stands : R → Standing) (old new : WorldView R) (w : IsS
         new_by g s image (Mine x one) drawn =
             none_yet x s image (ap (λ (k : Knowledge). is_drawn k.drawn s image) (sym (mine_knows x) ∙ ap knows_then (sym one)) ∙ drawn)
         new_by g s image (Others strange same) drawn = w.new g s image (ap (λ (k : Knowledge). is_drawn k.drawn s image) (sym same) ∙ drawn)
+
+        reads_by : (g : Holder) (s : SiteId) → Whose g → HasReadTruly s (records_after s (h ∷ w.told.run)) (flat_after s (h ∷ w.told.run)) (knows_then g)
+        reads_by g s (Mine x one) = subst (HasReadTruly s (records_after s (h ∷ w.told.run)) (flat_after s (h ∷ w.told.run))) (sym (ap knows_then one ∙ mine_knows x)) (reads x s)
+        reads_by g s (Others strange same) = subst (HasReadTruly s (records_after s (h ∷ w.told.run)) (flat_after s (h ∷ w.told.run))) (sym same) (others_read g strange s)
 
         here : client_in session new.lives ≡ Some d
         here = client_is old new session c d goes

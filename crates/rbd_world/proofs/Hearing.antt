@@ -113,7 +113,7 @@ module _ {R : Type 0} (stands : R → Standing) (old new : WorldView R) (w : IsS
       truth_now (λ m q differ is s. (stays s).clients q.session.instance (known_in w.knows m) q (w.truth m q is s))
       (λ m x y is. still_may_come stands old new w (λ s. records_in s new.sites) stays m y _ (w.sending m x y is).1) tt tt (λ m q differ is other writer. refl)
       (still_in_order stands old new w (Heard notice) due session c d there hears.session (λ line before. refl) (λ other writer. refl))
-      (λ x t image drawn. w.new (InSlot session x) t image drawn) (λ m q differ is. (refl, λ s image. refl))
+      (λ x t image drawn. w.new (InSlot session x) t image drawn) (λ x. w.reads (InSlot session x)) (λ g strange. w.reads g) (λ m q differ is. (refl, λ s image. refl))
 
 module _ {R : Type 0} (stands : R → Standing) where
   pub heard_keeps : (old new : WorldView R) (w : IsSoundWorld stands old) (number : ℕ) (notice : Notice) (c : ClientView R) → notice_numbered number old.sites.mail ≡ Some notice

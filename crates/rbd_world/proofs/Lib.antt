@@ -47,6 +47,7 @@ pub mod OwnersWatch
 pub mod Parts
 pub mod Polling
 pub mod Quiet
+pub mod ReadTruly
 pub mod Refusal
 pub mod RefusedOnWay
 pub mod Releasing

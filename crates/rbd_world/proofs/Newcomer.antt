@@ -267,7 +267,7 @@ module _ {R : Type 0} (stands : R → Standing) (old new : WorldView R) (w : IsS
         (order_then (held_in lowest d.session.slots) refl is_new
         (order_beside stands old new w does_begin due home me lowest c.session (λ x other apart is. quiet x other is) (ap running_in living.sound.session.lowest.free) (λ other writer. refl)
         (w.in_order session c there))))
-        (λ x t image drawn. w.new (InSlot session x) t image drawn) (λ m q apart at. (refl, λ s i. refl))
+        (λ x t image drawn. w.new (InSlot session x) t image drawn) (λ x. w.reads (InSlot session x)) (λ g strange. w.reads g) (λ m q apart at. (refl, λ s i. refl))
 
   pub began_keeps : Does stands (event.Submit session line command) does_begin old new → DoesAtSites does_begin old.sites new.sites
       → ((m : ℕ) → IsSoundIf stands (client_in m new.lives)) → IsCarried stands old new w does_begin

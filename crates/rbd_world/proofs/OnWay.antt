@@ -34,7 +34,7 @@ use Rattle.rbd_world.specs.Sound.{IsRightlyDone, IsDue, IsHeldRightly, IsInSlot,
 use Rattle.rbd_world.specs.Step.{Does, DoesAtSites, Goes, IsSoundIf, operation_at, reply_on_way}
 use Rattle.rbd_world.specs.Ways.{AgreesWithWay, IsWayThere}
 use Rattle.rbd_world.specs.World.{WorldView, client_in, records_in, session_of_client, site_in}
-use Rattle.rbd_world.proofs.Acting.{all_know, beside_now, beside_of_others, can, done_so, knows_now, sending_now, standing, truth_now, truth_of_others, whole, new_now, others_know}
+use Rattle.rbd_world.proofs.Acting.{all_know, beside_now, beside_of_others, can, done_so, knows_now, sending_now, standing, truth_now, truth_of_others, whole, new_now, others_know, others_read, reads_now}
 use Rattle.rbd_world.proofs.Carried.{IsCarried}
 use Rattle.rbd_world.proofs.Changed.{GoesOnAs, apart_of, client_is, has_become, line_apart, living_of}
 use Rattle.rbd_world.proofs.GoesOn.{goes_carries}
@@ -292,7 +292,9 @@ module _ {R : Type 0} (stands : R → Standing) (old new : WorldView R) (w : IsS
         (truth_of_others stands old new w session slot c there a.site (op_of a) wanted (OnWay r.line) result d became at_sites sound_then)
         (sending_now stands old new w session slot c there a.site (op_of a) wanted (OnWay r.line) result d became at_sites sound_then)
         (λ calm. plain_owes operation result w.told.run (λ line. refl) (way_plain a)) (no_turn operation result w.told.run (λ line. refl)) (λ m q apart is other writer. refl) (order result is_fed.session)
-        (new_now stands old new w session slot c there a.site (op_of a) wanted (OnWay r.line) result d became at_sites sound_then) (λ m q apart is.
+        (new_now stands old new w session slot c there a.site (op_of a) wanted (OnWay r.line) result d became at_sites sound_then)
+        (reads_now stands old new w session slot c there a.site (op_of a) wanted (OnWay r.line) result d became at_sites sound_then)
+        (λ g strange. others_read stands old new w session slot c there a.site (op_of a) wanted (OnWay r.line) result d became at_sites sound_then g (strange slot)) (λ m q apart is.
         (refl, λ s image. others_end_none q.session.instance operation result s image (λ same. apart (sym (w.clients m q is).whose ∙ ap (λ (i : Instance). i.session) (sym same) ∙ living.whose))))
 
   pub way_keeps : Does stands (event.Poll session slot) does_it old new → DoesAtSites does_it old.sites new.sites → ((m : ℕ) → IsSoundIf stands (client_in m new.lives)) → IsCarried stands old new w does_it

@@ -42,7 +42,7 @@ use Rattle.rbd_world.specs.Sound.{IsDue, IsHeldRightly, IsInSlot, IsLiving, IsOp
 use Rattle.rbd_world.specs.Step.{Does, DoesAtSites, Goes, IsSoundIf, next_number, operation_at, reply_at}
 use Rattle.rbd_world.specs.Ways.{AgreesWithWay, LooksAtItsOwn}
 use Rattle.rbd_world.specs.World.{WorldView, client_in, records_in, session_of_client, site_in}
-use Rattle.rbd_world.proofs.Acting.{alone, all_know, beside_now, beside_of_others, can, done_so, knows_now, permits, sending_now, standing, truth_now, truth_of_others, whole, new_now, others_know}
+use Rattle.rbd_world.proofs.Acting.{alone, all_know, beside_now, beside_of_others, can, done_so, knows_now, permits, sending_now, standing, truth_now, truth_of_others, whole, new_now, others_know, others_read, reads_now}
 use Rattle.rbd_world.proofs.Answered.{answer_due, answer_held, answer_line, went_on, answer_learned}
 use Rattle.rbd_world.proofs.Carried.{IsCarried}
 use Rattle.rbd_world.proofs.Changed.{GoesOnAs, apart_of, client_is, has_become, line_apart, living_of}
@@ -319,6 +319,8 @@ module _ {R : Type 0} (stands : R → Standing) (old new : WorldView R) (w : IsS
         (in_turn stands w.told.homes home me slot w.told.run c.session d.session r runs living.sound.session goes s why o next asks a result (next_number (site_in s old.sites))
         (effect_of (records_in s old.sites) (done.Op o) a) w.told.order (w.in_order session c there) is_mine)
         foreign order (new_now stands old new w session slot c there s o wanted (Itself r.line) result d became at_sites sound_then)
+        (reads_now stands old new w session slot c there s o wanted (Itself r.line) result d became at_sites sound_then)
+        (λ g strange. others_read stands old new w session slot c there s o wanted (Itself r.line) result d became at_sites sound_then g (strange slot))
         (λ m q apart is.
         (refl, λ t image. others_end_none q.session.instance operation result t image (λ same. apart (sym (w.clients m q is).whose ∙ ap (λ (i : Instance). i.session) (sym same) ∙ living.whose))))
 

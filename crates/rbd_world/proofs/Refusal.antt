@@ -124,7 +124,7 @@ module _ {R : Type 0} (stands : R → Standing) (old new : WorldView R) (w : IsS
         (subst (λ i. AreWritesInOrder stands home i (does_refuse ∷ w.told.run) d.session) (sym serves.client.instance)
         (freed_order stands home me (does_refuse ∷ w.told.run) slot c.session d.session serves.slots serves.lines (ap running_in serves.held)
         (order_beside stands old new w does_refuse refusal_meant home me slot c.session quiet (ap running_in holds) (λ other writer. refl) (w.in_order session c there))))
-        (λ x t image drawn. w.new (InSlot session x) t image drawn) (λ m q apart is. (refl, λ s i. refl))
+        (λ x t image drawn. w.new (InSlot session x) t image drawn) (λ x. w.reads (InSlot session x)) (λ g strange. w.reads g) (λ m q apart is. (refl, λ s i. refl))
 
   pub refused_keeps : Does stands (event.Poll session slot) does_refuse old new → DoesAtSites does_refuse old.sites new.sites
       → ((m : ℕ) → IsSoundIf stands (client_in m new.lives)) → IsCarried stands old new w does_refuse

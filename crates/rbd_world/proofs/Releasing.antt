@@ -24,7 +24,7 @@ use Rattle.rbd_world.specs.Sound.{IsDue, IsHeldRightly, IsLiving, IsSoundWorld, 
 use Rattle.rbd_world.specs.Step.{Does, DoesAtSites, Goes, IsSoundIf, operation_at}
 use Rattle.rbd_world.specs.Ways.{IsNextOfRelease}
 use Rattle.rbd_world.specs.World.{WorldView, client_in, records_in, site_in}
-use Rattle.rbd_world.proofs.Acting.{all_know, beside_now, beside_of_others, done_so, knows_now, sending_now, standing, truth_now, truth_of_others, whole, new_now, others_know}
+use Rattle.rbd_world.proofs.Acting.{all_know, beside_now, beside_of_others, done_so, knows_now, sending_now, standing, truth_now, truth_of_others, whole, new_now, others_know, others_read, reads_now}
 use Rattle.rbd_world.proofs.Carried.{IsCarried}
 use Rattle.rbd_world.proofs.Changed.{GoesOnAs, apart_of, client_is, has_become, living_of}
 use Rattle.rbd_world.proofs.GoesOn.{goes_carries}
@@ -111,6 +111,8 @@ module _ {R : Type 0} (stands : R → Standing) (old new : WorldView R) (w : IsS
         (λ calm. plain_owes operation None w.told.run (λ line. refl) (release_plain x)) (no_turn operation None w.told.run (λ line. refl)) (λ m q apart is other writer. refl)
         (still_in_order stands old new w does_it due session c d there is_fed.session (λ line before. refl) (λ other writer. refl))
         (new_now stands old new w session slot c there x.site (release_op x) wanted House None d became at_sites sound_then)
+        (reads_now stands old new w session slot c there x.site (release_op x) wanted House None d became at_sites sound_then)
+        (λ g strange. others_read stands old new w session slot c there x.site (release_op x) wanted House None d became at_sites sound_then g (strange slot))
         (λ m q apart is. (
           others_move_nothing q.session.instance operation None (λ same. apart (sym (w.clients m q is).whose ∙ sym same ∙ living.whose)),
           λ s image. others_end_none q.session.instance operation None s image (λ same. apart (sym (w.clients m q is).whose ∙ ap (λ (i : Instance). i.session) (sym same) ∙ living.whose)),

@@ -7,10 +7,12 @@ use Rattle.rbd_kinds.specs.declared.id.Instance.{Instance}
 use Rattle.rbd_kinds.specs.declared.id.SiteId.{SiteId}
 use Rattle.rbd_machine.specs.Knowledge.{Knowledge, same_site}
 use Rattle.rbd_machine.specs.Plan.{Standing}
+use Rattle.rbd_interference.specs.Ancestors.{HasReadTruly}
 use Rattle.rbd_interference.specs.Beside.{AreBeside}
 use Rattle.rbd_interference.specs.Locks.{KnowsByLock}
 use Rattle.rbd_interference.proofs.Together.{still_beside}
 use Rattle.rbd_interference.specs.Truth.{IsTrueAt}
+use Rattle.rbd_interference.proofs.AncestorsKept.{told_expired, told_trimmed}
 use Rattle.rbd_interference.proofs.Kept.{expiries_keep, trims_keep}
 use Rattle.rbd_interference.proofs.Maps.{mapped_expired, mapped_trimmed}
 use Rattle.rbd_interference.proofs.Ranked.{ranked_expired, ranked_trimmed}
@@ -105,8 +107,9 @@ module _ {R : Type 0} (stands : R → Standing) (old new : WorldView R) (w : IsS
       by false is = does.others session is
 
   rested : (h : Happening) → ((line : ℕ) → IsQuiet line h) → IsLifeless h → SendsNothing h → ((i : Instance) → (moves_house i h ≡ false) × EndsNone i h) → AreSame → StandFlat (h ∷ w.told.run) → IsDue w.told.homes h w.told.run → IsOwedFor h w.told.run → IsInTurn h w.told.run
+      → ((s : SiteId) (k : Knowledge) → HasReadTruly s (records_after s w.told.run) (flat_after s w.told.run) k → HasReadTruly s (records_after s (h ∷ w.told.run)) (flat_after s (h ∷ w.told.run)) k)
       → ((s : SiteId) → StaysTrue s (records_in s new.sites)) → IsCarried stands old new w h
-  rested h quiet lifeless sends unmoved same standing due owes turn stays = record {
+  rested h quiet lifeless sends unmoved same standing due owes turn reads stays = record {
     who = w.who;
     knows = w.knows;
     carries = record {
@@ -131,6 +134,7 @@ module _ {R : Type 0} (stands : R → Standing) (old new : WorldView R) (w : IsS
       unsent = λ session slot none. w.unsent session slot (sym (late_same session slot) ∙ none);
       drops = λ session slot there x differ is. w.drops session slot there x differ (sym (late_same session slot) ∙ is);
       none_yet = w.new;
+      reads = λ g s. reads s (w.knows g) (w.reads g s);
       beside = λ one other apart s. (stays s).beside (w.who one) (w.who other) (w.knows one) (w.knows other) (w.beside one other apart s);
       owes = owes;
       turn = turn;
@@ -162,11 +166,11 @@ module _ {R : Type 0} (stands : R → Standing) (old new : WorldView R) (w : IsS
 
   pub nothing_keeps : (e : Event) → ((a b : LivesView R) → LivesOn stands e Nothing a b → b ≡ a) → Does stands e Nothing old new → DoesAtSites Nothing old.sites new.sites → IsCarried stands old new w Nothing
   nothing_keeps e leaves does at_sites =
-      rested Nothing quiet_nothing (λ m l. refl) (λ m x o. refl) (λ i. (refl, λ s image. refl)) (lives_stay e Nothing leaves does) (where_standing w.told.homes w.told.run w.told.right) tt tt tt (λ s. same_true s (records_in s new.sites) (at_sites.records s))
+      rested Nothing quiet_nothing (λ m l. refl) (λ m x o. refl) (λ i. (refl, λ s image. refl)) (lives_stay e Nothing leaves does) (where_standing w.told.homes w.told.run w.told.right) tt tt tt (λ s k was. was) (λ s. same_true s (records_in s new.sites) (at_sites.records s))
 
   pub waited_keeps : (e : Event) → ((a b : LivesView R) → LivesOn stands e Waited a b → b ≡ a) → Does stands e Waited old new → DoesAtSites Waited old.sites new.sites → IsCarried stands old new w Waited
   waited_keeps e leaves does at_sites =
-      rested Waited quiet_waited (λ m l. refl) (λ m x o. refl) (λ i. (refl, λ s image. refl)) (lives_stay e Waited leaves does) (where_standing w.told.homes w.told.run w.told.right) tt tt tt (λ s. same_true s (records_in s new.sites) (at_sites.records s))
+      rested Waited quiet_waited (λ m l. refl) (λ m x o. refl) (λ i. (refl, λ s image. refl)) (lives_stay e Waited leaves does) (where_standing w.told.homes w.told.run w.told.right) tt tt tt (λ s k was. was) (λ s. same_true s (records_in s new.sites) (at_sites.records s))
 
   -- ---- the store trims an object that is there
 
@@ -183,7 +187,7 @@ module _ {R : Type 0} (stands : R → Standing) (old new : WorldView R) (w : IsS
       → DoesAtSites (Trimmed site (next_number (site_in site old.sites)) image object) old.sites new.sites → IsCarried stands old new w (Trimmed site (next_number (site_in site old.sites)) image object)
   trimmed_keeps e site image object is_there leaves does at_sites =
       rested (Trimmed site number image object) (λ line. quiet_trimmed line site number image object) (λ m l. refl) (λ m x o. refl) (λ i. (refl, λ s image. refl)) (lives_stay e (Trimmed site number image object) leaves does)
-      (λ s. stands_there s (same_site site s) (where_standing w.told.homes w.told.run w.told.right s)) (trim_due site image object is_there) tt tt
+      (λ s. stands_there s (same_site site s) (where_standing w.told.homes w.told.run w.told.right s)) (trim_due site image object is_there) tt tt (λ s k was. reads_there s (same_site site s) k was)
       (λ s. subst (StaysTrue s) (sym (at_sites.records s)) (true_there s (same_site site s)))
     where
       number : ℕ
@@ -198,6 +202,11 @@ module _ {R : Type 0} (stands : R → Standing) (old new : WorldView R) (w : IsS
       true_there s true = trim_true s image object
       true_there s false = same_true s (records_in s old.sites) refl
 
+      reads_there : (s : SiteId) (b : Bool) (k : Knowledge) → HasReadTruly s (records_after s w.told.run) (flat_after s w.told.run) k
+          → HasReadTruly s (cond b (trimmed image object (records_after s w.told.run)) (records_after s w.told.run)) (flat_after s w.told.run) k
+      reads_there s true k was = told_trimmed s (records_after s w.told.run) (flat_after s w.told.run) k.seen k.told image object was
+      reads_there s false k was = was
+
   -- ---- a watch ends
 
   pub expired_keeps : (e : Event) (site : SiteId) (image : ℕ) (who : Instance) → oldest_of who.session ((records_in site old.sites).watchers image) ≡ Some who
@@ -206,7 +215,7 @@ module _ {R : Type 0} (stands : R → Standing) (old new : WorldView R) (w : IsS
       → DoesAtSites (Expired site (next_number (site_in site old.sites)) image who) old.sites new.sites → IsCarried stands old new w (Expired site (next_number (site_in site old.sites)) image who)
   expired_keeps e site image who oldest leaves does at_sites =
       rested (Expired site number image who) (λ line. quiet_expired line site number image who) (λ m l. refl) (λ m x o. refl) (λ i. (refl, λ s image. refl)) (lives_stay e (Expired site number image who) leaves does)
-      (λ s. stands_there s (same_site site s) (where_standing w.told.homes w.told.run w.told.right s)) due tt tt
+      (λ s. stands_there s (same_site site s) (where_standing w.told.homes w.told.run w.told.right s)) due tt tt (λ s k was. reads_there s (same_site site s) k was)
       (λ s. subst (StaysTrue s) (sym (at_sites.records s)) (true_there s (same_site site s)))
     where
       number : ℕ
@@ -226,3 +235,8 @@ module _ {R : Type 0} (stands : R → Standing) (old new : WorldView R) (w : IsS
       true_there : (s : SiteId) (b : Bool) → StaysTrue s (cond b (expired image who (records_in s old.sites)) (records_in s old.sites))
       true_there s true = expiry_true s image who
       true_there s false = same_true s (records_in s old.sites) refl
+
+      reads_there : (s : SiteId) (b : Bool) (k : Knowledge) → HasReadTruly s (records_after s w.told.run) (flat_after s w.told.run) k
+          → HasReadTruly s (cond b (expired image who (records_after s w.told.run)) (records_after s w.told.run)) (flat_after s w.told.run) k
+      reads_there s true k was = told_expired s (records_after s w.told.run) (flat_after s w.told.run) k.seen k.told image who was
+      reads_there s false k was = was

@@ -10,10 +10,12 @@ use Rattle.rbd_kinds.specs.declared.id.SiteId.{SiteId}
 use Rattle.rbd_kinds.proofs.Instances.{same_instance_itself}
 use Rattle.rbd_machine.specs.Knowledge.{Knowledge, nothing_known}
 use Rattle.rbd_machine.specs.Plan.{Standing}
+use Rattle.rbd_interference.specs.Ancestors.{HasReadTruly}
+use Rattle.rbd_interference.proofs.Nothing.{nothing_is_read}
 use Rattle.rbd_slots.specs.Session.{script_line}
 use Rattle.rbd_world.specs.declared.event.Event.TheVariants as event
 use Rattle.rbd_world.specs.Order.{AreWritesInOrder}
-use Rattle.rbd_world.specs.Run.{Happening, Life, Restarted, life_after, life_behind}
+use Rattle.rbd_world.specs.Run.{Happening, Life, Restarted, flat_after, life_after, life_behind, records_after}
 use Rattle.rbd_world.specs.Past.{HadNoHeader}
 use Rattle.rbd_world.specs.Sound.{AreLivesOf, Holder, InSlot, Sending, IsLiving, IsRestart, IsSoundWorld, held_of, known_in, line_at}
 use Rattle.rbd_world.specs.Step.{Does, DoesAtSites, IsFresh, IsFreshIf, LivesOnIf, next_life}
@@ -21,7 +23,7 @@ use Rattle.rbd_world.specs.World.{LateView, LivesView, WorldView, client_in, lat
 use Rattle.rbd_world.proofs.Beginning.{fresh_living, fresh_runs_none, fresh_true}
 use Rattle.rbd_world.proofs.Carried.{IsCarried, whole_in}
 use Rattle.rbd_world.proofs.Changed.{same_or_other}
-use Rattle.rbd_world.proofs.Elsewhere.{IsAs, Same, Silent, beside_still, known_but, known_there, lives_still, living_still, nothing_here, new_still}
+use Rattle.rbd_world.proofs.Elsewhere.{IsAs, Same, Silent, all_still, beside_still, known_but, known_there, lives_still, living_still, nothing_here, new_still}
 use Rattle.rbd_world.proofs.Left.{left_on}
 use Rattle.rbd_world.proofs.LetGo.{moved_releases, other_instance}
 use Rattle.rbd_world.proofs.OrderedWorld.{none_in_order, order_on}
@@ -214,6 +216,7 @@ module _ {R : Type 0} (stands : R → Standing) (old new : WorldView R) (w : IsS
       beside = beside_still w.who who_then w.knows knows_then (λ s. records_in s new.sites)
           (λ a g apart s. (stays s).beside (w.who a) (w.who g) (w.knows a) (w.knows g) (w.beside a g apart s)) each_is;
       none_yet = new_still w.who who_then w.knows knows_then (λ s image. HadNoHeader s image w.told.run) w.new each_is;
+      reads = all_still w.who who_then w.knows knows_then (λ s. HasReadTruly s (records_after s (h ∷ w.told.run)) (flat_after s (h ∷ w.told.run))) (λ s. nothing_is_read s (records_after s (h ∷ w.told.run)) (flat_after s (h ∷ w.told.run))) w.reads each_is;
       owes = tt;
       turn = tt;
       in_order = λ m q is. order_now m q is (same_or_other m session);

@@ -23,9 +23,10 @@ use Rattle.rbd_kinds.specs.declared.operation.Op.{Op}
 use Rattle.rbd_machine.specs.Knowledge.{Knowledge, nothing_known, is_drawn}
 use Rattle.rbd_machine.specs.Plan.{Standing}
 use Rattle.rbd_machine.specs.Refused.{AreGiven}
+use Rattle.rbd_interference.specs.Ancestors.{HasReadTruly}
 use Rattle.rbd_interference.specs.Beside.{AreBeside, MayAct}
 use Rattle.rbd_interference.specs.Locks.{KnowsByLock}
-use Rattle.rbd_interference.proofs.Nothing.{nothing_is_beside}
+use Rattle.rbd_interference.proofs.Nothing.{nothing_is_beside, nothing_is_read}
 use Rattle.rbd_interference.proofs.Together.{beside_mutual}
 use Rattle.rbd_slots.specs.declared.running.Occupant.{Occupant}
 use Rattle.rbd_slots.specs.declared.running.Occupant.TheVariants as occupant
@@ -33,7 +34,7 @@ use Rattle.rbd_slots.specs.Session.{held_in, script_line}
 use Rattle.rbd_site.specs.Records.{Records}
 use Rattle.rbd_world.specs.declared.event.Event.TheVariants as event
 use Rattle.rbd_world.specs.Order.{AreWritesInOrder}
-use Rattle.rbd_world.specs.Run.{Asked, Happening, Life, Sent, Stopped, asked_by, is_line_among, life_after, life_behind, sent_after, sent_of, steps_of}
+use Rattle.rbd_world.specs.Run.{Asked, Happening, Life, Sent, Stopped, asked_by, flat_after, is_line_among, life_after, life_behind, records_after, sent_after, sent_of, steps_of}
 use Rattle.rbd_machine.specs.Standalone.{TellAllStandalone}
 use Rattle.rbd_machine.specs.declared.seat.Seat.{Seat}
 use Rattle.rbd_world.specs.Seats.{seat_at}
@@ -41,6 +42,7 @@ use Rattle.rbd_world.specs.Past.{HadNoHeader}
 use Rattle.rbd_world.specs.Sound.{AreLivesOf, AreStrangers, Holder, InSlot, Sending, IsHeldRightly, IsInSlot, IsLedTo, IsLiving, IsLostOf, IsOpen, IsSoundWorld, IsStop, MayStillCome, held_of, known_in, line_at, SendsRightly, TakesAlone, WasLeft}
 use Rattle.rbd_world.specs.Step.{Does, DoesAtSites, LivesOnIf, lost_by, stopped, wanted_in_slots}
 use Rattle.rbd_world.specs.World.{LateView, LivesView, WorldView, client_in, late_at, late_of, lives_in, records_in, running_of, sent_in, session_of_client}
+use Rattle.rbd_world.proofs.ReadTruly.{acted_reads}
 use Rattle.rbd_world.proofs.Unborn.{acted_drawn}
 use Rattle.rbd_world.proofs.Acting.{by_no_lock}
 use Rattle.rbd_world.proofs.Carried.{IsCarried, whole_in}
@@ -595,6 +597,27 @@ module _ {R : Type 0} (stands : R → Standing) (old new : WorldView R) (w : IsS
           (sent_drawn x s image (subst (λ (k : Knowledge). is_drawn k.drawn s image ≡ true) (knows_here session x refl) (subst (λ v. is_drawn (knows_then v).drawn s image ≡ true) one drawn)))
       by (Theirs one same strange) = w.new g s image (subst (λ (k : Knowledge). is_drawn k.drawn s image ≡ true) same drawn)
 
+  -- ---- what was read of snapshots
+
+  abbrev Reads : SiteId → Knowledge → Type 0
+  Reads s k = HasReadTruly s (records_after s w.told.run) (flat_after s w.told.run) k
+
+  nothing_reads : (s : SiteId) → Reads s nothing_known
+  nothing_reads s = nothing_is_read s (records_after s w.told.run) (flat_after s w.told.run)
+
+  sent_reads : (x : ℕ) (s : SiteId) → Reads s (knows_sent x)
+  sent_reads x s =
+      unless_sent (Reads s) (wanted x) (knew_at x) (nothing_reads s)
+      (acted_reads s (records_after s w.told.run) (flat_after s w.told.run) (knew x) (actor_at stands x c) (w.reads (InSlot session x) s))
+
+  reads_then : (g : Holder) (s : SiteId) → Reads s (knows_then g)
+  reads_then g s = by (whose g)
+    where
+      by : Whose g → Reads s (knows_then g)
+      by (Silent none) = subst (Reads s) (sym none) (nothing_reads s)
+      by (Mine x one) = subst (Reads s) (sym (ap knows_then one ∙ knows_here session x refl)) (sent_reads x s)
+      by (Theirs one same strange) = subst (Reads s) (sym same) (w.reads g s)
+
   stopping_keeps : IsCarried stands old new w h
   stopping_keeps = record {
     who = who_then;
@@ -617,6 +640,7 @@ module _ {R : Type 0} (stands : R → Standing) (old new : WorldView R) (w : IsS
       drops = λ m x y z differ is r. drops_now m x y z differ is r (same_or_other m session);
       beside = beside_now;
       none_yet = new_now;
+      reads = reads_then;
       owes = tt;
       turn = tt;
       in_order = order_now;

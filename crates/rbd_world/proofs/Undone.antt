@@ -247,6 +247,7 @@ module _ {R : Type 0} (stands : R → Standing) where
         alike_if (IsLiving stands (w.told.homes session) session w.told.run (known_in w.knows session)) (client_in session old.lives) (client_in session new.lives) (same session) (sound session)
         (λ c d was alike is_sound. alike_client (w.told.homes session) session w.told.run (known_in w.knows session) c d alike is_sound (w.clients session c was));
     new = w.new;
+    reads = w.reads;
     in_slots = λ session slot.
         alike_if (λ d. w.who (InSlot session slot) ≡ d.session.instance) (client_in session old.lives) (client_in session new.lives) (same session) (sound session)
         (λ c d was alike is_sound. w.in_slots session slot c was ∙ sym alike.session.instance);

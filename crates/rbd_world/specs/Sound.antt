@@ -36,6 +36,7 @@ use Rattle.rbd_meaning.specs.Meant.{IsMeantBy}
 use Rattle.rbd_lock.specs.Steps.{lock_take}
 use Rattle.rbd_interference.specs.Beside.{AreBeside, MayAct}
 use Rattle.rbd_interference.specs.Locks.{KnowsByLock}
+use Rattle.rbd_interference.specs.Ancestors.{HasReadTruly}
 use Rattle.rbd_interference.specs.Truth.{AreMapped, AreRanked, IsTrueAt, AreStandalone}
 use Rattle.rbd_catalog.specs.Plans.{IsPlanFor}
 use Rattle.rbd_slots.specs.declared.running.Occupant.{Occupant}
@@ -554,6 +555,8 @@ pub record IsSoundWorld {R : Type 0} (stands : R → Standing) (w : WorldView R)
   -- an id that somebody drew had no header so far
   pub new : (h : Holder) (s : SiteId) (image : ℕ) → is_drawn (knows h).drawn s image ≡ true
       → HadNoHeader s image told.run
+  -- what they read of snapshots is so where these are listed
+  pub reads : (h : Holder) (s : SiteId) → HasReadTruly s (records_after s told.run) (flat_after s told.run) (knows h)
   -- no two that aren't of one client are in each other's way
   pub beside : (h g : Holder) → AreStrangers h g → (s : SiteId)
       → AreBeside s (records_in s w.sites) (who h) (who g) (knows h) (knows g)
