@@ -105,7 +105,7 @@ module _ (site : SiteId) (r : Records) (me : Instance) (k : Knowledge) (most : �
   laid : (image : ℕ) (condition : Sharing → HeaderView → Type 0) (owns : OwnsBy k site image condition) → IsLayout owns.header.layout
   laid image condition owns =
       let there = owned_there site r me k image condition t free owns in
-      same_layout owns.header there.view there.same (form.form image there.view there.is).layout
+      same_layout owns.sharing owns.header there.view there.still (form.form image there.view there.is).layout
 
   pub may_write : (image number : ℕ) (context : SnapContext) (parts : List Part) (bytes : List ℕ) → OwnsBy k site image (MayWrite (maps_of k.maps site image) k.turn number context parts bytes) → step.MayWriteParts parts bytes
   may_write image number context parts bytes owns =
@@ -118,7 +118,7 @@ module _ (site : SiteId) (r : Records) (me : Instance) (k : Knowledge) (most : �
   may_size : (image to : ℕ) → OwnsAlone k site image (MaySize (maps_of k.maps site image) (objects_known_of k.objects site image) to) → MayServe r (op.Header image (header.SetSize to))
   may_size image to owns =
       let there = owned_there site r me k image _ t free owns in
-      subst (λ h. MayDoOnHeader h (header.SetSize to)) (sym there.is) (subst (λ (h : HeaderView). HasFewObjects h.layout to) (sym there.same) owns.meets.1.few)
+      subst (λ h. MayDoOnHeader h (header.SetSize to)) (sym there.is) (subst (λ (h : HeaderView). HasFewObjects h.layout to) (sym there.still.same) owns.meets.1.few)
 
 module _ (site : SiteId) (r : Records) (me : Instance) (k : Knowledge) (most : ℕ) (form : AreInForm r most) (mapped : AreMapped r) (t : IsTrueAt site r me k) (free : IsFalse (is_fenced r me)) where
   -- a map is as long as the states that it is put from

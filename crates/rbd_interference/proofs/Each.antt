@@ -13,12 +13,12 @@ use Rattle.rbd_site.specs.Records.{Records, object_at}
 use Rattle.rbd_site.specs.Step.{is_fenced}
 use Rattle.rbd_stands.specs.Covering.{Maps}
 use Rattle.rbd_interference.specs.Ancestors.{IsSeenTrue}
-use Rattle.rbd_interference.specs.Truth.{AreMapsTrue, AreObjectsTrue, AreZeros, HasNoStates, IsCountTrue, IsGoneAt, IsStill, IsTrueAt, IsWaiting, KnowsNoHeader, header_of_own, is_alone_on, is_own_alone, known_header}
+use Rattle.rbd_interference.specs.Truth.{AreMapsTrue, AreObjectsTrue, AreZeros, HasNoStates, IsCountTrue, IsGoneAt, IsTrueAt, IsWaiting, KnowsNoHeader, header_of_own, is_alone_on, is_own_alone, known_header, IsStillOwn}
 use Rattle.rbd_interference.proofs.MapsBehind.{at_each}
 use Rattle.rbd_interference.proofs.Seen.{seen_there}
 
 pub record IsTrueOfImage (site : SiteId) (r : Records) (me : Instance) (k : Knowledge) (image : ℕ) : Type 0 where
-  pub owned : IsFalse (is_fenced r me) → IsStill (known_header k site image) (r.headers image)
+  pub owned : IsFalse (is_fenced r me) → IsStillOwn (own_of k.owns site image) (r.headers image)
   pub drawn : is_drawn k.drawn site image ≡ true → IsWaiting r image
   pub mapped : IsFalse (is_fenced r me) → IsSome (known_header k site image) → AreMapsTrue (is_alone_on k site image) (r.maps image) (maps_of k.maps site image)
   pub objects : IsFalse (is_fenced r me) → (h : HeaderView) → known_header k site image ≡ Some h
@@ -112,7 +112,9 @@ module _ (site : SiteId) (r new : Records) (me : Instance) (k learnt : Knowledge
 
   pub true_as : IsTrueOfImage site new me learnt image
   true_as = record {
-    owned = λ free. subst (λ known. IsStill known (new.headers image)) (sym header_was) (subst (IsStill (known_header k site image)) (sym there.header) (t.owned (was free)));
+    owned = λ free.
+        subst (λ o. IsStillOwn o (new.headers image)) (sym like.own)
+        (subst (IsStillOwn (own_of k.owns site image)) (sym there.header) (t.owned (was free)));
     drawn = λ drawn. waits_as r new image there (t.drawn (sym like.drawn ∙ drawn));
     mapped = λ free known.
         subst (λ alone. AreMapsTrue alone (new.maps image) (maps_of learnt.maps site image)) (sym alone_was)

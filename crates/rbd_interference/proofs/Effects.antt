@@ -63,6 +63,7 @@ use Rattle.rbd_interference.specs.Truth.{AreMapped, AreStatesOf, AreZeros, IsTru
 use Rattle.rbd_interference.proofs.Done.{may_write}
 use Rattle.rbd_interference.proofs.Headers.{IsThere, own_known, owned_there}
 use Rattle.rbd_interference.proofs.Learned.{takes, removes}
+use Rattle.rbd_interference.proofs.Sharing.{alone_unshared}
 
 module _ (site : SiteId) (r : Records) (f : Flat) (k : Knowledge) (me : Instance) (most : ℕ) (stands : StandsFor [] r f) (form : AreInForm r most) (standalone : AreStandalone r) (mapped : AreMapped r) (t : IsTrueAt site r me k) where
   abbrev HasItsEffect : Op → Type 0
@@ -132,8 +133,11 @@ module _ (site : SiteId) (r : Records) (f : Flat) (k : Knowledge) (me : Instance
   -- A shrink leaves zeros: by the states of the map, which cover the objects, or by its own
   -- changes.
   module _ (free : IsFalse (is_fenced r me)) (image to : ℕ) (owns : OwnsAlone k site image (MaySize (maps_of k.maps site image) (objects_known_of k.objects site image) to)) where
-    abbrev there_is : IsThere owns.header (r.headers image)
+    abbrev there_is : IsThere owns.sharing owns.header (r.headers image)
     there_is = owned_there site r me k image _ t free owns
+
+    exact : there_is.view ≡ record owns.header { owner = there_is.view.owner }
+    exact = there_is.still.exact (alone_unshared owns.sharing owns.meets.0)
 
     alone : is_alone_on k site image ≡ true
     alone = ap is_own_alone owns.is ∙ ap is_alone owns.meets.0
@@ -178,7 +182,7 @@ module _ (site : SiteId) (r : Records) (f : Flat) (k : Knowledge) (me : Instance
     }
       where
         no_parent : owns.header.parent ≡ None
-        no_parent = sym (ap (λ (h : HeaderView). h.parent) there_is.same) ∙ (standalone image there_is.view there_is.is).no_parent
+        no_parent = sym (ap (λ (h : HeaderView). h.parent) exact) ∙ (standalone image there_is.view there_is.is).no_parent
 
         by : (x : ℕ) → IsZeroByState (maps_of k.maps site image) owns.header x ⊎ IsZeroByChange (objects_known_of k.objects site image) owns.header x
             → slice_index (unwrap_or (head_at x) []) (offset_of owns.header.layout x) ≡ 0
@@ -186,7 +190,7 @@ module _ (site : SiteId) (r : Records) (f : Flat) (k : Knowledge) (me : Instance
         by x (inr change) = zero_by_change x change
 
     zeroed_from : IsZeroedFrom there_is.view to (object_at r image)
-    zeroed_from = subst (λ h. IsZeroedFrom h to (object_at r image)) (sym there_is.same) (record { zeros = zeroed_of_own.zeros; copied_up = zeroed_of_own.copied_up })
+    zeroed_from = subst (λ h. IsZeroedFrom h to (object_at r image)) (sym exact) (record { zeros = zeroed_of_own.zeros; copied_up = zeroed_of_own.copied_up })
 
   header_effect : (image : ℕ) (o : HeaderOp) → PermitsOnHeader k site image o → HasItsEffect (op.Header image o)
   header_effect image header.Get permits = look_effect (op.Header image header.Get) refl
@@ -205,7 +209,7 @@ module _ (site : SiteId) (r : Records) (f : Flat) (k : Knowledge) (me : Instance
       let there = owned_there site r me k image _ t free permits in
       let answered : answer_to r me (op.Header image header.Remove) ≡ answer.Done = served ∙ ap (λ h. header_answer me h (r.watchers image) header.Remove) there.is in
       effects (op.Header image header.Remove) answer.Done (Some (effect.Gone image)) answered refl
-      (gone_stands [] r f me image there.view stands there.is (ap (λ (h : HeaderView). h.snaps) there.same ∙ permits.meets.1) answered))
+      (gone_stands [] r f me image there.view stands there.is (ap (λ (h : HeaderView). h.snaps) there.still.same ∙ permits.meets.1) answered))
   header_effect image (header.SnapAdd name) permits = where_served (op.Header image (header.SnapAdd name)) (λ free served.
       let edits = takes site r me k t free image name permits in
       let snap = (owned_there site r me k image _ t free permits).view.snap_seq + 1 in
@@ -217,7 +221,7 @@ module _ (site : SiteId) (r : Records) (f : Flat) (k : Knowledge) (me : Instance
       let may = permits.meets.1 in
       effects (op.Header image (header.SnapRemove snap)) answer.Done (Some (effect.Unsnap image snap)) (served ∙ edits.answered) refl
       (unsnap_stands [] r f me image snap stands
-      (unnamed [] r f image snap there.view may.view stands there.is (ap (λ (h : HeaderView). snap_in h.snaps snap) there.same ∙ may.listed) may.unprotected)
+      (unnamed [] r f image snap there.view may.view stands there.is (ap (λ (h : HeaderView). snap_in h.snaps snap) there.still.same ∙ may.listed) may.unprotected)
       (served ∙ edits.answered)))
   header_effect image header.LockTake permits = unseen_effect image header.LockTake refl
   header_effect image header.LockDrop permits = unseen_effect image header.LockDrop refl
@@ -231,7 +235,7 @@ module _ (site : SiteId) (r : Records) (f : Flat) (k : Knowledge) (me : Instance
   -- ---- objects of an image that it owns
 
   module _ (free : IsFalse (is_fenced r me)) (image number : ℕ) (condition : Sharing → HeaderView → Type 0) (owns : OwnsBy k site image condition) where
-    abbrev there : IsThere owns.header (r.headers image)
+    abbrev there : IsThere owns.sharing owns.header (r.headers image)
     there = owned_there site r me k image condition t free owns
 
     abbrev now : HeaderView
@@ -241,7 +245,7 @@ module _ (site : SiteId) (r : Records) (f : Flat) (k : Knowledge) (me : Instance
     laid = (form.form image now there.is).layout
 
     under : (context : SnapContext) → context ≡ context_of owns.header → IsContextOf now context
-    under context same = subst (IsContextOf now) (ap context_of there.same ∙ sym same) (reversed_context now)
+    under context same = subst (IsContextOf now) (ap context_of there.still.same ∙ sym same) (reversed_context now)
 
     -- no image has a parent yet
     outside : IsInside now number → ⊥
@@ -249,8 +253,8 @@ module _ (site : SiteId) (r : Records) (f : Flat) (k : Knowledge) (me : Instance
 
     parts_lie : (parts : List Part) → All (LiesBelow owns.header number) parts → ArePartsBelow now now.size number parts
     parts_lie parts lie =
-        subst (λ w. ArePartsBelow w w.size number parts) (sym there.same)
-        (All-weaker (LiesBelow owns.header number) (IsPartBelow (record owns.header { owner = now.owner }) owns.header.size number) (λ p lies. record { part = lies.part; below = lies.below }) parts lie)
+        subst (λ w. ArePartsBelow w w.size number parts) (sym there.still.same)
+        (All-weaker (LiesBelow owns.header number) (IsPartBelow (record owns.header { owner = now.owner; generation = now.generation; parent = now.parent }) owns.header.size number) (λ p lies. record { part = lies.part; below = lies.below }) parts lie)
 
     -- all places of the object
     abbrev all_parts : List Part
@@ -325,7 +329,7 @@ module _ (site : SiteId) (r : Records) (f : Flat) (k : Knowledge) (me : Instance
       let place = there free image number _ owns in
       let whole = are_whole free image number _ owns in
       let parts = all_parts free image number _ owns in
-      let clear : IsZeroPast place.view number bytes = subst (λ h. IsZeroPast h number bytes) (sym place.same) owns.meets.clear in
+      let clear : IsZeroPast place.view number bytes = subst (λ h. IsZeroPast h number bytes) (sym place.still.same) owns.meets.clear in
       done_so free image number _ owns (object.WriteFull context bytes) (effect.Piece image (extents_of parts) bytes) answered
       (replace_effect place.view image number context bytes parts (laid free image number _ owns) whole)
       (replace_stands [] r f me image number place.view context bytes parts stands place.is (under free image number _ owns context owns.meets.under) whole clear answered)

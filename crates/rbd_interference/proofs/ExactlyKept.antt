@@ -142,11 +142,12 @@ module _ (site : SiteId) (r : Records) (f : Flat) (k : Knowledge) (you : Instanc
     there : (h : HeaderView) → r.headers image ≡ Some h → Here (snapshots_of f) (links_of f image) h (object_at r image) (image_at f image)
     there h is = here (snapshots_of f) (links_of f image) (r.headers image) (object_at r image) (image_at f image) h is (stands.images image)
 
-    -- the header is the own one, but for the owner
-    own_header : (condition : Sharing → HeaderView → Type 0) (owns : OwnsBy k site image condition) (h : HeaderView) → r.headers image ≡ Some h → h ≡ record owns.header { owner = h.owner }
+    -- the header is the own one, but for the owner, and for what a flatten changes
+    own_header : (condition : Sharing → HeaderView → Type 0) (owns : OwnsBy k site image condition) (h : HeaderView) → r.headers image ≡ Some h → h ≡ record owns.header { owner = h.owner; generation = h.generation; parent = h.parent }
     own_header condition owns h is =
         let found = owned_there site r you k image condition t free owns in
-        subst (λ (v : HeaderView). v ≡ record owns.header { owner = v.owner }) (sym (same_Some h found.view (sym is ∙ found.is))) found.same
+        subst (λ (v : HeaderView). v ≡ record owns.header { owner = v.owner; generation = v.generation; parent = v.parent })
+        (sym (same_Some h found.view (sym is ∙ found.is))) found.still.same
 
     -- ---- a header is changed
 

@@ -17,10 +17,9 @@ use Rattle.rbd_kinds.specs.declared.operation.Op.{Op}
 use Rattle.rbd_kinds.specs.declared.operation.Op.TheVariants as op
 use Rattle.rbd_kinds.specs.declared.sharing.Sharing.{Sharing}
 use Rattle.rbd_kinds.specs.declared.sharing.Sharing.TheVariants.{Alone}
-use Rattle.rbd_kinds.specs.Sharing.{is_alone}
 use Rattle.rbd_object.specs.Mapped.{Mapped, mapped_blank, mapped_trim}
 use Rattle.rbd_machine.specs.Ancestors.{HeaderSeen}
-use Rattle.rbd_machine.specs.Knowledge.{Knowledge, is_drawn, is_gone, maps_of, objects_known_of}
+use Rattle.rbd_machine.specs.Knowledge.{Knowledge, is_drawn, is_gone, maps_of, objects_known_of, own_of}
 use Rattle.rbd_machine.specs.Permits.{Permits, PermitsOnHeader, PermitsOnMap, PermitsOnObject, OwnsBy}
 use Rattle.rbd_site.specs.HeaderStep.{header_after, is_owner}
 use Rattle.rbd_site.specs.Laws.{is_look}
@@ -36,8 +35,8 @@ use Rattle.rbd_stands.proofs.EditSteps.{untouched_served, drawn_served}
 use Rattle.rbd_stands.proofs.StoreSteps.{blank_trimmed}
 use Rattle.rbd_flat.specs.Flat.{no_images}
 use Rattle.rbd_interference.specs.Ancestors.{AreSeenTrue, DrewNoneOf}
-use Rattle.rbd_interference.specs.Beside.{AreBeside, GoBesideOthers, MayAct}
-use Rattle.rbd_interference.specs.Truth.{AreMapsTrue, AreObjectsTrue, HasNoStates, is_alone_on, is_own_alone, IsCountTrue, IsGoneAt, IsStill, IsTrueAt, IsWaiting, known_header}
+use Rattle.rbd_interference.specs.Beside.{AreBeside, GoTogether, MayAct}
+use Rattle.rbd_interference.specs.Truth.{AreMapsTrue, AreObjectsTrue, HasNoStates, is_alone_on, IsCountTrue, IsGoneAt, IsStill, IsTrueAt, IsWaiting, known_header, IsStillAs, sharing_of_own, sharing_on, IsStillOwn}
 use Rattle.rbd_interference.proofs.Each.{alike_true, objects_alike}
 use Rattle.rbd_interference.proofs.Fenced.{after_free, was_free}
 use Rattle.rbd_interference.proofs.Headers.{not_waiting, own_known, unknown_of_none}
@@ -45,22 +44,23 @@ use Rattle.rbd_interference.proofs.MapsKept.{counted_kept, mapped_kept}
 use Rattle.rbd_interference.proofs.NoStates.{none_raised, none_there}
 use Rattle.rbd_interference.proofs.ObjectsKept.{objects_kept}
 use Rattle.rbd_interference.proofs.Seen.{among_seen, seen_after}
+use Rattle.rbd_interference.proofs.Sharing.{alone_beside_none}
 
--- where both know the header of an image, neither is alone on it
+-- where both know the header of an image, they go together on it
 abbrev AreBothShared : SiteId → (k j : Knowledge) → Type 0
-AreBothShared site k j = (image : ℕ) → IsSome (known_header k site image) → IsSome (known_header j site image) → GoBesideOthers site image k j
+AreBothShared site k j = (image : ℕ) → IsSome (known_header k site image) → IsSome (known_header j site image) → GoTogether site image k j
 
 -- who is alone on an image isn't beside one that knows its header
 pub alone_beside : (site : SiteId) (k j : Knowledge) (image : ℕ) (condition : HeaderView → Type 0) → AreBothShared site k j
-    → OwnsBy j site image (λ sharing h. (sharing ≡ Alone) × condition h) → (there : Option HeaderView) → IsStill (known_header k site image) there
+    → OwnsBy j site image (λ sharing h. (sharing ≡ Alone) × condition h) → (there : Option HeaderView) → IsStillOwn (own_of k.owns site image) there
 alone_beside site k j image condition shared owns there = go (known_header k site image) refl
   where
-    go : (known : Option HeaderView) → known_header k site image ≡ known → IsStill known there
+    go : (known : Option HeaderView) → known_header k site image ≡ known → IsStill (sharing_on k site image) known there
     go None is = tt
     go (Some h) is =
         let mine : IsSome (known_header k site image) = ap is_some is in
         let others : IsSome (known_header j site image) = ap is_some (own_known j site image (λ sharing h. (sharing ≡ Alone) × condition h) owns) in
-        absurd (true≢false (sym (ap is_alone owns.meets.0) ∙ sym (ap is_own_alone owns.is) ∙ (shared image mine others).other))
+        absurd (alone_beside_none (sharing_on k site image) (sharing_on j site image) (ap sharing_of_own owns.is ∙ owns.meets.0) (shared image mine others))
 
 -- ---- what leaves a header but for its owner
 
@@ -75,28 +75,33 @@ keeps_header header.WatchersGet = true
 keeps_header (header.Notify kind) = true
 keeps_header _ = false
 
-either_still : (known : HeaderView) (b : Bool) (one other : HeaderView) → IsStill (Some known) (Some one) → IsStill (Some known) (Some other) → IsStill (Some known) (Some (cond b one other))
-either_still known true one other first second = first
-either_still known false one other first second = second
+module _ (sharing : Sharing) where
+  either_still : (known : HeaderView) (b : Bool) (one other : HeaderView) → IsStillAs sharing known one → IsStillAs sharing known other → IsStillAs sharing known (cond b one other)
+  either_still known true one other first second = first
+  either_still known false one other first second = second
 
--- it is still what it was with another owner
-owned_else : (known there : HeaderView) (owner : Option Instance) → there ≡ record known { owner = there.owner } → record there { owner = owner } ≡ record known { owner = owner }
-owned_else known there owner still = ap (λ (h : HeaderView). record h { owner = owner }) still
+  -- it is still what it was with another owner
+  owned_else : (known there : HeaderView) (owner : Option Instance) → IsStillAs sharing known there → IsStillAs sharing known (record there { owner = owner })
+  owned_else known there owner still = record {
+    same = ap (λ (h : HeaderView). record h { owner = owner }) still.same;
+    parent = still.parent;
+    exact = λ unshared. ap (λ (h : HeaderView). record h { owner = owner }) (still.exact unshared);
+  }
 
-left_still : (known there : HeaderView) (b : Bool) → IsStill (Some known) (Some there) → IsStill (Some known) (Some (cond b (record there { owner = None }) there))
-left_still known there b still = either_still known b (record there { owner = None }) there (owned_else known there None still) still
+  left_still : (known there : HeaderView) (b : Bool) → IsStillAs sharing known there → IsStillAs sharing known (cond b (record there { owner = None }) there)
+  left_still known there b still = either_still known b (record there { owner = None }) there (owned_else known there None still) still
 
-still_behind : (you : Instance) (o : HeaderOp) → keeps_header o ≡ true → (known there : Option HeaderView) → IsStill known there → IsStill known (header_after you there o)
-still_behind you o keeps None there still = tt
-still_behind you o keeps (Some known) None still = elim still [ ]
-still_behind you header.LockTake keeps (Some known) (Some h) still = owned_else known h (cond (is_some h.owner) h.owner (Some you)) still
-still_behind you header.LockDrop keeps (Some known) (Some h) still = left_still known h (is_owner you h.owner) still
-still_behind you (header.LockBreak owner) keeps (Some known) (Some h) still = left_still known h (is_owner owner h.owner) still
-still_behind you header.Watch keeps (Some known) (Some h) still = still
-still_behind you header.Unwatch keeps (Some known) (Some h) still = still
-still_behind you header.WatchersGet keeps (Some known) (Some h) still = still
-still_behind you (header.Notify kind) keeps (Some known) (Some h) still = still
-still_behind you o keeps (Some known) (Some h) still = absurd (true≢false (sym keeps))
+  still_behind : (you : Instance) (o : HeaderOp) → keeps_header o ≡ true → (known there : Option HeaderView) → IsStill sharing known there → IsStill sharing known (header_after you there o)
+  still_behind you o keeps None there still = tt
+  still_behind you o keeps (Some known) None still = elim still [ ]
+  still_behind you header.LockTake keeps (Some known) (Some h) still = owned_else known h (cond (is_some h.owner) h.owner (Some you)) still
+  still_behind you header.LockDrop keeps (Some known) (Some h) still = left_still known h (is_owner you h.owner) still
+  still_behind you (header.LockBreak owner) keeps (Some known) (Some h) still = left_still known h (is_owner owner h.owner) still
+  still_behind you header.Watch keeps (Some known) (Some h) still = still
+  still_behind you header.Unwatch keeps (Some known) (Some h) still = still
+  still_behind you header.WatchersGet keeps (Some known) (Some h) still = still
+  still_behind you (header.Notify kind) keeps (Some known) (Some h) still = still
+  still_behind you o keeps (Some known) (Some h) still = absurd (true≢false (sym keeps))
 
 -- where there is no header it makes none
 none_behind : (you : Instance) (o : HeaderOp) → keeps_header o ≡ true → header_after you None o ≡ None
@@ -127,7 +132,7 @@ pub kept_by : (site : SiteId) (r : Records) (me you : Instance) (k : Knowledge) 
 kept_by site r me you k other o keeps t = record {
   owned = λ free image.
       let still = t.owned (was_free r you me (op.Header other o) free) in
-      where_fenced (λ s. IsStill (known_header k site image) (s.headers image)) r you (op.Header other o) (still image) (by image (image == other) refl still);
+      where_fenced (λ s. IsStillOwn (own_of k.owns site image) (s.headers image)) r you (op.Header other o) (still image) (by image (image == other) refl still);
   drawn = λ image drawn. waits_by r you other o keeps image (t.drawn image drawn);
   fenced = λ i known. fence_stays r you i (op.Header other o) (t.fenced i known);
   mapped = λ free image known.
@@ -147,10 +152,10 @@ kept_by site r me you k other o keeps t = record {
   strange = t.strange;
 }
   where
-    by : (image : ℕ) (b : Bool) → (image == other) ≡ b → ((i : ℕ) → IsStill (known_header k site i) (r.headers i)) → IsStill (known_header k site image) (cond b (header_after you (r.headers other) o) (r.headers image))
+    by : (image : ℕ) (b : Bool) → (image == other) ≡ b → ((i : ℕ) → IsStillOwn (own_of k.owns site i) (r.headers i)) → IsStillOwn (own_of k.owns site image) (cond b (header_after you (r.headers other) o) (r.headers image))
     by image true same still =
-        subst (λ i. IsStill (known_header k site i) (header_after you (r.headers other) o)) (sym (eqb-true image other same))
-        (still_behind you o keeps (known_header k site other) (r.headers other) (still other))
+        subst (λ i. IsStillOwn (own_of k.owns site i) (header_after you (r.headers other) o)) (sym (eqb-true image other same))
+        (still_behind (sharing_on k site other) you o keeps (known_header k site other) (r.headers other) (still other))
     by image false differ still = still image
 
 -- ---- others
@@ -160,43 +165,43 @@ get_same you None = refl
 get_same you (Some h) = refl
 
 -- What isn't fenced on either side: one knows the headers, and another changes them.
-module _ (site : SiteId) (r : Records) (k j : Knowledge) (you : Instance) (still : (image : ℕ) → IsStill (known_header k site image) (r.headers image)) (u : IsTrueAt site r you j)
+module _ (site : SiteId) (r : Records) (k j : Knowledge) (you : Instance) (still : (image : ℕ) → IsStillOwn (own_of k.owns site image) (r.headers image)) (u : IsTrueAt site r you j)
     (shared : AreBothShared site k j) where
-  header_kept : (image : ℕ) (o : HeaderOp) → PermitsOnHeader j site image o → IsStill (known_header k site image) (header_after you (r.headers image) o)
-  header_kept image header.Get permits = subst (IsStill (known_header k site image)) (sym (get_same you (r.headers image))) (still image)
+  header_kept : (image : ℕ) (o : HeaderOp) → PermitsOnHeader j site image o → IsStillOwn (own_of k.owns site image) (header_after you (r.headers image) o)
+  header_kept image header.Get permits = subst (IsStillOwn (own_of k.owns site image)) (sym (get_same you (r.headers image))) (still image)
   header_kept image (header.Create view) permits =
-      unknown_of_none (known_header k site image) (header_after you (r.headers image) (header.Create view))
-      (subst (IsStill (known_header k site image)) (u.drawn image permits.drawn).header (still image))
+      unknown_of_none (sharing_on k site image) (known_header k site image) (header_after you (r.headers image) (header.Create view))
+      (subst (IsStillOwn (own_of k.owns site image)) (u.drawn image permits.drawn).header (still image))
   header_kept image (header.SetSize to) permits = alone_beside site k j image _ shared permits (header_after you (r.headers image) (header.SetSize to))
   header_kept image header.Remove permits = alone_beside site k j image _ shared permits (header_after you (r.headers image) header.Remove)
   header_kept image (header.SnapAdd name) permits = alone_beside site k j image _ shared permits (header_after you (r.headers image) (header.SnapAdd name))
   header_kept image (header.SnapRemove snap) permits = alone_beside site k j image _ shared permits (header_after you (r.headers image) (header.SnapRemove snap))
-  header_kept image header.LockTake permits = still_behind you header.LockTake refl (known_header k site image) (r.headers image) (still image)
-  header_kept image header.LockDrop permits = still_behind you header.LockDrop refl (known_header k site image) (r.headers image) (still image)
-  header_kept image (header.LockBreak owner) permits = still_behind you (header.LockBreak owner) refl (known_header k site image) (r.headers image) (still image)
-  header_kept image header.Watch permits = still_behind you header.Watch refl (known_header k site image) (r.headers image) (still image)
-  header_kept image header.Unwatch permits = still_behind you header.Unwatch refl (known_header k site image) (r.headers image) (still image)
-  header_kept image header.WatchersGet permits = still_behind you header.WatchersGet refl (known_header k site image) (r.headers image) (still image)
-  header_kept image (header.Notify kind) permits = still_behind you (header.Notify kind) refl (known_header k site image) (r.headers image) (still image)
+  header_kept image header.LockTake permits = still_behind (sharing_on k site image) you header.LockTake refl (known_header k site image) (r.headers image) (still image)
+  header_kept image header.LockDrop permits = still_behind (sharing_on k site image) you header.LockDrop refl (known_header k site image) (r.headers image) (still image)
+  header_kept image (header.LockBreak owner) permits = still_behind (sharing_on k site image) you (header.LockBreak owner) refl (known_header k site image) (r.headers image) (still image)
+  header_kept image header.Watch permits = still_behind (sharing_on k site image) you header.Watch refl (known_header k site image) (r.headers image) (still image)
+  header_kept image header.Unwatch permits = still_behind (sharing_on k site image) you header.Unwatch refl (known_header k site image) (r.headers image) (still image)
+  header_kept image header.WatchersGet permits = still_behind (sharing_on k site image) you header.WatchersGet refl (known_header k site image) (r.headers image) (still image)
+  header_kept image (header.Notify kind) permits = still_behind (sharing_on k site image) you (header.Notify kind) refl (known_header k site image) (r.headers image) (still image)
   header_kept image _ permits = elim permits [ ]
 
-  owned_served : (o : Op) → Permits j site o → (image : ℕ) → IsStill (known_header k site image) ((after_served r you o).headers image)
+  owned_served : (o : Op) → Permits j site o → (image : ℕ) → IsStillOwn (own_of k.owns site image) ((after_served r you o).headers image)
   owned_served (op.Directory o) permits image = still image
   owned_served (op.BlockAdd i) permits image = still image
   owned_served (op.Data other number o) permits image = still image
   owned_served (op.Map other o) permits image = still image
   owned_served (op.Header other o) permits image = go (image == other) refl
     where
-      go : (b : Bool) → (image == other) ≡ b → IsStill (known_header k site image) (cond b (header_after you (r.headers other) o) (r.headers image))
-      go true same = subst (λ i. IsStill (known_header k site i) (header_after you (r.headers other) o)) (sym (eqb-true image other same)) (header_kept other o permits)
+      go : (b : Bool) → (image == other) ≡ b → IsStillOwn (own_of k.owns site image) (cond b (header_after you (r.headers other) o) (r.headers image))
+      go true same = subst (λ i. IsStillOwn (own_of k.owns site i) (header_after you (r.headers other) o)) (sym (eqb-true image other same)) (header_kept other o permits)
       go false differ = still image
   owned_served _ permits image = elim permits [ ]
 
 -- One that is fenced changes nothing.
-owned_kept : (site : SiteId) (r : Records) (k j : Knowledge) (me you : Instance) (o : Op) → ((image : ℕ) → IsStill (known_header k site image) (r.headers image)) → IsTrueAt site r you j
-    → IsFalse (is_fenced r me) → AreBeside site r me you k j → Permits j site o → (image : ℕ) → IsStill (known_header k site image) ((after r you o).headers image)
+owned_kept : (site : SiteId) (r : Records) (k j : Knowledge) (me you : Instance) (o : Op) → ((image : ℕ) → IsStillOwn (own_of k.owns site image) (r.headers image)) → IsTrueAt site r you j
+    → IsFalse (is_fenced r me) → AreBeside site r me you k j → Permits j site o → (image : ℕ) → IsStillOwn (own_of k.owns site image) ((after r you o).headers image)
 owned_kept site r k j me you o still u free beside permits image =
-    after_free (λ s. IsStill (known_header k site image) (s.headers image)) r you o (still image)
+    after_free (λ s. IsStillOwn (own_of k.owns site image) (s.headers image)) r you o (still image)
     (λ served. owned_served site r k j you still u (beside.shared (free, served)) o permits image)
 
 -- an id that waits still does, where the operation isn't about it

@@ -51,17 +51,18 @@ use Rattle.rbd_stands.specs.Shown.{links_of, snapshots_of}
 use Rattle.rbd_stands.proofs.SiteSteps.{here}
 use Rattle.rbd_stands.proofs.EditSteps.{drawn_served}
 use Rattle.rbd_interference.specs.Ancestors.{AreSeenTrue, DrewNoneOf, IsSeenTrue}
-use Rattle.rbd_interference.specs.Truth.{AreMapped, AreMapsTrue, AreObjectsTrue, HasAtLeast, IsCountTrue, IsGoneAt, IsStill, IsTrueAt, IsWaiting, KnowsNoHeader, header_of_own, is_alone_on, is_own_alone, known_header}
+use Rattle.rbd_interference.specs.Truth.{AreMapped, AreMapsTrue, AreObjectsTrue, HasAtLeast, IsCountTrue, IsGoneAt, IsStill, IsTrueAt, IsWaiting, KnowsNoHeader, header_of_own, is_alone_on, is_own_alone, known_header, sharing_of_own, sharing_on, IsStillOwn}
 use Rattle.rbd_interference.proofs.Each.{IsKnownAs, IsThereAs, IsTrueOfImage, alike_true, each_true, of_all, of_image, true_as}
 use Rattle.rbd_interference.proofs.Fenced.{served_is, where_free, is_put_up, stays_put_up}
-use Rattle.rbd_interference.proofs.Headers.{own_known, owned_there, not_waiting, unknown_of_none}
+use Rattle.rbd_interference.proofs.Headers.{own_known, owned_there, not_waiting, unknown_of_none, still_exactly}
 use Rattle.rbd_interference.proofs.Kept.{kept_by, seen_kept}
 use Rattle.rbd_interference.proofs.Less.{afresh_less, left_there, less_true, nothing_of, telling_true, unfenced_less}
 use Rattle.rbd_interference.proofs.MapsBehind.{nothing_mapped}
 use Rattle.rbd_interference.proofs.MapsLearned.{at_no_other, map_taught, told_of_others}
 use Rattle.rbd_interference.proofs.ObjectsLearned.{object_taught}
 use Rattle.rbd_interference.proofs.Seen.{among_seen, seen_after, seen_drawn}
-use Rattle.rbd_interference.proofs.Told.{header_changed, told_alone, told_apart, told_here}
+use Rattle.rbd_interference.proofs.Told.{header_changed, told_sharing, told_apart, told_here}
+use Rattle.rbd_interference.proofs.Sharing.{alone_unshared}
 
 -- ---- where
 
@@ -74,10 +75,10 @@ at_one site image other there place differ is =
 -- ---- what it is told of a header
 
 -- what it is told of an image's header is true, and so is what else it knows of the image
-pub record IsTold (site : SiteId) (new : Records) (k : Knowledge) (image : ℕ) (alone : Bool) (h : HeaderView) : Type 0 where
-  pub still : IsStill (Some h) (new.headers image)
-  pub mapped : AreMapsTrue alone (new.maps image) (maps_of k.maps site image)
-  pub objects : AreObjectsTrue alone h.layout (object_at new image) (objects_known_of k.objects site image)
+pub record IsTold (site : SiteId) (new : Records) (k : Knowledge) (image : ℕ) (sharing : Sharing) (h : HeaderView) : Type 0 where
+  pub still : IsStill sharing (Some h) (new.headers image)
+  pub mapped : AreMapsTrue (is_alone sharing) (new.maps image) (maps_of k.maps site image)
+  pub objects : AreObjectsTrue (is_alone sharing) h.layout (object_at new image) (objects_known_of k.objects site image)
 
 module _ (site : SiteId) (r new : Records) (me : Instance) (k : Knowledge) (t : IsTrueAt site r me k) (was : IsFalse (is_fenced new me) → IsFalse (is_fenced r me))
     (fences : (i : Instance) → is_fenced_by k.fenced site i ≡ true → is_fenced new i ≡ true) (image : ℕ) (others : (i : ℕ) → i ≢ image → IsThereAs r new i)
@@ -85,7 +86,7 @@ module _ (site : SiteId) (r new : Records) (me : Instance) (k : Knowledge) (t : 
   -- what it was told of one image
   pub told_true : (is_drawn k.drawn site image ≡ true → IsWaiting new image) → (is_gone k.gone site image ≡ true → IsGoneAt new image)
       → ((h : HeaderView) → IsSeenTrue r image h → IsSeenTrue new image h)
-      → new.maps image ≡ r.maps image → ((h : HeaderView) → header_changed change o ≡ Some h → IsTold site new k image (is_own_alone o) h)
+      → new.maps image ≡ r.maps image → ((h : HeaderView) → header_changed change o ≡ Some h → IsTold site new k image (sharing_of_own o) h)
       → IsTrueAt site new me (header_told site image change k)
   told_true waits goes sees maps told =
       each_true site r new me k learnt image t was fences it
@@ -98,10 +99,13 @@ module _ (site : SiteId) (r new : Records) (me : Instance) (k : Knowledge) (t : 
       header_is : known_header learnt site image ≡ header_changed change o
       header_is = told_here site image change k.owns ∙ ap (header_changed change) at
 
-      alone_is : is_alone_on learnt site image ≡ is_own_alone o
-      alone_is = told_alone site site image image change k.owns ∙ ap is_own_alone at
+      sharing_is : sharing_on learnt site image ≡ sharing_of_own o
+      sharing_is = told_sharing site site image image change k.owns ∙ ap sharing_of_own at
 
-      still : (known : Option HeaderView) → header_changed change o ≡ known → IsStill known (new.headers image)
+      alone_is : is_alone_on learnt site image ≡ is_own_alone o
+      alone_is = ap is_alone sharing_is
+
+      still : (known : Option HeaderView) → header_changed change o ≡ known → IsStill (sharing_of_own o) known (new.headers image)
       still None is = tt
       still (Some h) is = (told h is).still
 
@@ -111,7 +115,9 @@ module _ (site : SiteId) (r new : Records) (me : Instance) (k : Knowledge) (t : 
 
       it : IsTrueOfImage site new me learnt image
       it = record {
-        owned = λ free. subst (λ known. IsStill known (new.headers image)) (sym header_is) (still (header_changed change o) refl);
+        owned = λ free.
+            subst (λ sharing. IsStill sharing (known_header learnt site image) (new.headers image)) (sym sharing_is)
+            (subst (λ known. IsStill (sharing_of_own o) known (new.headers image)) (sym header_is) (still (header_changed change o) refl));
         drawn = waits;
         mapped = λ free some.
             subst (λ alone. AreMapsTrue alone (new.maps image) (maps_of k.maps site image)) (sym alone_is)
@@ -247,30 +253,32 @@ module _ (site : SiteId) (r : Records) (me : Instance) (k : Knowledge) (t : IsTr
   got image (Some h) is = by (own_of k.owns site image) refl
     where
       look : (known : Knowledge) → IsTrueAt site r me known → (o : Option Own) → own_of known.owns site image ≡ o
-          → ((v : HeaderView) → header_changed (first_told h) o ≡ Some v → IsTold site r known image (is_own_alone o) v) → IsTrueAt site r me (header_told site image (first_told h) known)
+          → ((v : HeaderView) → header_changed (first_told h) o ≡ Some v → IsTold site r known image (sharing_of_own o) v) → IsTrueAt site r me (header_told site image (first_told h) known)
       look known true_of_it o at told =
           told_true site r r me known true_of_it (λ f. f) true_of_it.fenced image (λ i other. record { header = refl; maps = refl; objects = λ n. refl; drawn = omega arith }) (first_told h) o at
           (true_of_it.drawn image) (true_of_it.gone image) (λ v saw. saw) refl told
 
       -- one that it knows already tells nothing new
-      again : (o : Own) (own : HeaderView) → o.header ≡ Some own → own_of k.owns site image ≡ Some o → (v : HeaderView) → first_told h o.header ≡ Some v → IsTold site r k image (is_alone o.sharing) v
+      again : (o : Own) (own : HeaderView) → o.header ≡ Some own → own_of k.owns site image ≡ Some o → (v : HeaderView) → first_told h o.header ≡ Some v → IsTold site r k image o.sharing v
       again o own had at v told =
           let known : known_header k site image ≡ Some v = ap header_of_own at ∙ had ∙ sym (ap (first_told h) had) ∙ told in
           let some : IsSome (known_header k site image) = ap is_some known in
           let alone : is_alone_on k site image ≡ is_alone o.sharing = ap is_own_alone at in
           record {
-            still = subst (λ q. IsStill q (r.headers image)) known (t.owned free image);
+            still =
+                subst (λ q. IsStill o.sharing q (r.headers image)) known
+                (subst (λ sharing. IsStill sharing (known_header k site image) (r.headers image)) (ap sharing_of_own at) (t.owned free image));
             mapped = subst (λ b. AreMapsTrue b (r.maps image) (maps_of k.maps site image)) alone (t.mapped free image some);
             objects = subst (λ b. AreObjectsTrue b v.layout (object_at r image) (objects_known_of k.objects site image)) alone (t.objects free image v known);
           }
 
       -- the first one tells the header that is there
-      first : (o : Own) → o.header ≡ None → (v : HeaderView) → first_told h o.header ≡ Some v → IsTold site r (afresh site image k) image (is_alone o.sharing) v
+      first : (o : Own) → o.header ≡ None → (v : HeaderView) → first_told h o.header ≡ Some v → IsTold site r (afresh site image k) image o.sharing v
       first o unknown v told =
           let same : h ≡ v = same_Some h v (sym (ap (first_told h) unknown) ∙ told) in
           let unmapped_now : maps_of (afresh site image k).maps site image ≡ unmapped = told_first site image unmapped (unmarked k.maps) in
           record {
-            still = subst (λ q. IsStill (Some q) (r.headers image)) same (subst (IsStill (Some h)) (sym is) refl);
+            still = subst (λ q. IsStill o.sharing (Some q) (r.headers image)) same (subst (IsStill o.sharing (Some h)) (sym is) (still_exactly o.sharing h h refl));
             mapped = subst (AreMapsTrue (is_alone o.sharing) (r.maps image)) (sym unmapped_now) (nothing_mapped (is_alone o.sharing) (r.maps image));
             objects = nothing_of (is_alone o.sharing) v.layout (object_at r image);
           }
@@ -304,7 +312,7 @@ module _ (site : SiteId) (r : Records) (me : Instance) (k : Knowledge) (t : IsTr
 
       it : IsTrueOfImage site (doing image (header.Create view)) me (without_drawn site image k) image
       it = record {
-        owned = λ f. unknown_of_none (known_header k site image) ((doing image (header.Create view)).headers image) (subst (IsStill (known_header k site image)) (t.drawn image may.drawn).header (t.owned free image));
+        owned = λ f. unknown_of_none (sharing_on k site image) (known_header k site image) ((doing image (header.Create view)).headers image) (subst (IsStillOwn (own_of k.owns site image)) (t.drawn image may.drawn).header (t.owned free image));
         drawn = λ drawn. absurd (undrawn drawn);
         mapped = λ f. t.mapped free image;
         objects = λ f. t.objects free image;
@@ -352,17 +360,17 @@ module _ (site : SiteId) (r : Records) (me : Instance) (k : Knowledge) (t : IsTr
           subst (λ s. IsSeenTrue s image h) (served_is r me (op.Header image o) free)
           (seen_after r me (op.Header image o) image h (λ none. absurd (not_waiting site r me k image condition t free owns none)) saw)
 
-      still : IsStill (Some (edit owns.header)) ((doing image o).headers image)
+      still : IsStill owns.sharing (Some (edit owns.header)) ((doing image o).headers image)
       still =
-          subst (IsStill (Some (edit owns.header))) (sym (put_there r.headers image (header_after me (r.headers image) o) ∙ is))
-          (ap edit same ∙ keeps owns.header v.owner ∙ ap (λ w. record (edit owns.header) { owner = w }) (sym owner))
+          subst (IsStill owns.sharing (Some (edit owns.header))) (sym (put_there r.headers image (header_after me (r.headers image) o) ∙ is))
+          (still_exactly owns.sharing (edit owns.header) (edit v) (ap edit same ∙ keeps owns.header v.owner ∙ ap (λ w. record (edit owns.header) { owner = w }) (sym owner)))
 
-      told : (w : HeaderView) → Some (edit owns.header) ≡ Some w → IsTold site (doing image o) k image (is_alone owns.sharing) w
+      told : (w : HeaderView) → Some (edit owns.header) ≡ Some w → IsTold site (doing image o) k image owns.sharing w
       told w at =
           let now : edit owns.header ≡ w = same_Some (edit owns.header) w at in
           let layout : owns.header.layout ≡ w.layout = sym (laid owns.header) ∙ ap (λ (h : HeaderView). h.layout) now in
           record {
-            still = subst (λ q. IsStill (Some q) ((doing image o).headers image)) now still;
+            still = subst (λ q. IsStill owns.sharing (Some q) ((doing image o).headers image)) now still;
             mapped = subst (λ b. AreMapsTrue b (r.maps image) (maps_of k.maps site image)) alone (t.mapped free image (ap is_some known));
             objects = subst (λ l. AreObjectsTrue (is_alone owns.sharing) l (object_at r image) (objects_known_of k.objects site image)) layout
                 (subst (λ b. AreObjectsTrue b owns.header.layout (object_at r image) (objects_known_of k.objects site image)) alone (t.objects free image owns.header known));
@@ -380,8 +388,8 @@ module _ (site : SiteId) (r : Records) (me : Instance) (k : Knowledge) (t : IsTr
   takes image name owns =
       let there = owned_there site r me k image _ t free owns in
       let unlisted : is_some (snap_named there.view.snaps name) ≡ false =
-      ap (λ (h : HeaderView). is_some (snap_named h.snaps name)) there.same ∙ ap is_some owns.meets.1.unlisted in
-      let room : is_full there.view ≡ false = ap is_full there.same ∙ owns.meets.1.has_room in
+      ap (λ (h : HeaderView). is_some (snap_named h.snaps name)) there.still.same ∙ ap is_some owns.meets.1.unlisted in
+      let room : is_full there.view ≡ false = ap is_full there.still.same ∙ owns.meets.1.has_room in
       record {
         answered = ap (λ h. header_answer me h (r.watchers image) (header.SnapAdd name)) there.is
             ∙ ap (λ listed. snap_added listed (is_full there.view) (there.view.snap_seq + 1)) unlisted
@@ -396,7 +404,7 @@ module _ (site : SiteId) (r : Records) (me : Instance) (k : Knowledge) (t : IsTr
   removes image snap owns =
       let there = owned_there site r me k image _ t free owns in
       let listed : is_some (snap_in there.view.snaps snap) ≡ true =
-      ap (λ (h : HeaderView). is_some (snap_in h.snaps snap)) there.same ∙ ap is_some owns.meets.1.listed in
+      ap (λ (h : HeaderView). is_some (snap_in h.snaps snap)) there.still.same ∙ ap is_some owns.meets.1.listed in
       record {
         answered = ap (λ h. header_answer me h (r.watchers image) (header.SnapRemove snap)) there.is ∙ ap done_where listed;
         is = ap (λ h. header_after me h (header.SnapRemove snap)) there.is ∙ ap (λ b. Some (cond b (without_snap snap there.view) there.view)) listed;
@@ -408,7 +416,7 @@ module _ (site : SiteId) (r : Records) (me : Instance) (k : Knowledge) (t : IsTr
       let there = owned_there site r me k image _ t free owns in
       let edits = takes image name owns in
       subst (λ a. IsTrueAt site (doing image (header.SnapAdd name)) me (learned_of_header k site image (header.SnapAdd name) a)) (sym edits.answered)
-      (edited image (header.SnapAdd name) _ owns (with_snap name) (λ h owner. refl) (λ h. refl) there.view there.same refl edits.is)
+      (edited image (header.SnapAdd name) _ owns (with_snap name) (λ h owner. refl) (λ h. refl) there.view (there.still.exact (alone_unshared owns.sharing owns.meets.0)) refl edits.is)
 
   removed : (image snap : ℕ) → OwnsAlone k site image (MayRemove snap)
       → IsTrueAt site (doing image (header.SnapRemove snap)) me (learned_of_header k site image (header.SnapRemove snap) (header_answer me (r.headers image) (r.watchers image) (header.SnapRemove snap)))
@@ -416,7 +424,7 @@ module _ (site : SiteId) (r : Records) (me : Instance) (k : Knowledge) (t : IsTr
       let there = owned_there site r me k image _ t free owns in
       let edits = removes image snap owns in
       subst (λ a. IsTrueAt site (doing image (header.SnapRemove snap)) me (learned_of_header k site image (header.SnapRemove snap) a)) (sym edits.answered)
-      (edited image (header.SnapRemove snap) _ owns (without_snap snap) (λ h owner. refl) (λ h. refl) there.view there.same refl edits.is)
+      (edited image (header.SnapRemove snap) _ owns (without_snap snap) (λ h owner. refl) (λ h. refl) there.view (there.still.exact (alone_unshared owns.sharing owns.meets.0)) refl edits.is)
 
   -- ---- its size, and its end
 
@@ -425,7 +433,7 @@ module _ (site : SiteId) (r : Records) (me : Instance) (k : Knowledge) (t : IsTr
   sized image to owns =
       let there = owned_there site r me k image _ t free owns in
       subst (λ a. IsTrueAt site (doing image (header.SetSize to)) me (learned_of_header k site image (header.SetSize to) a)) (sym (ap (λ h. header_answer me h (r.watchers image) (header.SetSize to)) there.is))
-      (edited image (header.SetSize to) _ owns (with_size to) (λ h owner. refl) (λ h. refl) there.view there.same refl (ap (λ h. header_after me h (header.SetSize to)) there.is))
+      (edited image (header.SetSize to) _ owns (with_size to) (λ h owner. refl) (λ h. refl) there.view (there.still.exact (alone_unshared owns.sharing owns.meets.0)) refl (ap (λ h. header_after me h (header.SetSize to)) there.is))
 
   -- It has no header any more, but its id was drawn, and its head's map is still there.
   gone : (image : ℕ) → IsDrawn r image → IsSome (r.maps image None) → OwnsAlone k site image (λ h. h.snaps ≡ [])
@@ -459,7 +467,7 @@ module _ (site : SiteId) (r : Records) (me : Instance) (k : Knowledge) (t : IsTr
 
       it : (h : HeaderView) → r.headers image ≡ Some h → IsTrueOfImage site (doing image header.Remove) me learnt image
       it h is = record {
-        owned = λ f. subst (λ q. IsStill q ((doing image header.Remove).headers image)) (sym unowned) tt;
+        owned = λ f. subst (λ q. IsStill (sharing_on learnt site image) q ((doing image header.Remove).headers image)) (sym unowned) tt;
         drawn = λ d. absurd (owned_undrawn image _ owns d);
         mapped = λ f some. absurd (unsome some);
         objects = λ f v known. absurd (unknown v known);

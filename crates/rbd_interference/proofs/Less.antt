@@ -21,9 +21,10 @@ use Rattle.rbd_site.specs.Step.{is_fenced}
 use Rattle.rbd_stands.specs.Covering.{Maps}
 use Rattle.rbd_interference.specs.Ancestors.{AreSeenTrue, DrewNoneOf, HasReadTruly}
 use Rattle.rbd_interference.specs.Beside.{AreBeside}
-use Rattle.rbd_interference.specs.Truth.{AreMapsTrue, AreObjectsTrue, AreZeros, IsCountTrue, IsStill, IsTrueAt, KnowsNoHeader, header_of_own, is_alone_on, is_own_alone, known_header}
+use Rattle.rbd_interference.specs.Truth.{AreMapsTrue, AreObjectsTrue, AreZeros, IsCountTrue, IsStill, IsTrueAt, KnowsNoHeader, header_of_own, is_alone_on, is_own_alone, known_header, sharing_of_own, sharing_on, IsStillOwn}
 use Rattle.rbd_interference.specs.Turns.{KnowsOf}
 use Rattle.rbd_interference.proofs.Seen.{IsSeenLess, same_seen}
+use Rattle.rbd_kinds.specs.Sharing.{go_together}
 
 -- ---- less
 
@@ -144,9 +145,11 @@ module _ (site : SiteId) (new old : Knowledge) (less : IsLess site new old) wher
     strange = λ image saw. undrawn image (t.strange image (less.seen.has image saw));
   }
     where
-      still : (image : ℕ) → IsFalse (is_fenced r me) → (known : Option HeaderView) → known_header new site image ≡ known → IsStill known (r.headers image)
+      still : (image : ℕ) → IsFalse (is_fenced r me) → (known : Option HeaderView) → known_header new site image ≡ known → IsStill (sharing_on new site image) known (r.headers image)
       still image free None is = tt
-      still image free (Some h) is = subst (λ known. IsStill known (r.headers image)) (known_before image (ap is_some is) ∙ is) (t.owned free image)
+      still image free (Some h) is =
+          subst (λ known. IsStill (sharing_on new site image) known (r.headers image)) is
+          (subst (λ o. IsStillOwn o (r.headers image)) (sym (less.owns image (ap is_some is))) (t.owned free image))
 
 -- Who knows no more of headers and ids stays beside the others.
 pub known_beside : (site : SiteId) (r : Records) (me you : Instance) (new old j : Knowledge) → ((image : ℕ) → IsOwnOf (own_of new.owns site image) (own_of old.owns site image))
@@ -154,8 +157,7 @@ pub known_beside : (site : SiteId) (r : Records) (me you : Instance) (new old j 
     → ((image : ℕ) → is_gone new.gone site image ≡ true → is_gone old.gone site image ≡ true) → IsSeenLess site new.seen old.seen → AreBeside site r me you old j → AreBeside site r me you new j
 known_beside site r me you new old j owns drawn gone seen beside = record {
   shared = λ free image some others.
-      let both = beside.shared free image (before image some) others in
-      record { one = ap is_own_alone (owns image some) ∙ both.one; other = both.other };
+      ap (λ o. go_together (sharing_of_own o) (sharing_on j site image)) (owns image some) ∙ beside.shared free image (before image some) others;
   gone = λ image g. beside.gone image (gone image g);
   gone_there = λ image g. undrawn image (beside.gone_there image g);
   removed = λ image g. beside.removed image (gone image g);
@@ -198,7 +200,7 @@ telling_true site r me k seen told are strange t = record {
 pub telling_beside : (site : SiteId) (r : Records) (me you : Instance) (k j : Knowledge) (seen : List HeaderSeen) (told : List ObjectTold) → DrewNoneOf site seen j → AreBeside site r me you k j
     → AreBeside site r me you (record k { seen = seen; told = told }) j
 telling_beside site r me you k j seen told unseen beside = record {
-  shared = λ free image mine others. let both = beside.shared free image mine others in record { one = both.one; other = both.other };
+  shared = beside.shared;
   apart = beside.apart;
   gone = beside.gone;
   gone_there = beside.gone_there;

@@ -15,6 +15,7 @@ pub mod Standalone
 pub mod NoStates
 pub mod Nothing
 pub mod Each
+pub mod Sharing
 pub mod Less
 pub mod Objects
 pub mod ObjectsKept

@@ -53,6 +53,7 @@ use Rattle.rbd_interference.proofs.Fenced.{after_free}
 use Rattle.rbd_interference.proofs.Headers.{own_known, owned_there}
 use Rattle.rbd_interference.proofs.MapsBehind.{each_image, maps_behind, same_again, with_view}
 use Rattle.rbd_interference.proofs.NoStates.{none_raised, none_there}
+use Rattle.rbd_interference.proofs.Sharing.{alone_unshared}
 
 -- ---- one map
 
@@ -169,7 +170,7 @@ module _ (site : SiteId) (r : Records) (f : Flat) (k : Knowledge) (you : Instanc
     put_next name owns h is =
         let there = owned_there site r you k image _ t free owns in
         let same : h ≡ there.view = same_Some h there.view (sym is ∙ there.is) in
-        let seq : h.snap_seq ≡ owns.header.snap_seq = ap (λ (v : HeaderView). v.snap_seq) (same ∙ there.same) in
+        let seq : h.snap_seq ≡ owns.header.snap_seq = ap (λ (v : HeaderView). v.snap_seq) (same ∙ there.still.same) in
         subst (λ n. IsPutAs (r.maps image (Some (n + 1))) (r.maps image None)) (sym seq)
         ((t.mapped free image (ap is_some (own_known k site image _ owns))).put (ap is_own_alone owns.is ∙ ap is_alone owns.meets.0) (owns.header.snap_seq + 1) owns.meets.1.put)
 
@@ -186,7 +187,7 @@ module _ (site : SiteId) (r : Records) (f : Flat) (k : Knowledge) (you : Instanc
     under_own condition owns context at h is =
         let there = owned_there site r you k image condition t free owns in
         let same : h ≡ there.view = same_Some h there.view (sym is ∙ there.is) in
-        subst (IsContextOf h) (ap context_of (same ∙ there.same) ∙ sym at) (reversed_context h)
+        subst (IsContextOf h) (ap context_of (same ∙ there.still.same) ∙ sym at) (reversed_context h)
 
     raised_own : (condition : Sharing → HeaderView → Type 0) → OwnsBy k site image condition → (number : ℕ) → HasState (maps_of k.maps site image) number → IsRaised (r.maps image None) number
     raised_own condition owns number raised = raised_map (r.maps image None) number ((t.mapped free image (ap is_some (own_known k site image condition owns))).raised None number raised)
@@ -216,7 +217,7 @@ module _ (site : SiteId) (r : Records) (f : Flat) (k : Knowledge) (you : Instanc
     put_unlisted snap bits owns h is s at =
         let there = owned_there site r you k image _ t free owns in
         let same : h ≡ there.view = same_Some h there.view (sym is ∙ there.is) in
-        let seq : h.snap_seq ≡ owns.header.snap_seq = ap (λ (v : HeaderView). v.snap_seq) (same ∙ there.same) in
+        let seq : h.snap_seq ≡ owns.header.snap_seq = ap (λ (v : HeaderView). v.snap_seq) (same ∙ there.still.same) in
         let numbered = ((here (snapshots_of f) (links_of f image) (r.headers image) (object_at r image) (image_at f image) h is (stands.images image)).stands.numbered.snap snap s at).1 in
         let next = owns.meets.1.next in
         omega (arith, numbered, next, seq)
@@ -267,7 +268,7 @@ module _ (site : SiteId) (r : Records) (f : Flat) (k : Knowledge) (you : Instanc
         same =
             let there = owned_there site r you k image _ t free owns in
             let at : h ≡ there.view = same_Some h there.view (sym is ∙ there.is) in
-            at ∙ there.same ∙ ap (λ (v : HeaderView). record owns.header { owner = v.owner }) (sym at)
+            at ∙ there.still.exact (alone_unshared owns.sharing owns.meets.0) ∙ ap (λ (v : HeaderView). record owns.header { owner = v.owner }) (sym at)
 
         grown : (x : ℕ) → x < to → owns.header.size < to → object_of owns.header.layout x < map_len (r.maps image None)
         grown x inside more =
@@ -332,7 +333,7 @@ module _ (site : SiteId) (r : Records) (f : Flat) (k : Knowledge) (you : Instanc
     left_views snap (inr owns) h is =
         let there = owned_there site r you k image _ t free owns in
         let same : h ≡ there.view = same_Some h there.view (sym is ∙ there.is) in
-        views_apart (r.maps image) h snap None (ap (λ (v : HeaderView). snap_in v.snaps snap) (same ∙ there.same) ∙ owns.meets.1) (views image h is)
+        views_apart (r.maps image) h snap None (ap (λ (v : HeaderView). snap_in v.snaps snap) (same ∙ there.still.same) ∙ owns.meets.1) (views image h is)
 
     map_views : (o : MapOp) → PermitsOnMap k site image o → (h : HeaderView) → r.headers image ≡ Some h → HasViews h (maps_behind (r.maps image) o)
     map_views (states.Resize count) permits h is = views_lengthened (r.maps image) h count (views image h is)

@@ -10,19 +10,19 @@ use Rattle.rbd_kinds.specs.declared.operation.Op.{Op}
 use Rattle.rbd_kinds.specs.declared.operation.Op.TheVariants as op
 use Rattle.rbd_kinds.specs.declared.sharing.Sharing.{Sharing}
 use Rattle.rbd_kinds.specs.declared.sharing.Sharing.TheVariants.{Alone}
-use Rattle.rbd_kinds.specs.Sharing.{is_alone}
 use Rattle.rbd_machine.specs.Knowledge.{Knowledge, is_drawn, is_gone, maps_of, objects_known_of, is_raised}
 use Rattle.rbd_machine.specs.Permits.{Permits, PermitsOnMap, IsLeftOver, MayLengthen, MaySet, OwnsBy}
 use Rattle.rbd_site.specs.Records.{Records}
 use Rattle.rbd_site.specs.Step.{is_fenced, after, after_served}
 use Rattle.rbd_stands.specs.Covering.{Maps}
-use Rattle.rbd_interference.specs.Beside.{AreBeside, GoBesideOthers, LeavesObject, MayAct}
-use Rattle.rbd_interference.specs.Truth.{AreMapsTrue, IsCountTrue, IsTrueAt, KnowsNoHeader, is_alone_on, is_own_alone, known_header, map_state_in}
+use Rattle.rbd_interference.specs.Beside.{AreBeside, LeavesObject, MayAct, GoTogether}
+use Rattle.rbd_interference.specs.Truth.{AreMapsTrue, IsCountTrue, IsTrueAt, KnowsNoHeader, is_alone_on, known_header, map_state_in, sharing_of_own, sharing_on}
 use Rattle.rbd_interference.specs.Turns.{KnowsOf}
 use Rattle.rbd_interference.proofs.Fenced.{after_free}
 use Rattle.rbd_interference.proofs.Headers.{not_waiting, own_known, unknown_while_waiting}
 use Rattle.rbd_interference.proofs.MapsBehind.{each_image, maps_behind, same_again, true_of}
 use Rattle.rbd_interference.proofs.States.{set_elsewhere}
+use Rattle.rbd_interference.proofs.Sharing.{alone_beside_none, shared_both}
 
 module _ (site : SiteId) (r : Records) (k j : Knowledge) (me you : Instance) (t : IsTrueAt site r me k) (u : IsTrueAt site r you j) (beside : AreBeside site r me you k j) where
   -- ---- of an image whose header it knows
@@ -31,13 +31,14 @@ module _ (site : SiteId) (r : Records) (k j : Knowledge) (me you : Instance) (t 
   IsMapped image maps = IsSome (known_header k site image) → AreMapsTrue (is_alone_on k site image) maps (maps_of k.maps site image)
 
   module _ (free : IsFalse (is_fenced r me)) (served : IsFalse (is_fenced r you)) (image : ℕ) where
-    -- where another owns it too, neither is alone
-    pub both_shared : (condition : Sharing → HeaderView → Type 0) → OwnsBy j site image condition → IsSome (known_header k site image) → GoBesideOthers site image k j
+    -- where another owns it too, they go together
+    pub both_shared : (condition : Sharing → HeaderView → Type 0) → OwnsBy j site image condition → IsSome (known_header k site image) → GoTogether site image k j
     both_shared condition owns known = beside.shared (free, served) image known (ap is_some (own_known j site image condition owns))
 
     never_alone : (condition : HeaderView → Type 0) → OwnsBy j site image (λ sharing h. (sharing ≡ Alone) × condition h) → IsSome (known_header k site image) → ⊥
     never_alone condition owns known =
-        true≢false (sym (ap is_alone owns.meets.0) ∙ sym (ap is_own_alone owns.is) ∙ (both_shared (λ sharing h. (sharing ≡ Alone) × condition h) owns known).other)
+        alone_beside_none (sharing_on k site image) (sharing_on j site image) (ap sharing_of_own owns.is ∙ owns.meets.0)
+        (both_shared (λ sharing h. (sharing ≡ Alone) × condition h) owns known)
 
     -- What another may change is none of what is known.
     pub known_apart : (condition : Sharing → HeaderView → Type 0) → OwnsBy j site image condition → (object : ℕ) → LeavesObject site image object r you me j k
@@ -49,12 +50,12 @@ module _ (site : SiteId) (r : Records) (k j : Knowledge) (me you : Instance) (t 
         → IsMapped image (maps_behind (r.maps image) (states.Set None object state))
     set_beside object state owns may known =
         let was = t.mapped free image known in
-        let shared : GoBesideOthers site image k j = both_shared _ owns known in
+        let shared = (shared_both (sharing_on k site image) (sharing_on j site image) (both_shared _ owns known)).0 in
         record {
           raised = λ view n marked. still view n marked (was.raised view n marked);
-          states = λ alone. absurd (true≢false (sym alone ∙ shared.one));
-          count = λ alone. absurd (true≢false (sym alone ∙ shared.one));
-          put = λ alone. absurd (true≢false (sym alone ∙ shared.one));
+          states = λ alone. absurd (true≢false (sym alone ∙ shared));
+          count = λ alone. absurd (true≢false (sym alone ∙ shared));
+          put = λ alone. absurd (true≢false (sym alone ∙ shared));
         }
       where
         still : (view : Option ℕ) (n : ℕ) → is_raised view n (maps_of k.maps site image).raised ≡ true → map_state_in (r.maps image view) n ≢ 0

@@ -13,7 +13,7 @@ use Rattle.rbd_kinds.specs.declared.id.SiteId.TheVariants as sites
 use Rattle.rbd_kinds.specs.declared.map_op.MapOp.{MapOp}
 use Rattle.rbd_kinds.specs.declared.map_op.MapOp.TheVariants as states
 use Rattle.rbd_kinds.specs.declared.operation.Op.TheVariants as op
-use Rattle.rbd_machine.specs.Knowledge.{ImageMaps, Knowledge, MapsKnown, is_at, is_drawn, is_fenced_by, learned_of_map, maps_of, maps_told, marks_after, objects_known_of, states_set, unmapped, is_raised, marks_apart}
+use Rattle.rbd_machine.specs.Knowledge.{ImageMaps, Knowledge, MapsKnown, is_at, is_drawn, is_fenced_by, learned_of_map, maps_of, maps_told, marks_after, objects_known_of, states_set, unmapped, is_raised, marks_apart, own_of}
 use Rattle.rbd_machine.specs.Permits.{HasRoomFor, PermitsOnMap, OwnsBy, OwnsAlone, MayPut, MaySet}
 use Rattle.rbd_object.specs.Mapped.{Mapped}
 use Rattle.rbd_machine.proofs.AtLeast.{marks_of_others}
@@ -26,7 +26,7 @@ use Rattle.rbd_site.specs.Found.{done_where}
 use Rattle.rbd_site.specs.Records.{Records, object_at}
 use Rattle.rbd_site.specs.Step.{is_fenced, after_served, answer_served}
 use Rattle.rbd_site.proofs.MapLemmas.{with_map_same}
-use Rattle.rbd_interference.specs.Truth.{AreMapped, AreMapsTrue, AreStatesOf, HasAtLeast, HasNoStates, IsCountTrue, IsPutAs, IsStill, IsTrueAt, KnowsNoHeader, is_alone_on, known_header, map_len, map_state_in}
+use Rattle.rbd_interference.specs.Truth.{AreMapped, AreMapsTrue, AreStatesOf, HasAtLeast, HasNoStates, IsCountTrue, IsPutAs, IsTrueAt, KnowsNoHeader, is_alone_on, known_header, map_len, map_state_in, IsStillOwn}
 use Rattle.rbd_interference.proofs.Each.{IsKnownAs, IsTrueOfImage, each_true, objects_alike}
 use Rattle.rbd_interference.proofs.Headers.{not_waiting, owned_there}
 use Rattle.rbd_interference.proofs.MapsBehind.{maps_behind, maps_here, maps_there, nothing_mapped, with_view}
@@ -66,7 +66,7 @@ maps_are_true site r new me k image m t was fences headers objects drawn others 
 
     it : IsTrueOfImage site new me learnt image
     it = record {
-      owned = λ free. subst (IsStill (known_header k site image)) (sym (headers image)) (t.owned (was free) image);
+      owned = λ free. subst (IsStillOwn (own_of k.owns site image)) (sym (headers image)) (t.owned (was free) image);
       drawn = λ d. let w = t.drawn image d in let before = w.drawn in record { drawn = omega (arith, before, drawn); header = headers image ∙ w.header; blank = λ n. objects image n ∙ w.blank n; unraised = unraised d };
       mapped = λ free known. subst (AreMapsTrue (is_alone_on k site image) (new.maps image)) (sym told) (here (was free) known);
       objects = λ free h known.
@@ -168,7 +168,7 @@ module _ (site : SiteId) (r : Records) (me : Instance) (k : Knowledge) (most : �
       let there = owned_there site r me k image _ t free owns in
       let (x, inside, at) = owns.meets.within in
       let room : HasRoomFor there.view.layout there.view.size (map_len (r.maps image None)) = (mapped.images image there.view there.is).room.head in
-      let room_of_own : HasRoomFor owns.header.layout owns.header.size (map_len (r.maps image None)) = subst (λ (h : HeaderView). HasRoomFor h.layout h.size (map_len (r.maps image None))) there.same room in
+      let room_of_own : HasRoomFor owns.header.layout owns.header.size (map_len (r.maps image None)) = subst (λ (h : HeaderView). HasRoomFor h.layout h.size (map_len (r.maps image None))) there.still.same room in
       subst (λ m. object < map_len m) is (subst (λ n. n < map_len (r.maps image None)) at (room_of_own x inside))
 
   abbrev known_set : (object state : ℕ) → MapsKnown

@@ -18,13 +18,14 @@ use Rattle.rbd_site.specs.Records.{Records, object_at, or_blank, put}
 use Rattle.rbd_site.specs.Step.{is_fenced, after, after_served}
 use Rattle.rbd_site.proofs.GenerationLemmas.{looked_at}
 use Rattle.rbd_stands.proofs.ObjectSteps.{put_there, put_elsewhere}
-use Rattle.rbd_interference.specs.Beside.{AreBeside, GoBesideOthers, LeavesObject, MayAct}
-use Rattle.rbd_interference.specs.Truth.{AreObjectsTrue, IsTrueAt, is_alone_on, known_header}
+use Rattle.rbd_interference.specs.Beside.{AreBeside, LeavesObject, MayAct}
+use Rattle.rbd_interference.specs.Truth.{AreObjectsTrue, IsTrueAt, is_alone_on, known_header, sharing_on}
 use Rattle.rbd_interference.proofs.Each.{objects_alike}
 use Rattle.rbd_interference.proofs.Fenced.{after_free}
 use Rattle.rbd_interference.proofs.Headers.{unknown_while_waiting}
 use Rattle.rbd_interference.proofs.MapsBehind.{at_each}
 use Rattle.rbd_interference.proofs.MapsKept.{both_shared, known_apart}
+use Rattle.rbd_interference.proofs.Sharing.{shared_both}
 
 -- ---- the objects behind a change of one
 
@@ -55,12 +56,12 @@ module _ (site : SiteId) (r : Records) (k j : Knowledge) (me you : Instance) (t 
     owned_beside condition owns may h known =
         let some : IsSome (known_header k site image) = ap is_some known in
         let was = t.objects free image h known in
-        let shared : GoBesideOthers site image k j = both_shared site r k j me you t u beside free served image condition owns some in
+        let shared = (shared_both (sharing_on k site image) (sharing_on j site image) (both_shared site r k j me you t u beside free served image condition owns some)).0 in
         record {
           absent = λ n gone.
               ap (λ (m : Mapped). m.head)
               (other_object r you image number o n (known_apart site r k j me you t u beside free served image condition owns number may some n (inr gone))) ∙ was.absent n gone;
-          blank = λ alone. absurd (true≢false (sym alone ∙ shared.one));
+          blank = λ alone. absurd (true≢false (sym alone ∙ shared));
         }
 
     left_beside : IsLeftOver j site image → AreObjects image objects_then

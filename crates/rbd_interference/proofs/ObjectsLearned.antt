@@ -28,7 +28,7 @@ use Rattle.rbd_site.specs.Records.{Records, object_at, or_blank}
 use Rattle.rbd_site.specs.Step.{is_fenced, after_served, answer_served}
 use Rattle.rbd_site.proofs.TrimLemmas.{with_object_same}
 use Rattle.rbd_stands.proofs.DataSteps.{done_after}
-use Rattle.rbd_interference.specs.Truth.{AreObjectsTrue, IsTrueAt, is_alone_on, known_header}
+use Rattle.rbd_interference.specs.Truth.{AreObjectsTrue, IsTrueAt, is_alone_on, known_header, sharing_on}
 use Rattle.rbd_interference.proofs.Each.{IsTrueOfImage, each_true}
 use Rattle.rbd_interference.proofs.Headers.{find_there, not_waiting, own_known, same_layout}
 use Rattle.rbd_interference.proofs.MapsLearned.{at_no_other}
@@ -109,8 +109,8 @@ module _ (site : SiteId) (r : Records) (me : Instance) (k : Knowledge) (most : �
     -- the layout of the header that is known is one
     laid : (h : HeaderView) → known_header k site image ≡ Some h → IsLayout h.layout
     laid h known =
-        let there = find_there (known_header k site image) (r.headers image) h known (t.owned free image) in
-        same_layout h there.view there.same (form.form image there.view there.is).layout
+        let there = find_there (sharing_on k site image) (known_header k site image) (r.headers image) h known (t.owned free image) in
+        same_layout (sharing_on k site image) h there.view there.still (form.form image there.view there.is).layout
 
     zeroed : (context : SnapContext) (must : Bool) (parts : List Part) → ((h : HeaderView) → known_header k site image ≡ Some h → All (IsPart h.layout number) parts)
         → data_answer (r.objects image number) (object.Zero context must parts) ≡ answer.Done → IsTrueAt site (doing (object.Zero context must parts)) me (told (blanked number (Some parts) known_of_it))

@@ -19,7 +19,7 @@ use Rattle.rbd_kinds.specs.declared.map_op.MapOp.TheVariants as states
 use Rattle.rbd_kinds.specs.declared.operation.Op.{Op}
 use Rattle.rbd_kinds.specs.declared.operation.Op.TheVariants as op
 use Rattle.rbd_kinds.specs.declared.sharing.Sharing.TheVariants.{Alone}
-use Rattle.rbd_kinds.specs.Sharing.{is_alone}
+use Rattle.rbd_kinds.specs.Sharing.{go_together}
 use Rattle.rbd_header.specs.Header.{with_size, with_snap, without_snap}
 use Rattle.rbd_machine.specs.Ancestors.{has_seen, seen_by, told_by}
 use Rattle.rbd_machine.specs.Knowledge.{Fence, ImageMaps, ImageObjects, Knowledge, Own, afresh, first_told, header_told, is_at, is_drawn, is_gone, learned, learned_of_directory, learned_of_header, learned_of_listing, learned_of_map, learned_of_object, learned_own, owns_without, looked_behind, looked_by, looked_under_lock, maps_told, only_there, own_of, known_after_wait, removed_header, same_site, unfenced, with_drawn, without_drawn}
@@ -32,19 +32,20 @@ use Rattle.rbd_site.specs.HeaderStep.{header_answer}
 use Rattle.rbd_site.specs.Records.{Records}
 use Rattle.rbd_site.specs.Step.{after, answer_to}
 use Rattle.rbd_stands.proofs.Served.{where_either}
-use Rattle.rbd_interference.specs.Beside.{AreBeside, AreUnfenced, GoBesideOthers, MayAct, SharesLock}
-use Rattle.rbd_interference.specs.Truth.{IsTrueAt, header_of_own, known_header, is_own_alone}
+use Rattle.rbd_interference.specs.Beside.{AreBeside, AreUnfenced, GoTogether, MayAct, SharesLock}
+use Rattle.rbd_interference.specs.Truth.{IsTrueAt, header_of_own, known_header, sharing_of_own, sharing_on}
 use Rattle.rbd_interference.proofs.Fenced.{was_free}
 use Rattle.rbd_interference.proofs.Headers.{own_known}
 use Rattle.rbd_interference.proofs.Learned.{drawn_left, strange_taught, told_there}
 use Rattle.rbd_interference.proofs.MapsLearned.{at_no_other}
-use Rattle.rbd_interference.proofs.Told.{header_changed, told_alone, told_apart, told_here}
+use Rattle.rbd_interference.proofs.Told.{header_changed, told_sharing, told_apart, told_here}
 use Rattle.rbd_interference.proofs.Less.{known_beside, left_own, less_beside, telling_beside, waited_less}
 use Rattle.rbd_interference.proofs.Seen.{same_seen, seen_drawn}
+use Rattle.rbd_interference.proofs.Sharing.{alone_beside_none, together_turned}
 
 module _ (site : SiteId) (r : Records) (me you : Instance) (k j : Knowledge) (beside : AreBeside site r me you k j) where
   pub told_beside : (image : ℕ) (change : Option HeaderView → Option HeaderView)
-      → (AreUnfenced r me you → IsSome (header_changed change (own_of k.owns site image)) → IsSome (known_header j site image) → GoBesideOthers site image k j)
+      → (AreUnfenced r me you → IsSome (header_changed change (own_of k.owns site image)) → IsSome (known_header j site image) → GoTogether site image k j)
       → AreBeside site r me you (header_told site image change k) j
   told_beside image change here = record {
     shared = λ free i mine others. alike i (by free i (i == image) refl mine others);
@@ -59,13 +60,13 @@ module _ (site : SiteId) (r : Records) (me you : Instance) (k j : Knowledge) (be
       told : Knowledge
       told = header_told site image change k
 
-      alike : (i : ℕ) → GoBesideOthers site i k j → GoBesideOthers site i told j
-      alike i both = record { one = told_alone site site image i change k.owns ∙ both.one; other = both.other }
+      alike : (i : ℕ) → GoTogether site i k j → GoTogether site i told j
+      alike i both = ap (λ sharing. go_together sharing (sharing_on j site i)) (told_sharing site site image i change k.owns) ∙ both
 
-      by : AreUnfenced r me you → (i : ℕ) (b : Bool) → (i == image) ≡ b → IsSome (known_header told site i) → IsSome (known_header j site i) → GoBesideOthers site i k j
+      by : AreUnfenced r me you → (i : ℕ) (b : Bool) → (i == image) ≡ b → IsSome (known_header told site i) → IsSome (known_header j site i) → GoTogether site i k j
       by free i true same mine others =
           let at = eqb-true i image same in
-          subst (λ n. GoBesideOthers site n k j) (sym at)
+          subst (λ n. GoTogether site n k j) (sym at)
           (here free (sym (ap is_some (told_here site image change k.owns)) ∙ ap (λ n. is_some (known_header told site n)) (sym at) ∙ mine)
           (ap (λ n. is_some (known_header j site n)) (sym at) ∙ others))
       by free i false other mine others =
@@ -89,7 +90,7 @@ module _ (site : SiteId) (r : Records) (me you : Instance) (k j : Knowledge) (be
 
   drawn_beside : IsTrueAt site r you j → AreBeside site r me you (with_drawn site (r.directory.drawn + 1) k) j
   drawn_beside u = record {
-    shared = λ free i mine others. let both = beside.shared free i mine others in record { one = both.one; other = both.other };
+    shared = beside.shared;
     gone = beside.gone;
     gone_there = λ i gone. unlisted i (is_at site i site (r.directory.drawn + 1)) refl gone;
     removed = beside.removed;
@@ -169,7 +170,7 @@ module _ (site : SiteId) (r : Records) (me you : Instance) (k j : Knowledge) (be
   -- The id of a header that it removed was nobody's that waited, nor gone.
   gone_beside : IsTrueAt site r you j → (image : ℕ) (h : HeaderView) → r.headers image ≡ Some h → AreBeside site r me you (removed_header site image k) j
   gone_beside u image h is = record {
-    shared = λ free i mine others. let both = less.shared free i mine others in record { one = both.one; other = both.other };
+    shared = less.shared;
     gone = λ i gone. undrawn i (is_at site i site image) refl gone (is_drawn j.drawn site i) refl;
     gone_there = less.gone_there;
     removed = λ i gone. remains i (is_at site i site image) refl gone (is_gone j.gone site i) refl;
@@ -214,8 +215,7 @@ looked_beside site r me you k j beside image h may = by (own_of k.owns site imag
     first o at =
         told_beside site r me you (afresh site image k) j
         (known_beside site r me you (afresh site image k) k j (λ i some. refl) (λ i drawn. drawn) (λ i gone. gone) (same_seen site k.seen) beside)
-        image (first_told h) (λ free mine others.
-        let both = may free (ap is_some at) others in record { one = both.one; other = both.other })
+        image (first_told h) (λ free mine others. may free (ap is_some at) others)
 
     again : (o : Own) (own : HeaderView) → o.header ≡ Some own → own_of k.owns site image ≡ Some o → AreBeside site r me you (header_told site image (first_told h) k) j
     again o own had at =
@@ -315,7 +315,9 @@ nobody_knows site r me you k j image free holds may = by (known_header j site im
   where
     by : (there : Option HeaderView) → known_header j site image ≡ there → there ≡ None
     by None is = refl
-    by (Some h) is = absurd (true≢false (sym (ap is_own_alone holds.is) ∙ (may free (ap is_some holds.is) (ap is_some is)).one))
+    by (Some h) is =
+        absurd (alone_beside_none (sharing_on j site image) (sharing_on k site image) (ap sharing_of_own holds.is)
+        (together_turned (sharing_on k site image) (sharing_on j site image) (may free (ap is_some holds.is) (ap is_some is))))
 
 -- Nor does anybody where it is alone on the image itself.
 pub alone_knows : (site : SiteId) (r : Records) (me you : Instance) (k j : Knowledge) (image : ℕ) (condition : HeaderView → Type 0) → AreUnfenced r me you → AreBeside site r me you k j
@@ -325,14 +327,15 @@ alone_knows site r me you k j image condition free beside owns = by (known_heade
     by : (there : Option HeaderView) → known_header j site image ≡ there → there ≡ None
     by None is = refl
     by (Some h) is =
-        absurd (true≢false (sym (ap is_alone owns.meets.0) ∙ sym (ap is_own_alone owns.is)
-        ∙ (beside.shared free image (ap is_some (own_known k site image (λ sharing h. (sharing ≡ Alone) × condition h) owns)) (ap is_some is)).one))
+        absurd (alone_beside_none (sharing_on j site image) (sharing_on k site image) (ap sharing_of_own owns.is ∙ owns.meets.0)
+        (together_turned (sharing_on k site image) (sharing_on j site image)
+        (beside.shared free image (ap is_some (own_known k site image (λ sharing h. (sharing ≡ Alone) × condition h) owns)) (ap is_some is))))
 
 -- ---- each beside the other
 
 pub beside_mutual : (t : SiteId) (r : Records) (me you : Instance) (k j : Knowledge) → AreBeside t r me you k j → AreBeside t r you me j k
 beside_mutual t r me you k j beside = record {
-  shared = λ free image mine others. let both = beside.shared (free.1, free.0) image others mine in record { one = both.other; other = both.one };
+  shared = λ free image mine others. together_turned (sharing_on k t image) (sharing_on j t image) (beside.shared (free.1, free.0) image others mine);
   gone = beside.gone_there;
   gone_there = beside.gone;
   removed = λ image gone. unremoved image gone (is_gone k.gone t image) refl;

@@ -4,7 +4,7 @@ use Rattle.std.specs.Prelude.{IsSome}
 use Rattle.rbd_kinds.specs.declared.header.HeaderView.{HeaderView}
 use Rattle.rbd_kinds.specs.declared.id.SiteId.{SiteId}
 use Rattle.rbd_machine.specs.Knowledge.{Own, is_at, own_of, told_of, with_header}
-use Rattle.rbd_interference.specs.Truth.{header_of_own, is_own_alone}
+use Rattle.rbd_interference.specs.Truth.{header_of_own, sharing_of_own}
 use Rattle.rbd_interference.proofs.Less.{place_of}
 
 abbrev pub header_changed : (Option HeaderView → Option HeaderView) → Option Own → Option HeaderView
@@ -41,27 +41,27 @@ told_apart site there image place change differ (o ∷ owns) = by (is_at site im
         ap (λ b. own_of (cond b (with_header change o) o ∷ rest) there place) elsewhere
         ∙ ap (λ found. cond (is_at there place o.site o.image) (Some o) found) more
 
--- and it is alone where it was
-pub told_alone : (site there : SiteId) (image place : ℕ) (change : Option HeaderView → Option HeaderView) (owns : List Own)
-    → is_own_alone (own_of (map (told_of site image change) owns) there place) ≡ is_own_alone (own_of owns there place)
-told_alone site there image place change [] = refl
-told_alone site there image place change (o ∷ owns) = by (is_at site image o.site o.image) (told_alone site there image place change owns)
+-- and it goes beside those beside whom it went
+pub told_sharing : (site there : SiteId) (image place : ℕ) (change : Option HeaderView → Option HeaderView) (owns : List Own)
+    → sharing_of_own (own_of (map (told_of site image change) owns) there place) ≡ sharing_of_own (own_of owns there place)
+told_sharing site there image place change [] = refl
+told_sharing site there image place change (o ∷ owns) = by (is_at site image o.site o.image) (told_sharing site there image place change owns)
   where
     rest : List Own
     rest = map (told_of site image change) owns
 
-    same : (t : Bool) → is_own_alone (own_of rest there place) ≡ is_own_alone (own_of owns there place)
-        → is_own_alone (cond t (Some (record o { header = change o.header })) (own_of rest there place)) ≡ is_own_alone (cond t (Some o) (own_of owns there place))
+    same : (t : Bool) → sharing_of_own (own_of rest there place) ≡ sharing_of_own (own_of owns there place)
+        → sharing_of_own (cond t (Some (record o { header = change o.header })) (own_of rest there place)) ≡ sharing_of_own (cond t (Some o) (own_of owns there place))
     same true e = refl
     same false e = e
 
-    kept : (t : Bool) → is_own_alone (own_of rest there place) ≡ is_own_alone (own_of owns there place)
-        → is_own_alone (cond t (Some o) (own_of rest there place)) ≡ is_own_alone (cond t (Some o) (own_of owns there place))
+    kept : (t : Bool) → sharing_of_own (own_of rest there place) ≡ sharing_of_own (own_of owns there place)
+        → sharing_of_own (cond t (Some o) (own_of rest there place)) ≡ sharing_of_own (cond t (Some o) (own_of owns there place))
     kept true e = refl
     kept false e = e
 
-    by : (b : Bool) → is_own_alone (own_of rest there place) ≡ is_own_alone (own_of owns there place)
-        → is_own_alone (own_of (cond b (record o { header = change o.header }) o ∷ rest) there place) ≡ is_own_alone (own_of (o ∷ owns) there place)
+    by : (b : Bool) → sharing_of_own (own_of rest there place) ≡ sharing_of_own (own_of owns there place)
+        → sharing_of_own (own_of (cond b (record o { header = change o.header }) o ∷ rest) there place) ≡ sharing_of_own (own_of (o ∷ owns) there place)
     by true e = same (is_at there place o.site o.image) e
     by false e = kept (is_at there place o.site o.image) e
 

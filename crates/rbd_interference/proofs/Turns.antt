@@ -32,7 +32,7 @@ use Rattle.rbd_interference.proofs.Less.{IsLess, knew_of, left_own, nothing_afre
 use Rattle.rbd_interference.proofs.Objects.{absent_left}
 use Rattle.rbd_interference.proofs.ObjectsLearned.{objects_told}
 use Rattle.rbd_interference.proofs.States.{IsMarked, IsNew, WasThere, was_marked}
-use Rattle.rbd_interference.proofs.Told.{header_changed, told_alone, told_knew}
+use Rattle.rbd_interference.proofs.Told.{header_changed, told_knew, told_sharing}
 
 -- ---- no more is known, in the same turn
 
@@ -45,7 +45,7 @@ less_in_turn new old less turn was site image some shared object knows =
 told_in_turn : (k : Knowledge) (site : SiteId) (image : ℕ) (change : Option HeaderView → Option HeaderView)
     → (IsSome (header_changed change (own_of k.owns site image)) → IsSome (header_of_own (own_of k.owns site image))) → KnowsInTurn k → KnowsInTurn (header_told site image change k)
 told_in_turn k site image change knew was there place some shared object knows =
-    was there place (told_knew site there image place change k.owns knew some) (sym (told_alone site there image place change k.owns) ∙ shared) object knows
+    was there place (told_knew site there image place change k.owns knew some) (sym (ap is_alone (told_sharing site there image place change k.owns)) ∙ shared) object knows
 
 edited_in_turn : (k : Knowledge) (site : SiteId) (image : ℕ) (edit : HeaderView → HeaderView) → KnowsInTurn k → KnowsInTurn (header_told site image (option_map edit) k)
 edited_in_turn k site image edit = told_in_turn k site image (option_map edit) (by (own_of k.owns site image))

@@ -1,5 +1,6 @@
 -- What two requests of two instances may know at the same time.
 use Rattle.std.specs.Prelude.{◌≡◌, ℕ, true, false, None, IsSome, IsFalse}
+use Rattle.rbd_kinds.specs.Sharing.{go_together}
 use Rattle.rbd_kinds.specs.declared.data_op.DataOp.TheVariants as object
 use Rattle.rbd_kinds.specs.declared.id.Instance.{Instance}
 use Rattle.rbd_kinds.specs.declared.id.SiteId.{SiteId}
@@ -9,27 +10,28 @@ use Rattle.rbd_kinds.specs.declared.operation.Op.{Op}
 use Rattle.rbd_kinds.specs.declared.operation.Op.TheVariants as op
 use Rattle.rbd_machine.specs.Knowledge.{Knowledge, own_of, is_drawn, is_gone}
 use Rattle.rbd_interference.specs.Ancestors.{DrewNoneOf}
-use Rattle.rbd_interference.specs.Truth.{is_alone_on, known_header}
+use Rattle.rbd_interference.specs.Truth.{known_header, sharing_on}
 use Rattle.rbd_interference.specs.Turns.{KnowsOf}
 use Rattle.rbd_site.specs.Records.{Records}
 use Rattle.rbd_site.specs.Step.{is_fenced}
 use Rattle.rbd_stands.specs.Owned.{HasLock}
 
-pub record GoBesideOthers (site : SiteId) (image : ℕ) (k j : Knowledge) : Type 0 where
-  pub one : is_alone_on k site image ≡ false
-  pub other : is_alone_on j site image ≡ false
+-- the two requests may be past their looks under the lock of an image at once
+abbrev pub GoTogether : SiteId → (image : ℕ) → (k j : Knowledge) → Type 0
+GoTogether site image k j = go_together (sharing_on k site image) (sharing_on j site image) ≡ true
 
 -- neither instance is fenced
 abbrev pub AreUnfenced : Records → (me you : Instance) → Type 0
 AreUnfenced r me you = IsFalse (is_fenced r me) × IsFalse (is_fenced r you)
 
--- Where both requests know the header of an image, after their looks under the lock, neither is
--- alone on it. What a fenced instance knows of headers doesn't count: it does nothing by them. No
--- id was drawn by both; none was drawn by one whose header the other removed, or was told; and no
--- header was removed by both.
+-- Where both requests know the header of an image, after their looks under the lock, they go
+-- together on it: neither is alone, and neither is a flatten where the other is one or a discard.
+-- What a fenced instance knows of headers doesn't count: it does nothing by them. No id was drawn by
+-- both; none was drawn by one whose header the other removed, or was told; and no header was removed
+-- by both.
 pub record AreBeside (site : SiteId) (r : Records) (me you : Instance) (k j : Knowledge) : Type 0 where
   pub shared : AreUnfenced r me you → (image : ℕ) → IsSome (known_header k site image)
-      → IsSome (known_header j site image) → GoBesideOthers site image k j
+      → IsSome (known_header j site image) → GoTogether site image k j
   pub apart : (image : ℕ) → is_drawn k.drawn site image ≡ true → is_drawn j.drawn site image ≡ false
   pub gone : (image : ℕ) → is_gone k.gone site image ≡ true → is_drawn j.drawn site image ≡ false
   pub gone_there : (image : ℕ) → is_gone j.gone site image ≡ true → is_drawn k.drawn site image ≡ false
@@ -37,11 +39,11 @@ pub record AreBeside (site : SiteId) (r : Records) (me you : Instance) (k j : Kn
   pub unseen : DrewNoneOf site k.seen j
   pub unseen_there : DrewNoneOf site j.seen k
 
--- Where one request waited for the lock of an image, and the other knows its header, neither is
--- alone.
+-- Where one request waited for the lock of an image, and the other knows its header, they go
+-- together.
 abbrev pub SharesLock : SiteId → (image : ℕ) → Records → (me you : Instance) → (k j : Knowledge) → Type 0
 SharesLock site image r me you k j = AreUnfenced r me you → IsSome (own_of k.owns site image)
-    → IsSome (known_header j site image) → GoBesideOthers site image k j
+    → IsSome (known_header j site image) → GoTogether site image k j
 
 -- Where both know the header of an image, the other one knows nothing of an object.
 abbrev pub LeavesObject : SiteId → (image object : ℕ) → Records → (me you : Instance) → (k j : Knowledge) → Type 0
@@ -49,8 +51,8 @@ LeavesObject site image object r me you k j = AreUnfenced r me you → IsSome (k
     → IsSome (known_header j site image) → KnowsOf j site image object → ⊥
 
 -- What one request may do beside another. It may look at the header of an image whose lock it
--- waited for only where the other knows no header there, or neither of the two is alone. So it is
--- with the drop of a lock that is its own: nobody of its client may rely on a header meanwhile. It
+-- waited for only where the other knows no header there, or the two go together. So it is with the
+-- drop of a lock that is its own: nobody of its client may rely on a header meanwhile. It
 -- may change an object, or its state, only where the other knows nothing of that object: it has its
 -- turn there, which the other had before or waits for. The line of a session and the lock see to
 -- all of that.

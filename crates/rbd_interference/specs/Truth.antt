@@ -36,13 +36,6 @@ header_of_own (Some o) = o.header
 abbrev pub known_header : Knowledge → SiteId → (image : ℕ) → Option HeaderView
 known_header k site image = header_of_own (own_of k.owns site image)
 
--- The image still has the header that is known, but for the owner of its lock, which may have
--- changed.
-abbrev pub IsStill : (known there : Option HeaderView) → Type 0
-IsStill None there = Unit {0}
-IsStill (Some known) None = ⊥
-IsStill (Some known) (Some there) = there ≡ record known { owner = there.owner }
-
 -- beside which others the request goes on an image; where it waited for no lock, beside all that
 -- aren't alone
 abbrev pub sharing_of_own : Option Own → Sharing
@@ -51,6 +44,23 @@ sharing_of_own (Some o) = o.sharing
 
 abbrev pub sharing_on : Knowledge → SiteId → (image : ℕ) → Sharing
 sharing_on k site image = sharing_of_own (own_of k.owns site image)
+
+-- The header that is there is the one that is known, but for the owner of its lock, which may have
+-- changed. Of an image on which a request goes beside all that aren't alone, so beside a flatten too,
+-- the parent may have gone, and with it the generation changed.
+pub record IsStillAs (sharing : Sharing) (known there : HeaderView) : Type 0 where
+  pub same : there ≡ record known { owner = there.owner; generation = there.generation; parent = there.parent }
+  pub parent : (there.parent ≡ known.parent) ⊎ (there.parent ≡ None)
+  pub exact : sharing ≢ Shared → there ≡ record known { owner = there.owner }
+
+abbrev pub IsStill : Sharing → (known there : Option HeaderView) → Type 0
+IsStill sharing None there = Unit {0}
+IsStill sharing (Some known) None = ⊥
+IsStill sharing (Some known) (Some there) = IsStillAs sharing known there
+
+-- the same of an image whose lock a request waited for, or not
+abbrev pub IsStillOwn : Option Own → (there : Option HeaderView) → Type 0
+IsStillOwn own there = IsStill (sharing_of_own own) (header_of_own own) there
 
 -- whether it goes beside none
 abbrev pub is_own_alone : Option Own → Bool
@@ -153,7 +163,7 @@ KnowsNoHeader k site image = (is_drawn k.drawn site image ≡ true) ⊎ (is_gone
 -- them any more. No id whose header the request removed waits for one. Each header that it was told,
 -- of whatever image, was the image's, and none of the ids that it drew is such an image's.
 pub record IsTrueAt (site : SiteId) (r : Records) (me : Instance) (k : Knowledge) : Type 0 where
-  pub owned : IsFalse (is_fenced r me) → (image : ℕ) → IsStill (known_header k site image) (r.headers image)
+  pub owned : IsFalse (is_fenced r me) → (image : ℕ) → IsStillOwn (own_of k.owns site image) (r.headers image)
   pub drawn : (image : ℕ) → is_drawn k.drawn site image ≡ true → IsWaiting r image
   pub fenced : (i : Instance) → is_fenced_by k.fenced site i ≡ true → is_fenced r i ≡ true
   pub mapped : IsFalse (is_fenced r me) → (image : ℕ) → IsSome (known_header k site image)

@@ -21,6 +21,7 @@
 //! | what a request knows | when it is true |
 //! |---|---|
 //! | a header, with its own changes since | the image has it, but for the lock's owner |
+//! | such a header, where a flatten may go beside | its parent may have gone too |
 //! | an id that it drew | it waits for its header: no object of it was changed |
 //! | an image whose header it removed | it has none, and its id isn't drawn again |
 //! | an instance that it fenced | it is in the site's blocklist |
@@ -38,11 +39,11 @@
 //! - Knowledge is an instance's. What a fenced instance knew of headers says nothing any more: its
 //!   lock may be broken, and another instance may change the image. It does nothing by them, since
 //!   each of its operations is refused. The ids that it drew still wait.
-//! - Two requests are *beside* each other where neither is alone on an image whose header both
-//!   know, unless the instance of one is fenced. No id was drawn by both, or by one and its header
-//!   removed by the other, and no header was removed by both. Nor did one draw the id of an image
-//!   whose header the other was told. The line of an image sees to the first within a session
-//!   (`rbd_queue`), and the lock between clients.
+//! - Two requests are *beside* each other where they go together on an image whose header both
+//!   know (`go_together` of `rbd_kinds`: neither is alone, say), unless the instance of one is
+//!   fenced. No id was drawn by both, or by one and its header removed by the other, and no header
+//!   was removed by both. Nor did one draw the id of an image whose header the other was told. The
+//!   line of an image sees to the first within a session (`rbd_queue`), and the lock between clients.
 //! - Only where it is so may a request look at its image's header the first time under the lock, or
 //!   give the lock up. It may change an object, or its state in the head's map, only where the
 //!   other knows nothing of that object. This is what one may do beside another (`MayAct`). All

@@ -5,7 +5,7 @@ use Rattle.std.specs.List.{filter}
 use Rattle.std.specs.Option.{option_map}
 use Rattle.std.proofs.lemmas.Bool.{true≢false, or_parts}
 use Rattle.std.proofs.lemmas.Option.{none-some}
-use Rattle.rbd_kinds.specs.Sharing.{is_alone}
+use Rattle.rbd_kinds.specs.Sharing.{go_together, is_alone}
 use Rattle.rbd_machine.specs.Course.{is_waiting, has_just_joined}
 use Rattle.rbd_machine.specs.declared.stage.Stage.{Stage}
 use Rattle.rbd_machine.specs.declared.stage.Stage.TheVariants as stage
@@ -22,14 +22,14 @@ use Rattle.rbd_kinds.specs.declared.operation.Op.TheVariants as op
 use Rattle.rbd_kinds.specs.declared.sharing.Sharing.{Sharing}
 use Rattle.rbd_queue.specs.Line.{Member, changed_member, has_turn, holds_ticket, is_past, may_pass, member_of, passed, slots, IsFairLine}
 use Rattle.rbd_queue.proofs.Fair.{passed_fair}
-use Rattle.rbd_queue.proofs.Passing.{alone_past, found_at, own_changed, others_changed, passed_is_steady}
+use Rattle.rbd_queue.proofs.Passing.{apart_past, found_at, own_changed, others_changed, passed_is_steady}
 use Rattle.rbd_machine.specs.Knowledge.{Knowledge, Own, own_of}
 use Rattle.rbd_machine.specs.Lawful.{IsLawful}
 use Rattle.rbd_machine.specs.Permits.{HasTurn, OwnsBy, Permits, PermitsOnObject}
 use Rattle.rbd_machine.specs.Plan.{Ask, Plan, Standing}
 use Rattle.rbd_machine.specs.declared.reason.Reason.{Reason}
 use Rattle.rbd_interference.specs.Beside.{LeavesObject, MayAct, SharesLock}
-use Rattle.rbd_interference.specs.Truth.{header_of_own, is_alone_on, is_own_alone, known_header}
+use Rattle.rbd_interference.specs.Truth.{header_of_own, is_alone_on, is_own_alone, known_header, sharing_of_own}
 use Rattle.rbd_slots.specs.declared.running.Running.{Running}
 use Rattle.rbd_slots.specs.Advance.{track_of}
 use Rattle.rbd_slots.specs.Lines.{lines_of}
@@ -43,6 +43,7 @@ use Rattle.rbd_knowledge.proofs.Behind.{knows_there}
 use Rattle.rbd_knowledge.proofs.Firsts.{one_first}
 use Rattle.rbd_knowledge.proofs.There.{IsMemberFor, may_of, owner_there}
 use Rattle.rbd_knowledge.proofs.Turning.{turn_of_goes}
+use Rattle.rbd_queue.proofs.Together.{shared_both}
 
 -- it changes the object, or may
 abbrev changes_object : DataOp → Bool
@@ -51,34 +52,36 @@ changes_object o = true
 
 -- ---- in one line
 
--- two that are past are both shared
+-- two that are past go together
 both_past : (line : List Member) (one other : Member) → IsFairLine line → member_of one.slot line ≡ Some one → member_of other.slot line ≡ Some other → one.slot ≢ other.slot
-    → is_past one.stage ≡ true → is_past other.stage ≡ true → is_alone one.sharing ≡ false
-both_past line one other fair here there differ past behind = by (is_alone one.sharing) refl
+    → is_past one.stage ≡ true → is_past other.stage ≡ true → go_together one.sharing other.sharing ≡ true
+both_past line one other fair here there differ past behind = by (go_together one.sharing other.sharing) refl
   where
-    by : (b : Bool) → is_alone one.sharing ≡ b → b ≡ false
-    by false is = refl
-    by true is = absurd (true≢false (sym behind ∙ alone_past line one other fair here there differ is past))
+    by : (b : Bool) → go_together one.sharing other.sharing ≡ b → b ≡ true
+    by true is = refl
+    by false is = absurd (true≢false (sym behind ∙ apart_past line one other fair here there differ is past))
 
 apart_slots : (line : List Member) (slot other : ℕ) (m n : Member) → slot ≢ other → member_of slot line ≡ Some m → member_of other line ≡ Some n → m.slot ≢ n.slot
 apart_slots line slot other m n differ here there same = differ (sym (found_at line slot m here) ∙ same ∙ found_at line other n there)
 
-both_shared : (line : List Member) (slot other : ℕ) (m n : Member) → IsFairLine line → slot ≢ other → member_of slot line ≡ Some m → member_of other line ≡ Some n
-    → is_past m.stage ≡ true → is_past n.stage ≡ true → (is_alone m.sharing ≡ false) × (is_alone n.sharing ≡ false)
-both_shared line slot other m n fair differ here there past behind =
-    let apart = apart_slots line slot other m n differ here there in (
-      both_past line m n fair (at_own_slot slot line m here) (at_own_slot other line n there) apart past behind,
-      both_past line n m fair (at_own_slot other line n there) (at_own_slot slot line m here) (λ same. apart (sym same)) behind past,
-    )
+both_together : (line : List Member) (slot other : ℕ) (m n : Member) → IsFairLine line → slot ≢ other → member_of slot line ≡ Some m → member_of other line ≡ Some n
+    → is_past m.stage ≡ true → is_past n.stage ≡ true → go_together m.sharing n.sharing ≡ true
+both_together line slot other m n fair differ here there past behind =
+    both_past line m n fair (at_own_slot slot line m here) (at_own_slot other line n there) (apart_slots line slot other m n differ here there) past behind
 
 -- one that may pass is as one that is past
-pub may_shared : (line : List Member) (slot other : ℕ) (m n : Member) → IsFairLine line → slot ≢ other → member_of slot line ≡ Some m → member_of other line ≡ Some n
-    → may_pass slot line ≡ true → is_past n.stage ≡ true → (is_alone m.sharing ≡ false) × (is_alone n.sharing ≡ false)
-may_shared line slot other m n fair differ here there may behind =
-    both_shared (changed_member slot passed line) slot other (passed m) n (passed_fair slot line fair may) differ
+may_together : (line : List Member) (slot other : ℕ) (m n : Member) → IsFairLine line → slot ≢ other → member_of slot line ≡ Some m → member_of other line ≡ Some n
+    → may_pass slot line ≡ true → is_past n.stage ≡ true → go_together m.sharing n.sharing ≡ true
+may_together line slot other m n fair differ here there may behind =
+    both_together (changed_member slot passed line) slot other (passed m) n (passed_fair slot line fair may) differ
     (own_changed line slot passed passed_is_steady ∙ ap (option_map passed) here)
     (others_changed line slot other passed passed_is_steady (λ same. differ (sym same)) ∙ there)
     refl behind
+
+-- so neither is alone
+pub may_shared : (line : List Member) (slot other : ℕ) (m n : Member) → IsFairLine line → slot ≢ other → member_of slot line ≡ Some m → member_of other line ≡ Some n
+    → may_pass slot line ≡ true → is_past n.stage ≡ true → (is_alone m.sharing ≡ false) × (is_alone n.sharing ≡ false)
+may_shared line slot other m n fair differ here there may behind = shared_both m.sharing n.sharing (may_together line slot other m n fair differ here there may behind)
 
 -- ---- who doesn't wait
 
@@ -92,13 +95,14 @@ module _ (slot other : ℕ) (site : SiteId) (image : ℕ) (o p : Own) (t u : Tra
       sym (ap (may_pass slot) one.line)
       ∙ may_of (awaits_look (course_of slot t).place) (may_pass slot (line_in t.place t.lines)) (ap awaits_look one.place ∙ waiting) (or_parts (awaits_line slot t) (awaits_turn slot t) goes).0
 
-  are_shared : is_past two.member.stage ≡ true → (is_alone o.sharing ≡ false) × (is_alone p.sharing ≡ false)
-  are_shared past = let shared = by one.member.stage refl in (ap is_alone one.sharing ∙ shared.0, ap is_alone two.sharing ∙ shared.1)
+  are_together : is_past two.member.stage ≡ true → go_together o.sharing p.sharing ≡ true
+  are_together past =
+      ap (λ sharing. go_together sharing p.sharing) one.sharing ∙ ap (λ sharing. go_together one.member.sharing sharing) two.sharing ∙ by one.member.stage refl
     where
-      by : (s : Stage) → one.member.stage ≡ s → (is_alone one.member.sharing ≡ false) × (is_alone two.member.sharing ≡ false)
+      by : (s : Stage) → one.member.stage ≡ s → go_together one.member.sharing two.member.sharing ≡ true
       by stage.Joined is = absurd (true≢false (sym (ap has_just_joined is) ∙ one.waits))
-      by stage.Waiting is = may_shared (t.lines site image) slot other one.member two.member fair differ one.found there (may (ap is_waiting is)) past
-      by stage.Past is = both_shared (t.lines site image) slot other one.member two.member fair differ one.found there (ap is_past is) past
+      by stage.Waiting is = may_together (t.lines site image) slot other one.member two.member fair differ one.found there (may (ap is_waiting is)) past
+      by stage.Past is = both_together (t.lines site image) slot other one.member two.member fair differ one.found there (ap is_past is) past
 
 -- ---- looks
 
@@ -118,22 +122,20 @@ module _ {R : Type 0} (stands : R → Standing) (s : SessionView R) (knows : ℕ
       by (Some r) runs known = (r, runs)
 
   module _ (slot other : ℕ) (differ : slot ≢ other) (r : Running R) (runs : running_at slot s ≡ Some r) (goes : waits slot (track_of r s.lines) ≡ false) (site : SiteId) (image : ℕ) where
-    owners_shared : (o p : Own) → own_of (knows slot).owns site image ≡ Some o → own_of (knows other).owns site image ≡ Some p → IsSome p.header → (is_alone o.sharing ≡ false) × (is_alone p.sharing ≡ false)
-    owners_shared o p mine others told =
+    owners_together : (o p : Own) → own_of (knows slot).owns site image ≡ Some o → own_of (knows other).owns site image ≡ Some p → IsSome p.header → go_together o.sharing p.sharing ≡ true
+    owners_together o p mine others told =
         let (q, others_run) = runs_who_owns other site image p others in
         let two = owner_runs other q others_run site image p others in
-        are_shared slot other site image o p (track_of r s.lines) (track_of q s.lines) differ refl (sound.fair site image) goes (owner_runs slot r runs site image o mine) two (two.past told)
+        are_together slot other site image o p (track_of r s.lines) (track_of q s.lines) differ refl (sound.fair site image) goes (owner_runs slot r runs site image o mine) two (two.past told)
 
-    header_shared : (mine others : Option Own) → own_of (knows slot).owns site image ≡ mine → own_of (knows other).owns site image ≡ others → IsSome mine → IsSome (header_of_own others)
-        → (is_own_alone mine ≡ false) × (is_own_alone others ≡ false)
-    header_shared None others is that some told = absurd (true≢false (sym some))
-    header_shared (Some o) None is that some told = absurd (true≢false (sym told))
-    header_shared (Some o) (Some p) is that some told = owners_shared o p is that told
+    header_together : (mine others : Option Own) → own_of (knows slot).owns site image ≡ mine → own_of (knows other).owns site image ≡ others → IsSome mine → IsSome (header_of_own others)
+        → go_together (sharing_of_own mine) (sharing_of_own others) ≡ true
+    header_together None others is that some told = absurd (true≢false (sym some))
+    header_together (Some o) None is that some told = absurd (true≢false (sym told))
+    header_together (Some o) (Some p) is that some told = owners_together o p is that told
 
     lock_shared : (records : Records) (me you : Instance) → SharesLock site image records me you (knows slot) (knows other)
-    lock_shared records me you free some told =
-        let shared = header_shared (own_of (knows slot).owns site image) (own_of (knows other).owns site image) refl refl some told in
-        record { one = shared.0; other = shared.1 }
+    lock_shared records me you free some told = header_together (own_of (knows slot).owns site image) (own_of (knows other).owns site image) refl refl some told
 
   -- ---- changes of an object
 
@@ -148,7 +150,7 @@ module _ {R : Type 0} (stands : R → Standing) (s : SessionView R) (knows : ℕ
         by (Some o) is None that mine others = true≢false (sym others)
         by (Some o) is (Some p) that told_one told_two =
             let (q, others_run) = runs_who_owns other site image p that in
-            let shared = owners_shared slot other differ r runs goes site image o p is that told_two in
+            let shared = shared_both o.sharing p.sharing (owners_together slot other differ r runs goes site image o p is that told_two) in
             let one = owner_runs slot r runs site image o is in
             let turn = at_turn (ap (λ x. is_some (header_of_own x)) is ∙ told_one) (ap is_own_alone is ∙ shared.0) in
             let mine_knows = knows_there stands s knows slot r runs all in

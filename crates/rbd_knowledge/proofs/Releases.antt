@@ -14,7 +14,7 @@ use Rattle.rbd_lock.specs.declared.release.Stage.{Stage as ReleaseStage}
 use Rattle.rbd_lock.specs.declared.release.Stage.TheVariants as releasing
 use Rattle.rbd_lock.specs.Release.{release_op, release_op_at}
 use Rattle.rbd_interference.specs.Beside.{AreBeside}
-use Rattle.rbd_interference.specs.Truth.{IsStill, IsTrueAt, KnowsNoHeader, header_of_own, known_header}
+use Rattle.rbd_interference.specs.Truth.{IsStill, IsTrueAt, KnowsNoHeader, header_of_own, known_header, sharing_on}
 use Rattle.rbd_interference.proofs.Nothing.{nothing_is_true}
 use Rattle.rbd_site.specs.Records.{Records}
 
@@ -52,7 +52,7 @@ saw_nothing releasing.Dropping site image there other = refl
 true_at : (there : SiteId) (r : Records) (me : Instance) (s : ReleaseStage) (site : SiteId) (image : ℕ) → IsTrueAt there r me (known_to_drop s site image)
 true_at there r me releasing.Telling site image = nothing_is_true there r me
 true_at there r me releasing.Dropping site image = record {
-  owned = λ free other. subst (λ known. IsStill known (r.headers other)) (sym (no_header releasing.Dropping site image there other)) tt;
+  owned = λ free other. subst (λ known. IsStill (sharing_on (known_to_drop releasing.Dropping site image) there other) known (r.headers other)) (sym (no_header releasing.Dropping site image there other)) tt;
   drawn = λ other drawn. absurd (true≢false (sym drawn));
   fenced = λ i known. absurd (true≢false (sym known));
   mapped = λ free other known. absurd (true≢false (sym known ∙ ap is_some (no_header releasing.Dropping site image there other)));

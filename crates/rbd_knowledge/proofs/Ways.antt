@@ -27,7 +27,7 @@ use Rattle.rbd_lock.specs.declared.acquire.Acquire.{Acquire}
 use Rattle.rbd_lock.specs.declared.acquire.Stage.{Stage}
 use Rattle.rbd_lock.specs.declared.acquire.Stage.TheVariants as stage
 use Rattle.rbd_interference.specs.Beside.{AreBeside, MayAct}
-use Rattle.rbd_interference.specs.Truth.{IsStill, IsTrueAt, KnowsNoHeader, header_of_own, known_header}
+use Rattle.rbd_interference.specs.Truth.{IsStillOwn, IsTrueAt, KnowsNoHeader, header_of_own, known_header}
 use Rattle.rbd_site.specs.Records.{Records}
 use Rattle.rbd_site.specs.Step.{after, answer_to, is_fenced}
 use Rattle.rbd_site.proofs.FenceLemmas.{fence_stays, lists_it}
@@ -102,7 +102,7 @@ beside_way there r me you k a = record {
 pub fences_are_true : (there : SiteId) (r : Records) (me : Instance) (s : Stage) (site : SiteId)
     → ((i : Instance) → is_fenced_by (known_at_stage s site).fenced there i ≡ true → is_fenced r i ≡ true) → IsTrueAt there r me (known_at_stage s site)
 fences_are_true there r me s site fences = record {
-  owned = λ free image. subst (λ o. IsStill (header_of_own o) (r.headers image)) (sym (owns_nothing s site there image)) tt;
+  owned = λ free image. subst (λ own. IsStillOwn own (r.headers image)) (sym (owns_nothing s site there image)) tt;
   drawn = λ image drawn. absurd (true≢false (sym drawn ∙ drew_nothing s site there image));
   fenced = fences;
   mapped = λ free image known. absurd (true≢false (sym known ∙ ap (λ o. is_some (header_of_own o)) (owns_nothing s site there image)));

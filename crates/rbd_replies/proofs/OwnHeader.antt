@@ -18,7 +18,7 @@ use Rattle.rbd_machine.specs.Plan.{Plan, Ask, Goto, Standing, without_labels}
 use Rattle.rbd_machine.specs.Steps.{change_plan}
 use Rattle.rbd_machine.specs.declared.seat.Seat.{Seat}
 use Rattle.rbd_interference.proofs.Headers.{IsThere, find_there}
-use Rattle.rbd_interference.specs.Truth.{known_header}
+use Rattle.rbd_interference.specs.Truth.{known_header, sharing_on}
 use Rattle.rbd_catalog.specs.Plans.{plan_of, planned, IsPlanFor}
 use Rattle.rbd_site.specs.Step.{is_fenced}
 use Rattle.rbd_stands.proofs.Served.{is_served}
@@ -148,13 +148,13 @@ module _ (homes : ℕ → SiteId) (home : SiteId) (line : ℕ) (run : List Happe
 
   -- ---- the header there
 
-  like_there : (h : HeaderView) (there : Option HeaderView) → IsThere h there → IsLike h there
-  like_there h there is = record {
+  like_there : (sharing : Sharing) (h : HeaderView) (there : Option HeaderView) → IsThere sharing h there → IsLike h there
+  like_there sharing h there is = record {
     view = is.view;
     is = is.is;
-    layout = ap (λ (x : HeaderView). x.layout) is.same;
-    size = ap (λ (x : HeaderView). x.size) is.same;
-    snaps = ap (λ (x : HeaderView). x.snaps) is.same;
+    layout = ap (λ (x : HeaderView). x.layout) is.still.same;
+    size = ap (λ (x : HeaderView). x.size) is.still.same;
+    snaps = ap (λ (x : HeaderView). x.snaps) is.still.same;
   }
 
   like_at : (p : Placed) → IsPlacedRight homes p → p.done.site ≡ home → is_served p.done.answer ≡ true → IsBehind run p → is_own line p.done.by ≡ true
@@ -164,8 +164,8 @@ module _ (homes : ℕ → SiteId) (home : SiteId) (line : ℕ) (run : List Happe
       let k = right.is.knows in
       let recalls = own_line line p.done.by p.done.site p.done.op k p.before mine right.is.recalls in
       let known : known_header k home image ≡ Some h = knows_at p.done.site p.done.op k p.before (goes_on run p behind) steps recalls are ∙ told in
-      like_there h ((records_at p).headers image)
-      (find_there (known_header k p.done.site image) ((records_at p).headers image) h (ap (λ s. known_header k s image) here ∙ known) (right.is.truth.owned free image))
+      like_there (sharing_on k p.done.site image) h ((records_at p).headers image)
+      (find_there (sharing_on k p.done.site image) (known_header k p.done.site image) ((records_at p).headers image) h (ap (λ s. known_header k s image) here ∙ known) (right.is.truth.owned free image))
 
   pub all_like : (rest : List Placed) (steps : List Answered) (h : HeaderView) → sized image steps (Some own) ≡ Some h → AreInLine line (way steps) rest → ArePlacedRight homes rest
       → AreDoneAt home rest → AreIn run rest → ArePlainBut image (map step_at rest) → AllLike image h rest

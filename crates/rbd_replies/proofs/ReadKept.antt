@@ -14,7 +14,6 @@ use Rattle.rbd_kinds.specs.declared.operation.Op.TheVariants as op
 use Rattle.rbd_kinds.proofs.Images.{same_site_is}
 use Rattle.rbd_machine.specs.Knowledge.{Knowledge, is_drawn, same_site}
 use Rattle.rbd_machine.specs.Permits.{Permits, PermitsOnHeader}
-use Rattle.rbd_interference.proofs.Headers.{IsThere}
 use Rattle.rbd_site.specs.HeaderStep.{header_after}
 use Rattle.rbd_site.specs.Laws.{is_on_lock}
 use Rattle.rbd_site.specs.Log.{expired, trimmed}
@@ -169,6 +168,12 @@ kept_further old there then first more =
           more.same next ∙ ap (λ (h : HeaderView). record h { owner = more.view.owner }) (first.same here);
     }
 
+-- the header that was there, but for its owner
+pub record IsSameThere (old : HeaderView) (there : Option HeaderView) : Type 0 where
+  pub view : HeaderView
+  pub is : there ≡ Some view
+  pub same : view ≡ record old { owner = view.owner }
+
 module _ (homes : ℕ → SiteId) (s : SiteId) (image : ℕ) where
   there_behind : (h : Happening) (run : List Happening) → IsDue homes h run → (old : HeaderView) → (records_after s run).headers image ≡ Some old
       → IsKeptOrGone old ((records_behind s (records_after s run) h).headers image)
@@ -268,13 +273,13 @@ module _ (homes : ℕ → SiteId) (s : SiteId) (image : ℕ) where
   -- between two moments at which it has one generation it is one header, but for its owner
   pub header_between : (last middle first : List Happening) → GoesOn last middle → GoesOn middle first → IsRight homes last → IsRight homes middle → (old new : HeaderView)
       → (records_after s first).headers image ≡ Some old → (records_after s last).headers image ≡ Some new → new.generation ≡ old.generation
-      → IsThere old ((records_after s middle).headers image)
+      → IsSameThere old ((records_after s middle).headers image)
   header_between last middle first onward since right_last right_middle old new was is generation = by (header_kept middle first since right_middle old was)
     where
       gone : (records_after s last).headers image ≡ None → ⊥
       gone none = none-some new (sym none ∙ is)
 
-      at_end : (then : IsKept old ((records_after s middle).headers image)) → IsKept then.view ((records_after s last).headers image) → IsThere old ((records_after s middle).headers image)
+      at_end : (then : IsKept old ((records_after s middle).headers image)) → IsKept then.view ((records_after s last).headers image) → IsSameThere old ((records_after s middle).headers image)
       at_end then end =
           let same : end.view ≡ new = (let e = sym end.is ∙ is in cc) in
           let equal : end.view.generation ≡ new.generation = ap (λ (h : HeaderView). h.generation) same in
@@ -283,10 +288,10 @@ module _ (homes : ℕ → SiteId) (s : SiteId) (image : ℕ) where
           let still : then.view.generation ≡ old.generation = omega (arith, one, two, equal, generation) in
           record { view = then.view; is = then.is; same = then.same still }
 
-      on : (then : IsKept old ((records_after s middle).headers image)) → IsKeptOrGone then.view ((records_after s last).headers image) → IsThere old ((records_after s middle).headers image)
+      on : (then : IsKept old ((records_after s middle).headers image)) → IsKeptOrGone then.view ((records_after s last).headers image) → IsSameThere old ((records_after s middle).headers image)
       on then (inl end) = at_end then end
       on then (inr none) = absurd (gone none)
 
-      by : IsKeptOrGone old ((records_after s middle).headers image) → IsThere old ((records_after s middle).headers image)
+      by : IsKeptOrGone old ((records_after s middle).headers image) → IsSameThere old ((records_after s middle).headers image)
       by (inl then) = on then (header_kept last middle onward right_last then.view then.is)
       by (inr none) = absurd (gone (none_later last middle first onward since right_last old was none))

@@ -45,8 +45,8 @@ module _ (homes : ℕ → SiteId) (home : SiteId) (image : ℕ) (own : HeaderVie
       let may : step.MayWriteParts piece.parts (bytes_for piece.parts from bytes) =
       may_do p.done.site (records_at p) p.done.instance right.is.knows most right.standing.form right.standing.mapped right.is.truth (op_of piece) owns free in
       let lie : ArePartsBelow v v.size piece.object piece.parts =
-      subst (λ w. ArePartsBelow w w.size piece.object piece.parts) (sym there.same)
-      (All-weaker (LiesBelow owns.header piece.object) (IsPartBelow (record owns.header { owner = v.owner }) owns.header.size piece.object) (λ q lies. record { part = lies.part; below = lies.below }) piece.parts owns.meets.within) in
+      subst (λ w. ArePartsBelow w w.size piece.object piece.parts) (sym there.still.same)
+      (All-weaker (LiesBelow owns.header piece.object) (IsPartBelow (record owns.header { owner = v.owner; generation = v.generation; parent = v.parent }) owns.header.size piece.object) (λ q lies. record { part = lies.part; below = lies.below }) piece.parts owns.meets.within) in
       right.is.effect
       ∙ ap (λ (s : Answered). effect_of (records_at p) (done.Op s.op) s.answer) is
       ∙ ap (λ h. effect_of_op h (op_of piece) answer.Done) there.is

@@ -45,7 +45,7 @@ use Rattle.rbd_lock.specs.declared.release.Release.{Release}
 use Rattle.rbd_lock.specs.declared.release.Stage.{Stage as Part_of}
 use Rattle.rbd_lock.specs.declared.release.Stage.TheVariants as part
 use Rattle.rbd_interference.specs.Beside.{AreBeside}
-use Rattle.rbd_interference.specs.Truth.{header_of_own, is_alone_on, is_own_alone, known_header}
+use Rattle.rbd_interference.specs.Truth.{header_of_own, is_alone_on, is_own_alone, known_header, sharing_on}
 use Rattle.rbd_interference.proofs.Headers.{unknown_while_waiting}
 use Rattle.rbd_slots.specs.declared.running.Occupant.{Occupant}
 use Rattle.rbd_slots.specs.declared.running.Occupant.TheVariants as occupant
@@ -63,6 +63,7 @@ use Rattle.rbd_world.specs.World.{WorldView, client_in, records_in, session_of_c
 use Rattle.rbd_world.proofs.Changed.{same_or_other}
 use Rattle.rbd_world.proofs.Debts.{debt_open, none_fenced, others_owe, own_steps, worked}
 use Rattle.rbd_world.proofs.Exactly.{OwesAsItGoes}
+use Rattle.rbd_queue.proofs.Together.{shared_both}
 
 -- ---- what an operation says
 
@@ -408,7 +409,7 @@ module _ {R : Type 0} (stands : R → Standing) (old : WorldView R) (w : IsSound
             (unheaded owes.session owes.slot image owes.c owes.there gone))
 
         shares : (me you : Instance) (j : Knowledge) → AreBeside s (records_in s old.sites) me you (w.knows (InSlot session slot)) j → IsSome (known_header j s image) → ⊥
-        shares me you j beside knows = true≢false (sym alone.alone ∙ (beside.shared (all_free s me, all_free s you) image alone.header knows).one)
+        shares me you j beside knows = true≢false (sym alone.alone ∙ (shared_both (sharing_on (w.knows (InSlot session slot)) s image) (sharing_on j s image) (beside.shared (all_free s me, all_free s you) image alone.header knows)).0)
 
         by : (owes.session ≡ session) ⊎ (owes.session ≢ session) → (owes.slot ≡ slot) ⊎ (owes.slot ≢ slot) → ⊥
         by (inr apart) either =
