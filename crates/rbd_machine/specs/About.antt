@@ -1,12 +1,17 @@
 -- The operations of a request on its image: a first one, whose answer tells the image, and those of
--- that image.
-use Rattle.std.specs.Prelude.{◌≡◌, ℕ, List, [], ◌∷◌, Option, Some, None}
+-- that image; beside them looks at the images that it was cloned from.
+use Rattle.std.specs.Prelude.{◌≡◌, ◌⊎◌, ℕ, List, [], ◌∷◌, Option, Some, None}
+use Rattle.rbd_kinds.specs.declared.answer.Answer.{Answer}
 use Rattle.rbd_kinds.specs.declared.answer.Answer.TheVariants as answer
 use Rattle.rbd_kinds.specs.declared.children_op.ChildrenOp.TheVariants as child
+use Rattle.rbd_kinds.specs.declared.data_op.DataOp.TheVariants as object
 use Rattle.rbd_kinds.specs.declared.directory_op.DirectoryOp.TheVariants as directory
+use Rattle.rbd_kinds.specs.declared.header_op.HeaderOp.TheVariants as header
 use Rattle.rbd_kinds.specs.declared.id.SiteId.{SiteId}
 use Rattle.rbd_kinds.specs.declared.operation.Op.{Op}
 use Rattle.rbd_kinds.specs.declared.operation.Op.TheVariants as op
+use Rattle.rbd_machine.specs.Ancestors.{IsAmong}
+use Rattle.rbd_machine.specs.Knowledge.{ImagePlace}
 use Rattle.rbd_machine.specs.Path.{Answered}
 
 -- the look-up of a name, by which most begin
@@ -24,10 +29,40 @@ image_of (op.Map image o) = Some image
 image_of (op.Journal image o) = Some image
 image_of _ = None
 
+-- An own image of a request is one that it found by its name, or made: so its answers tell which
+-- they are.
+abbrev pub owned_after : List ImagePlace → SiteId → Op → Answer → List ImagePlace
+owned_after images site (op.Directory (directory.Find name)) (answer.Id image) =
+    record { site = site; image = image } ∷ images
+owned_after images site (op.Directory (directory.Add name)) (answer.Id image) =
+    record { site = site; image = image } ∷ images
+owned_after images site o a = images
+
+-- behind some operations, the first one first
+abbrev pub owned_behind : List ImagePlace → List Answered → List ImagePlace
+owned_behind images [] = images
+owned_behind images (step ∷ steps) = owned_behind (owned_after images step.site step.op step.answer) steps
+
+-- of an own image, or of none: a name, a fence, a list of children
+abbrev pub IsOfOwn : List ImagePlace → SiteId → Option ℕ → Type 0
+IsOfOwn images site None = Unit {0}
+IsOfOwn images site (Some image) = IsAmong (record { site = site; image = image }) images
+
+abbrev pub IsOwnOp : List ImagePlace → SiteId → Op → Type 0
+IsOwnOp images site o = IsOfOwn images site (image_of o)
+
+-- What is done to the images that the own one was cloned from: their headers are looked at, and
+-- their snapshots are read.
+abbrev pub IsLookAbove : Op → Type 0
+IsLookAbove (op.Header image header.Get) = Unit {0}
+IsLookAbove (op.Data image number (object.Read (Some snap) parts)) = Unit {0}
+IsLookAbove o = ⊥
+
+-- of the image, or a look above it
 abbrev pub AreOfImage : SiteId → (image : ℕ) → List Answered → Type 0
 AreOfImage site image [] = Unit {0}
-AreOfImage site image (step ∷ steps) =
-    (step.site ≡ site) × (image_of step.op ≡ Some image) × AreOfImage site image steps
+AreOfImage site image (step ∷ steps) = (step.site ≡ site)
+    × ((image_of step.op ≡ Some image) ⊎ IsLookAbove step.op) × AreOfImage site image steps
 
 -- the first operation told the image, and the others are of that image
 pub record GoByImage (site : SiteId) (ask : Op) (first : Answered) (others : List Answered) : Type 0 where

@@ -1,5 +1,6 @@
--- When a request is refused: by the answer to its last operation.
-use Rattle.std.specs.Prelude.{◌≡◌, Bool, true, false, List, [], ◌∷◌, ◌++◌, Option, Some, None}
+-- When a request is refused: by the answer to its last operation, and that is an operation of an
+-- own image or of none, but for the fence. An image above it that is gone refuses nothing.
+use Rattle.std.specs.Prelude.{◌≡◌, ◌⊎◌, Bool, true, false, List, [], ◌∷◌, ◌++◌, Option, Some, None}
 use Rattle.rbd_kinds.specs.declared.answer.Answer.{Answer}
 use Rattle.rbd_kinds.specs.declared.answer.Answer.TheVariants as answer
 use Rattle.rbd_kinds.specs.declared.children_op.ChildrenOp.TheVariants as child
@@ -14,8 +15,9 @@ use Rattle.rbd_kinds.specs.declared.operation.Op.{Op}
 use Rattle.rbd_kinds.specs.declared.operation.Op.TheVariants as op
 use Rattle.rbd_commands.specs.declared.refusal.Refusal.{Refusal}
 use Rattle.rbd_commands.specs.declared.refusal.Refusal.TheVariants as refusal
-use Rattle.rbd_machine.specs.About.{AreOwn}
+use Rattle.rbd_machine.specs.About.{AreOwn, IsOwnOp, owned_after, owned_behind}
 use Rattle.rbd_machine.specs.Answers.{CanGive}
+use Rattle.rbd_machine.specs.Knowledge.{ImagePlace}
 use Rattle.rbd_machine.specs.Path.{Answered}
 
 -- What an answer to an operation refuses, where a request refuses some headers: the fence refuses
@@ -76,10 +78,16 @@ abbrev pub AreGiven : List Answered → Type 0
 AreGiven [] = Unit {0}
 AreGiven (step ∷ steps) = IsGiven step.op step.answer × AreGiven steps
 
--- no answer refuses
-abbrev pub AreAllowed : (HeaderView → Option Refusal) → List Answered → Type 0
-AreAllowed refuses [] = Unit {0}
-AreAllowed refuses (step ∷ steps) = (refusal_by refuses step.op step.answer ≡ None) × AreAllowed refuses steps
+-- Whose answers refuse: the fence's, and those to operations of own images, or of none.
+abbrev pub MayRefuse : List ImagePlace → Answered → Type 0
+MayRefuse images step = (step.answer ≡ answer.Fenced) ⊎ IsOwnOp images step.site step.op
+
+-- no answer refuses, of a request that has these images as its own before the first
+abbrev pub AreAllowed : (HeaderView → Option Refusal) → List ImagePlace → List Answered → Type 0
+AreAllowed refuses images [] = Unit {0}
+AreAllowed refuses images (step ∷ steps) =
+    (MayRefuse images step → refusal_by refuses step.op step.answer ≡ None)
+    × AreAllowed refuses (owned_after images step.site step.op step.answer) steps
 
 -- Which refusals may come when a part was done: none, of a request that changes by its last
 -- operation alone, or the fence's, which may come at any time.
@@ -90,15 +98,21 @@ abbrev pub by_fence : Refusal → Type 0
 by_fence x = x ≡ refusal.Fenced
 
 -- The answer to the last operation refuses it so, as the first refusal that holds there, and no
--- answer before refused it; and unless it may come late, nothing was changed before.
-pub record IsRefusedBy (refuses : HeaderView → Option Refusal) (late : Refusal → Type 0) (steps : List Answered)
-    (x : Refusal) : Type 0 where
+-- answer before refused it; and unless it may come late, nothing was changed before. These are the
+-- request's own images before the first operation.
+pub record IsRefusedWith (images : List ImagePlace) (refuses : HeaderView → Option Refusal) (late : Refusal → Type 0)
+    (steps : List Answered) (x : Refusal) : Type 0 where
   pub before : List Answered
   pub last : Answered
   pub are : steps ≡ before ++ last ∷ []
+  pub own : MayRefuse (owned_behind images before) last
   pub refused : refusal_by refuses last.op last.answer ≡ Some x
-  pub allowed : AreAllowed refuses before
+  pub allowed : AreAllowed refuses images before
   pub unchanged : (late x → ⊥) → AreLooks before
+
+-- so it is refused from its beginning, where it has no image
+abbrev pub IsRefusedBy : (HeaderView → Option Refusal) → (Refusal → Type 0) → List Answered → Refusal → Type 0
+IsRefusedBy = IsRefusedWith []
 
 -- A request was refused so, by an answer to an operation of its own.
 pub record IsRefused (site : SiteId) (ask : Op) (refuses : HeaderView → Option Refusal) (late : Refusal → Type 0)

@@ -1,17 +1,17 @@
 //! What plans mean: laws, each the contract of a function that does nothing.
-ghost use Rattle.std.specs.Prelude.{◌≡◌, ◌≢◌, ℕ, ◌<◌, ◌≤◌, ◌+◌, ◌*◌, List, length, Bool, true, false, IsFalse, Option, Some, None};
+ghost use Rattle.std.specs.Prelude.{◌≡◌, ◌≢◌, ℕ, ◌<◌, ◌≤◌, ◌+◌, ◌*◌, List, [], ◌∷◌, length, Bool, true, false, IsFalse, Option, Some, None};
 ghost use Rattle.rbd_kinds.specs.declared.data_op.DataOp.TheVariants.{Empty, Remove, Write, WriteFull, Zero};
 ghost use Rattle.rbd_kinds.specs.declared.directory_op.DirectoryOp.TheVariants.{Remove as FreeName};
 ghost use Rattle.rbd_kinds.specs.declared.header.SnapContext.{SnapContext};
 ghost use Rattle.rbd_kinds.specs.declared.header.SnapStatus.TheVariants.{Unprotected};
 ghost use Rattle.rbd_kinds.specs.declared.header.SnapView.{SnapView};
-ghost use Rattle.rbd_kinds.specs.declared.header_op.HeaderOp.TheVariants.{Create, LockBreak, LockDrop, Remove as RemoveHeader, SetSize, SnapAdd, SnapRemove};
+ghost use Rattle.rbd_kinds.specs.declared.header_op.HeaderOp.TheVariants.{Create, Get, LockBreak, LockDrop, Remove as RemoveHeader, SetSize, SnapAdd, SnapRemove};
 ghost use Rattle.rbd_kinds.specs.declared.layout.Part.{Part};
 ghost use Rattle.rbd_kinds.specs.declared.map_op.MapOp.TheVariants.{Remove as RemoveMap, Set};
 ghost use Rattle.rbd_kinds.specs.declared.operation.Op.{Op};
 ghost use Rattle.rbd_kinds.specs.declared.operation.Op.TheVariants.{BlockAdd, Data, Directory, Header, Map};
 ghost use Rattle.rbd_header.specs.Header.{context_of, snap_in};
-ghost use Rattle.rbd_machine.specs.Knowledge.{Knowledge, is_absent, is_fenced_by, is_gone, is_raised, learned, maps_of, objects_known_of, only_there, own_of, same_site, known_after_wait};
+ghost use Rattle.rbd_machine.specs.Knowledge.{ImagePlace, Knowledge, is_absent, is_fenced_by, is_gone, is_raised, learned, maps_of, objects_known_of, only_there, own_of, same_site, known_after_wait};
 ghost use Rattle.rbd_machine.specs.Permits.{Permits};
 ghost use Rattle.rbd_kinds.specs.declared.header.HeaderView.{HeaderView};
 ghost use Rattle.rbd_kinds.specs.declared.id.Instance.{Instance};
@@ -22,16 +22,19 @@ ghost use Rattle.rbd_commands.specs.declared.refusal.Refusal.{Refusal};
 ghost use Rattle.rbd_kinds.specs.declared.machine.Fed.{Fed};
 ghost use Rattle.rbd_kinds.specs.declared.machine.Want.TheVariants.{Note, Op as WantsOp};
 ghost use Rattle.rbd_kinds.specs.declared.operation_kind.OpKind.{OpKind};
+ghost use Rattle.rbd_machine.specs.About.{image_of, owned_behind};
+ghost use Rattle.rbd_machine.specs.Ancestors.{IsAmong};
 ghost use Rattle.rbd_machine.specs.AtLeast.{KnowsAtLeast};
 ghost use Rattle.rbd_machine.specs.Label.{Label, IsFit};
 ghost use Rattle.rbd_kinds.specs.declared.answer.Answer.{Answer};
-ghost use Rattle.rbd_kinds.specs.declared.answer.Answer.TheVariants.{Changed, Done};
+ghost use Rattle.rbd_kinds.specs.declared.answer.Answer.TheVariants.{Changed, Done, Fenced};
 ghost use Rattle.rbd_machine.specs.Answers.{CanBeFed};
 ghost use Rattle.rbd_machine.specs.Lawful.{IsLawful, known_after};
 ghost use Rattle.rbd_machine.specs.Plan.{Plan, Ask, IsAsking, IsLive, IsNoting, Wants, past_label, plan_after};
 ghost use Rattle.rbd_machine.specs.declared.reason.Reason.{Reason};
 ghost use Rattle.rbd_machine.specs.Path.{Answered, IsPath, IsPass, IsWalk, IsBounded};
 ghost use Rattle.rbd_machine.specs.Passes.{EndsInPass, jumps};
+ghost use Rattle.rbd_machine.specs.Refused.{IsRefusedBy, IsRefusedWith};
 ghost use Rattle.rbd_machine.specs.Standalone.{IsFedStandalone};
 ghost use Rattle.rbd_machine.specs.Steps.{change_plan};
 ghost use Rattle.rbd_machine.specs.Wait.{Wait};
@@ -80,6 +83,22 @@ pub fn changes_look_twice()
         (act : ℕ → HeaderView → Plan) (n : ℕ)
         → ((image : ℕ) (h : HeaderView) → IsBounded (act image h) n)
         → IsBounded (change_plan site name sharing refuses act) (n + 3) }
+{}
+
+/// A request is refused by the fence, by what it was told of a name, or of its own images, which it
+/// found by their names or made. Others' headers, as those of what its own was cloned from, refuse
+/// nothing, be it that one is gone: what refuses it behind such a look does so all the same.
+pub fn own_images_refuse()
+    ensures own { (refuses : HeaderView → Option Refusal) (late : Refusal → Bool) (steps : List Answered)
+        (x : Refusal) (by : IsRefusedBy refuses (λ y. late y ≡ true) steps x) (image : ℕ)
+        → by.last.answer ≢ Fenced → image_of by.last.op ≡ Some image
+        → IsAmong (record { site = by.last.site; image = image }) (owned_behind [] by.before) }
+    ensures others { (images : List ImagePlace) (refuses : HeaderView → Option Refusal) (late : Refusal → Bool)
+        (steps : List Answered) (x : Refusal) (site : SiteId) (image : ℕ) (answer : Answer)
+        → answer ≢ Fenced → (IsAmong (record { site = site; image = image }) images → ⊥)
+        → IsRefusedWith images refuses (λ y. late y ≡ true) steps x
+        → IsRefusedWith images refuses (λ y. late y ≡ true)
+        (record { site = site; op = Header image Get; answer = answer } ∷ steps) x }
 {}
 
 /// A request changes an image only after it read the header under the lock: before, no bytes are

@@ -1,0 +1,9 @@
+use Rattle.std.proofs.Common.{◌≡◌, true}
+use Rattle.rbd_machine.proofs.Refused.{own_refuses, refused_behind_another}
+use Rattle.rbd_machine.proofs.laws.own_images_refuse.Goals as goal
+
+pub returns-clause-own : goal.returns-clause-own
+returns-clause-own c = λ refuses late. own_refuses refuses (λ y. late y ≡ true)
+
+pub returns-clause-others : goal.returns-clause-others
+returns-clause-others c = λ images refuses late. refused_behind_another refuses (λ y. late y ≡ true) images
