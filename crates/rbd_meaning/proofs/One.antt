@@ -269,7 +269,7 @@ module _ (site : SiteId) (from to : List ℕ) (steps : List Answered) where
 
 -- ---- discard, resize, snap rollback: what no answer of a whole change refuses
 
-module _ (refuses : HeaderView → Option Refusal) (steps : List Answered) (T : Type 0) (whole : T → AreAllowed refuses steps)
+module _ (refuses : HeaderView → Option Refusal) (steps : List Answered) (T : Type 0) (whole : T → AreAllowed refuses [] steps)
     (R : Refusal → Type 0) (refused : (x : Refusal) → R x → IsRefusedBy refuses by_fence steps x) where
   change_apart : (r : Reply) (x : Refusal) → DoneBy T r → R x → ⊥
   change_apart reply.Done x t by = allowed_ends refuses by_fence steps x (whole t) (refused x by)

@@ -21,8 +21,10 @@ use Rattle.rbd_commands.specs.declared.refusal.Refusal.TheVariants as refusal
 use Rattle.rbd_layout.specs.declared.types.Piece.{Piece}
 use Rattle.rbd_header.specs.Header.{context_of}
 use Rattle.rbd_machine.specs.Objects.{data_read}
+use Rattle.rbd_machine.specs.About.{owned_after, owned_behind}
+use Rattle.rbd_machine.specs.Knowledge.{ImagePlace}
 use Rattle.rbd_machine.specs.Path.{Answered}
-use Rattle.rbd_machine.specs.Refused.{refusal_by, AreAllowed, IsRefusedBy}
+use Rattle.rbd_machine.specs.Refused.{refusal_by, AreAllowed, IsRefusedBy, MayRefuse}
 use Rattle.rbd_pieces.specs.Full.{cut_bytes, replaced_by}
 use Rattle.rbd_pieces.specs.Shrink.{pieces_from}
 use Rattle.rbd_pieces.specs.Size.{pieces_zeroed, IsResizedBy}
@@ -34,95 +36,107 @@ use Rattle.rbd_meaning.specs.Resizes.{ResizesWhole, resize_refuses}
 use Rattle.rbd_meaning.specs.Rollbacks.{AreRestored, RollsBack, rollback_refuses}
 use Rattle.rbd_meaning.specs.Writes.{write_refuses}
 
+-- no answer refuses, whatever images are its own before
+abbrev AreFree : (HeaderView → Option Refusal) → List Answered → Type 0
+AreFree refuses steps = (images : List ImagePlace) → AreAllowed refuses images steps
+
 module _ (refuses : HeaderView → Option Refusal) where
-  last_allowed : (before : List Answered) (last : Answered) → AreAllowed refuses (before ++ last ∷ []) → refusal_by refuses last.op last.answer ≡ None
-  last_allowed [] last allowed = allowed.0
-  last_allowed (s ∷ before) last allowed = last_allowed before last allowed.1
+  last_allowed : (images : List ImagePlace) (before : List Answered) (last : Answered) → AreAllowed refuses images (before ++ last ∷ []) → MayRefuse (owned_behind images before) last
+      → refusal_by refuses last.op last.answer ≡ None
+  last_allowed images [] last allowed own = allowed.0 own
+  last_allowed images (s ∷ before) last allowed own = last_allowed (owned_after images s.site s.op s.answer) before last allowed.1 own
 
   -- what was refused has an answer that refuses
-  pub allowed_ends : (late : Refusal → Type 0) (steps : List Answered) (x : Refusal) → AreAllowed refuses steps → IsRefusedBy refuses late steps x → ⊥
+  pub allowed_ends : (late : Refusal → Type 0) (steps : List Answered) (x : Refusal) → AreAllowed refuses [] steps → IsRefusedBy refuses late steps x → ⊥
   allowed_ends late steps x allowed by =
-      let none = last_allowed by.before by.last (subst (AreAllowed refuses) by.are allowed) in
+      let none = last_allowed [] by.before by.last (subst (AreAllowed refuses []) by.are allowed) by.own in
       let some = by.refused in
       cc
 
-  both_allowed : (one two : List Answered) → AreAllowed refuses one → AreAllowed refuses two → AreAllowed refuses (one ++ two)
-  both_allowed [] two first second = second
-  both_allowed (s ∷ one) two first second = (first.0, both_allowed one two first.1 second)
+  both_allowed : (one two : List Answered) → AreFree refuses one → AreFree refuses two → AreFree refuses (one ++ two)
+  both_allowed one two first second images = go images one (first images)
+    where
+      go : (images : List ImagePlace) (one : List Answered) → AreAllowed refuses images one → AreAllowed refuses images (one ++ two)
+      go images [] allowed = second images
+      go images (s ∷ one) allowed = (allowed.0, go (owned_after images s.site s.op s.answer) one allowed.1)
 
   -- ---- parts of changes
 
-  some_allowed : (site : SiteId) (image : ℕ) (context : SnapContext) (p : Piece) (inside : Bool) → AreAllowed refuses (some_zeroed site image context p inside)
-  some_allowed site image context p false = (refl, tt)
-  some_allowed site image context p true = (refl, (refl, tt))
+  some_allowed : (site : SiteId) (image : ℕ) (context : SnapContext) (p : Piece) (inside : Bool) → AreFree refuses (some_zeroed site image context p inside)
+  some_allowed site image context p false images = (λ own. refl, tt)
+  some_allowed site image context p true images = (λ own. refl, (λ own. refl, tt))
 
-  all_allowed : (site : SiteId) (image : ℕ) (context : SnapContext) (p : Piece) (inside : Bool) → AreAllowed refuses (all_zeroed site image context p inside)
-  all_allowed site image context p false = (refl, (refl, (refl, tt)))
-  all_allowed site image context p true = (refl, (refl, tt))
+  all_allowed : (site : SiteId) (image : ℕ) (context : SnapContext) (p : Piece) (inside : Bool) → AreFree refuses (all_zeroed site image context p inside)
+  all_allowed site image context p false images = (λ own. refl, (λ own. refl, (λ own. refl, tt)))
+  all_allowed site image context p true images = (λ own. refl, (λ own. refl, tt))
 
-  zeroed_allowed : (site : SiteId) (image : ℕ) (context : SnapContext) (p : Piece) (whole inside : Bool) → AreAllowed refuses (zeroed_by site image context p whole inside)
+  zeroed_allowed : (site : SiteId) (image : ℕ) (context : SnapContext) (p : Piece) (whole inside : Bool) → AreFree refuses (zeroed_by site image context p whole inside)
   zeroed_allowed site image context p false inside = some_allowed site image context p inside
   zeroed_allowed site image context p true inside = all_allowed site image context p inside
 
-  pieces_allowed : (site : SiteId) (image : ℕ) (h : HeaderView) (pieces : List Piece) → AreAllowed refuses (pieces_zeroed site image h pieces)
-  pieces_allowed site image h [] = tt
-  pieces_allowed site image h (p ∷ pieces) =
-      both_allowed (zeroed_steps site image h p) (pieces_zeroed site image h pieces) (zeroed_allowed site image (context_of h) p (is_whole h p) (is_inside h p.object)) (pieces_allowed site image h pieces)
+  pieces_allowed : (site : SiteId) (image : ℕ) (h : HeaderView) (pieces : List Piece) → AreFree refuses (pieces_zeroed site image h pieces)
+  pieces_allowed site image h [] images = tt
+  pieces_allowed site image h (p ∷ pieces) images =
+      both_allowed (zeroed_steps site image h p) (pieces_zeroed site image h pieces) (zeroed_allowed site image (context_of h) p (is_whole h p) (is_inside h p.object)) (pieces_allowed site image h pieces) images
 
-  resized_allowed : (site : SiteId) (image : ℕ) (h : HeaderView) (to objects : ℕ) (grows : Bool) (steps : List Answered) → IsResizedBy grows site image h to objects steps → AreAllowed refuses steps
-  resized_allowed site image h to objects true steps are = subst (AreAllowed refuses) (sym are) (refl, (refl, tt))
+  resized_allowed : (site : SiteId) (image : ℕ) (h : HeaderView) (to objects : ℕ) (grows : Bool) (steps : List Answered) → IsResizedBy grows site image h to objects steps → AreFree refuses steps
+  resized_allowed site image h to objects true steps are = subst (AreFree refuses) (sym are) (λ images. (λ own. refl, (λ own. refl, tt)))
   resized_allowed site image h to objects false steps shrunk =
-      subst (AreAllowed refuses) (sym shrunk.are)
-      (refl, both_allowed (pieces_zeroed site image h (pieces_from h to shrunk.bits)) _ (pieces_allowed site image h (pieces_from h to shrunk.bits)) (refl, tt))
+      subst (AreFree refuses) (sym shrunk.are)
+      (λ images. (λ own. refl, both_allowed (pieces_zeroed site image h (pieces_from h to shrunk.bits)) _ (pieces_allowed site image h (pieces_from h to shrunk.bits)) (λ images. (λ own. refl, tt)) images))
 
-  replaced_allowed : (site : SiteId) (image : ℕ) (h : HeaderView) (p : Piece) (left : List ℕ) → AreAllowed refuses (replaced_by site image h p left)
-  replaced_allowed site image h p [] = all_allowed site image (context_of h) p (is_inside h p.object)
-  replaced_allowed site image h p (byte ∷ left) = (refl, (refl, tt))
+  replaced_allowed : (site : SiteId) (image : ℕ) (h : HeaderView) (p : Piece) (left : List ℕ) → AreFree refuses (replaced_by site image h p left)
+  replaced_allowed site image h p [] images = all_allowed site image (context_of h) p (is_inside h p.object) images
+  replaced_allowed site image h p (byte ∷ left) images = (λ own. refl, (λ own. refl, tt))
 
   read_allowed : (image : ℕ) (snap : Option ℕ) (p : Piece) (a : Answer) (bytes : List ℕ) → bytes_shown p.parts a ≡ Some bytes → refusal_by refuses (data_read image snap p) a ≡ None
   read_allowed image snap p (answer.Bytes shown) bytes is = refl
   read_allowed image snap p answer.Absent bytes is = refl
   read_allowed image snap p _ bytes is = cc
 
-  restored_allowed : (site : SiteId) (image : ℕ) (h : HeaderView) (snap : ℕ) (pieces : List Piece) (steps : List Answered) → AreRestored site image h snap pieces steps → AreAllowed refuses steps
-  restored_allowed site image h snap [] steps none = subst (AreAllowed refuses) (sym none) tt
+  restored_allowed : (site : SiteId) (image : ℕ) (h : HeaderView) (snap : ℕ) (pieces : List Piece) (steps : List Answered) → AreRestored site image h snap pieces steps → AreFree refuses steps
+  restored_allowed site image h snap [] steps none = subst (AreFree refuses) (sym none) (λ images. tt)
   restored_allowed site image h snap (p ∷ pieces) steps are =
       let f = are.is_first in
-      subst (AreAllowed refuses) (sym are.are)
+      subst (AreFree refuses) (sym are.are)
       (both_allowed are.first are.others
-      (subst (AreAllowed refuses) (sym f.are) (read_allowed image (Some snap) p f.answer f.bytes f.shown, replaced_allowed site image h p (cut_bytes f.bytes)))
+      (subst (AreFree refuses) (sym f.are) (λ images. (λ own. read_allowed image (Some snap) p f.answer f.bytes f.shown, replaced_allowed site image h p (cut_bytes f.bytes) images)))
       (restored_allowed site image h snap pieces are.others are.are_others))
 
 -- ---- whole ones
 
-pub discard_allowed : (site : SiteId) (name : List ℕ) (e : Extent) (steps : List Answered) → DiscardsWhole site name e steps → AreAllowed (write_refuses e) steps
-discard_allowed site name e steps whole = subst (AreAllowed (write_refuses e)) (sym whole.are) (refl, (whole.may_wait, (whole.may, pieces_allowed (write_refuses e) site whole.image whole.own _)))
+pub discard_allowed : (site : SiteId) (name : List ℕ) (e : Extent) (steps : List Answered) → DiscardsWhole site name e steps → AreAllowed (write_refuses e) [] steps
+discard_allowed site name e steps whole =
+    subst (AreAllowed (write_refuses e) []) (sym whole.are)
+    (λ own. refl, (λ own. whole.may_wait, (λ own. whole.may, pieces_allowed (write_refuses e) site whole.image whole.own _ _)))
 
-pub resize_allowed : (site : SiteId) (name : List ℕ) (to : ℕ) (steps : List Answered) → ResizesWhole site name to steps → AreAllowed (resize_refuses to) steps
+pub resize_allowed : (site : SiteId) (name : List ℕ) (to : ℕ) (steps : List Answered) → ResizesWhole site name to steps → AreAllowed (resize_refuses to) [] steps
 resize_allowed site name to steps whole =
-    subst (AreAllowed (resize_refuses to)) (sym whole.are)
-    (refl, (whole.may_wait, (whole.may, resized_allowed (resize_refuses to) site whole.image whole.own to whole.objects (nat_le whole.own.size to) whole.resized whole.is_resized)))
+    subst (AreAllowed (resize_refuses to) []) (sym whole.are)
+    (λ own. refl, (λ own. whole.may_wait, (λ own. whole.may, resized_allowed (resize_refuses to) site whole.image whole.own to whole.objects (nat_le whole.own.size to) whole.resized whole.is_resized _)))
 
-pub rollback_allowed : (site : SiteId) (name snap : List ℕ) (steps : List Answered) → RollsBack site name snap steps → AreAllowed (rollback_refuses snap) steps
+pub rollback_allowed : (site : SiteId) (name snap : List ℕ) (steps : List Answered) → RollsBack site name snap steps → AreAllowed (rollback_refuses snap) [] steps
 rollback_allowed site name snap steps whole =
-    subst (AreAllowed (rollback_refuses snap)) (sym whole.are) (
-      refl,
+    subst (AreAllowed (rollback_refuses snap) []) (sym whole.are) (
+      λ own. refl,
       (
-        whole.may_wait,
+        λ own. whole.may_wait,
         (
-          whole.may,
+          λ own. whole.may,
           both_allowed (rollback_refuses snap) whole.resized whole.restored
               (resized_allowed (rollback_refuses snap) site whole.image whole.own whole.listed.size whole.objects (nat_le whole.own.size whole.listed.size) whole.resized whole.is_resized)
-              (restored_allowed (rollback_refuses snap) site whole.image _ whole.listed.id _ whole.restored whole.are_restored),
+              (restored_allowed (rollback_refuses snap) site whole.image _ whole.listed.id _ whole.restored whole.are_restored)
+              _,
         ),
       ),
     )
 
 -- ---- the removal of an image
 
-last_removal_allowed : (session : ℕ) (before : List Answered) (last : Answered) → AllowRemoval session (before ++ last ∷ []) → removal_refusal_by session last.op last.answer ≡ None
-last_removal_allowed session [] last allowed = allowed.0
-last_removal_allowed session (s ∷ before) last allowed = last_removal_allowed session before last allowed.1
+last_removal_allowed : (session : ℕ) (images : List ImagePlace) (before : List Answered) (last : Answered) → AllowRemoval session images (before ++ last ∷ []) → MayRefuse (owned_behind images before) last
+    → removal_refusal_by session last.op last.answer ≡ None
+last_removal_allowed session images [] last allowed own = allowed.0 own
+last_removal_allowed session images (s ∷ before) last allowed own = last_removal_allowed session (owned_after images s.site s.op s.answer) before last allowed.1 own
 
 unwatched : (session : ℕ) (watchers : List Instance) → is_watched_beside session watchers ≡ false → watchers_refuse session watchers ≡ None
 unwatched session watchers none = ap (λ b. cond b (Some refusal.InUse) None) none
@@ -153,21 +167,23 @@ gone_allowed session o answer.Done gone = refl
 gone_allowed session o answer.Absent gone = refl
 gone_allowed session o _ gone = absurd gone
 
-removals_allowed : (session : ℕ) (site : SiteId) (ops : List Op) (steps : List Answered) → AreRemovals site ops steps → AllowRemoval session steps
-removals_allowed session site [] [] are = tt
-removals_allowed session site [] (s ∷ steps) are = absurd are
-removals_allowed session site (o ∷ ops) [] are = absurd are
-removals_allowed session site (o ∷ ops) (s ∷ steps) (at, is, gone, are) =
-    (subst (λ p. removal_refusal_by session p s.answer ≡ None) (sym is) (gone_allowed session o s.answer gone), removals_allowed session site ops steps are)
+removals_allowed : (session : ℕ) (site : SiteId) (ops : List Op) (steps : List Answered) → AreRemovals site ops steps → (images : List ImagePlace) → AllowRemoval session images steps
+removals_allowed session site [] [] are images = tt
+removals_allowed session site [] (s ∷ steps) are images = absurd are
+removals_allowed session site (o ∷ ops) [] are images = absurd are
+removals_allowed session site (o ∷ ops) (s ∷ steps) (at, is, gone, are) images =
+    (λ own. subst (λ p. removal_refusal_by session p s.answer ≡ None) (sym is) (gone_allowed session o s.answer gone), removals_allowed session site ops steps are _)
 
-removal_allowed : (site : SiteId) (session : ℕ) (name : List ℕ) (steps : List Answered) → RemovesImage site session name steps → AllowRemoval session steps
+removal_allowed : (site : SiteId) (session : ℕ) (name : List ℕ) (steps : List Answered) → RemovesImage site session name steps → AllowRemoval session [] steps
 removal_allowed site session name steps whole =
-    subst (AllowRemoval session) (sym whole.are)
-    (refl, (whole.may_wait, (unwatched session whole.watchers whole.unused, (whole.may, (unwatched session whole.others whole.unused_still, (refl, removals_allowed session site (removal whole.image whole.own whole.bits) whole.removed whole.are_removed))))))
+    let goes = removals_allowed session site (removal whole.image whole.own whole.bits) whole.removed whole.are_removed (record { site = site; image = whole.image } ∷ []) in
+    let others = unwatched session whole.others whole.unused_still in
+    subst (AllowRemoval session []) (sym whole.are)
+    (λ own. refl, (λ own. whole.may_wait, (λ own. unwatched session whole.watchers whole.unused, (λ own. whole.may, (λ own. others, (λ own. refl, goes))))))
 
 -- a removal that was refused isn't a whole one
 pub removal_ends : (site : SiteId) (session : ℕ) (name : List ℕ) (steps : List Answered) (x : Refusal) → RemovesImage site session name steps → RefusesRemovalOf site session name steps x → ⊥
 removal_ends site session name steps x whole refused =
-    let none = last_removal_allowed session refused.before refused.last (subst (AllowRemoval session) refused.are (removal_allowed site session name steps whole)) in
+    let none = last_removal_allowed session [] refused.before refused.last (subst (AllowRemoval session []) refused.are (removal_allowed site session name steps whole)) refused.by_own in
     let some = refused.refused in
     cc

@@ -22,9 +22,10 @@ use Rattle.rbd_commands.specs.declared.refusal.Refusal.TheVariants as refusal
 use Rattle.rbd_kinds.specs.declared.reply.Reply.{Reply}
 use Rattle.rbd_kinds.specs.declared.reply.Reply.TheVariants as reply
 use Rattle.rbd_kinds.specs.States.{state_at}
-use Rattle.rbd_machine.specs.About.{look_up, AreOwn}
+use Rattle.rbd_machine.specs.About.{look_up, owned_after, owned_behind, AreOwn}
+use Rattle.rbd_machine.specs.Knowledge.{ImagePlace}
 use Rattle.rbd_machine.specs.Path.{Answered, found, looked_at}
-use Rattle.rbd_machine.specs.Refused.{by_fence, refusal_by, AreLooks}
+use Rattle.rbd_machine.specs.Refused.{by_fence, refusal_by, AreLooks, MayRefuse}
 use Rattle.rbd_machine.specs.Steps.{or_else, non_primary}
 use Rattle.rbd_meaning.specs.Partly.{IsFrontOf}
 use Rattle.rbd_meaning.specs.Snaps.{map_told}
@@ -53,11 +54,12 @@ removal_refusal_by session (op.Header image header.WatchersGet) (answer.Instance
     watchers_refuse session watchers
 removal_refusal_by session o a = refusal_by image_removal_refuses o a
 
--- no answer refuses the removal
-abbrev pub AllowRemoval : (session : ℕ) → List Answered → Type 0
-AllowRemoval session [] = Unit {0}
-AllowRemoval session (step ∷ steps) = (removal_refusal_by session step.op step.answer ≡ None)
-    × AllowRemoval session steps
+-- no answer refuses the removal, whose own images are these before the first
+abbrev pub AllowRemoval : (session : ℕ) → List ImagePlace → List Answered → Type 0
+AllowRemoval session images [] = Unit {0}
+AllowRemoval session images (step ∷ steps) =
+    (MayRefuse images step → removal_refusal_by session step.op step.answer ≡ None)
+    × AllowRemoval session (owned_after images step.site step.op step.answer) steps
 
 -- ---- what goes
 
@@ -153,17 +155,18 @@ pub record RemovesImage (site : SiteId) (session : ℕ) (name : List ℕ) (steps
   pub are : steps ≡ found site name image ∷ looked_at site image first ∷ watchers_told site image watchers
       ∷ looked_at site image own ∷ watchers_told site image others ∷ map_told site image bits ∷ removed
 
--- The answer to the last operation refused the request, and none before. Unless that was the fence,
--- the request had only looked; with the fence it may have done the first operations of a whole
--- removal.
+-- The answer to the last operation refused the request, which but for the fence was of an own image
+-- or of none, and no answer before did. Unless that was the fence, the request had only looked; with
+-- the fence it may have done the first operations of a whole removal.
 pub record RefusesRemovalOf (site : SiteId) (session : ℕ) (name : List ℕ) (steps : List Answered)
     (x : Refusal) : Type 0 where
   pub own : AreOwn site (look_up name) steps
   pub before : List Answered
   pub last : Answered
   pub are : steps ≡ before ++ last ∷ []
+  pub by_own : MayRefuse (owned_behind [] before) last
   pub refused : removal_refusal_by session last.op last.answer ≡ Some x
-  pub allowed : AllowRemoval session before
+  pub allowed : AllowRemoval session [] before
   pub unchanged : (by_fence x → ⊥) → AreLooks before
   pub so_far : AreLooks before ⊎ IsFrontOf (RemovesImage site session name) before
 
