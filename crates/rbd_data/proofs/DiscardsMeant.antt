@@ -14,9 +14,9 @@ use Rattle.rbd_layout.specs.Pieces.{pieces_of}
 use Rattle.rbd_machine.specs.About.{AreOwn, look_up}
 use Rattle.rbd_machine.specs.Path.{Answered, IsWalk, found, looked_at}
 use Rattle.rbd_machine.specs.Plan.{Return, Goto}
-use Rattle.rbd_machine.specs.Refused.{by_fence, AreGiven, IsRefusedBy}
+use Rattle.rbd_machine.specs.Refused.{by_fence, AreGiven, IsRefusedWith}
 use Rattle.rbd_machine.specs.Steps.{applied}
-use Rattle.rbd_machine.proofs.Refused.{EndsBy, ends_by}
+use Rattle.rbd_machine.proofs.Refused.{EndsBy, ends_by, only_image}
 use Rattle.rbd_machine.proofs.Walked.{Changed, EndsUnrefused, changed, noted_to}
 use Rattle.rbd_meaning.specs.Discards.{DiscardMeans, DiscardsWhole, RefusesDiscard}
 use Rattle.rbd_meaning.specs.Parentless.{AreParentless}
@@ -64,15 +64,15 @@ module _ (site : SiteId) (name : List ℕ) (e : Extent) where
 
   module _ (x : Refusal) (steps : List Answered) (c : Changed (Return (reply.Refused x)) site name (write_refuses e) (zero site e) steps) where
     -- the fence alone refuses it there
-    by_the_fence : AreGiven steps → AreParentless steps → IsRefusedBy (write_refuses e) by_fence c.rest x
+    by_the_fence : AreGiven steps → AreParentless steps → IsRefusedWith (only_image site c.image) (write_refuses e) by_fence c.rest x
     by_the_fence given parentless =
         let own_given = (subst AreGiven c.are given).1.1.1 in
         let none : c.own.parent ≡ None = (subst AreParentless c.are parentless).1.1.0 in
-        go (ends_by (write_refuses e) by_fence IsDone c.more false (zero site e c.image c.own) c.rest (reply.Refused x) (refusing_pieces (write_refuses e) (pieces_of c.own.layout e) false site c.image c.own none) own_given c.walk)
+        go (ends_by (write_refuses e) by_fence IsDone c.more (only_image site c.image) false (zero site e c.image c.own) c.rest (reply.Refused x) (refusing_pieces (write_refuses e) (only_image site c.image) (pieces_of c.own.layout e) false site c.image c.own none) own_given c.walk)
       where
-        go : EndsBy (write_refuses e) by_fence IsDone false c.rest (reply.Refused x) → IsRefusedBy (write_refuses e) by_fence c.rest x
+        go : EndsBy (write_refuses e) by_fence IsDone (only_image site c.image) false c.rest (reply.Refused x) → IsRefusedWith (only_image site c.image) (write_refuses e) by_fence c.rest x
         go (inl granted) = absurd granted
-        go (inr (y, same, from)) = subst (IsRefusedBy (write_refuses e) by_fence c.rest) (same_refusal x y same) from.by
+        go (inr (y, same, from)) = subst (IsRefusedWith (only_image site c.image) (write_refuses e) by_fence c.rest) (same_refusal x y same) from.by
 
     refused_late : AreOwn site (look_up name) steps → AreGiven steps → AreParentless steps → RefusesDiscard site name e steps x
     refused_late own given parentless =
@@ -86,8 +86,9 @@ module _ (site : SiteId) (name : List ℕ) (e : Extent) where
               before = behind c.image c.first c.own by.before;
               last = by.last;
               are = c.are ∙ ap (behind c.image c.first c.own) by.are;
+              own = by.own;
               refused = by.refused;
-              allowed = (refl, (c.may_wait, (c.may, by.allowed)));
+              allowed = (λ own. refl, (λ own. c.may_wait, (λ own. c.may, by.allowed)));
               unchanged = λ not_late. (refl, (refl, (refl, by.unchanged not_late)));
             };
           };

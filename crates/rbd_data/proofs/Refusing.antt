@@ -14,6 +14,7 @@ use Rattle.rbd_kinds.specs.Striping.{byte_at}
 use Rattle.rbd_layout.specs.declared.types.Piece.{Piece}
 use Rattle.rbd_header.specs.Header.{context_of}
 use Rattle.rbd_machine.specs.Plan.{Plan}
+use Rattle.rbd_machine.specs.Knowledge.{ImagePlace}
 use Rattle.rbd_machine.specs.Refused.{by_fence, IsGiven}
 use Rattle.rbd_machine.specs.Steps.{on_done, applied}
 use Rattle.rbd_machine.proofs.Refused.{IsRefusing, Answers}
@@ -29,38 +30,38 @@ IsDone _ = ⊥
 outside : (h : HeaderView) (number : ℕ) → h.parent ≡ None → is_inside h number ≡ false
 outside h number none = ap (λ parent. is_below parent (byte_at h.layout number 0)) none
 
-module _ (refuses : HeaderView → Option Refusal) where
-  refusing_set : (changed : Bool) (image number state : ℕ) (next : Plan) → IsRefusing refuses by_fence IsDone changed next
-      → (a : Answer) → IsGiven (map_set image number state) a → Answers refuses by_fence IsDone changed (map_set image number state) a (on_done next a)
-  refusing_set changed image number state next goes_on answer.Done given = inr (λ live. refl, goes_on)
-  refusing_set changed image number state next goes_on answer.Absent given = let no = given.finds in cc
-  refusing_set changed image number state next goes_on answer.Fenced given = inl (record { why = refusal.Fenced; is = refl; ends = refl; comes = λ was. refl })
-  refusing_set changed image number state next goes_on _ given = let no = given.can.word in cc
+module _ (refuses : HeaderView → Option Refusal) (images : List ImagePlace) where
+  refusing_set : (changed : Bool) (site : SiteId) (image number state : ℕ) (next : Plan) → IsRefusing refuses by_fence IsDone images changed next
+      → (a : Answer) → IsGiven (map_set image number state) a → Answers refuses by_fence IsDone images changed site (map_set image number state) a (on_done next a)
+  refusing_set changed site image number state next goes_on answer.Done given = inr (λ live may. refl, goes_on)
+  refusing_set changed site image number state next goes_on answer.Absent given = let no = given.finds in cc
+  refusing_set changed site image number state next goes_on answer.Fenced given = inl (record { why = refusal.Fenced; own = inl refl; is = refl; ends = refl; comes = λ was. refl })
+  refusing_set changed site image number state next goes_on _ given = let no = given.can.word in cc
 
-  refusing_some : (changed : Bool) (image : ℕ) (context : SnapContext) (p : Piece) (next : Plan) → IsRefusing refuses by_fence IsDone true next
-      → (a : Answer) → IsGiven (data_zero image context false p) a → Answers refuses by_fence IsDone changed (data_zero image context false p) a (on_done next a)
-  refusing_some changed image context p next goes_on answer.Done given = inr (λ live. refl, goes_on)
-  refusing_some changed image context p next goes_on answer.Fenced given = inl (record { why = refusal.Fenced; is = refl; ends = refl; comes = λ was. refl })
-  refusing_some changed image context p next goes_on _ given = let no = given.can.word in cc
+  refusing_some : (changed : Bool) (site : SiteId) (image : ℕ) (context : SnapContext) (p : Piece) (next : Plan) → IsRefusing refuses by_fence IsDone images true next
+      → (a : Answer) → IsGiven (data_zero image context false p) a → Answers refuses by_fence IsDone images changed site (data_zero image context false p) a (on_done next a)
+  refusing_some changed site image context p next goes_on answer.Done given = inr (λ live may. refl, goes_on)
+  refusing_some changed site image context p next goes_on answer.Fenced given = inl (record { why = refusal.Fenced; own = inl refl; is = refl; ends = refl; comes = λ was. refl })
+  refusing_some changed site image context p next goes_on _ given = let no = given.can.word in cc
 
-  refusing_remove : (changed : Bool) (image : ℕ) (context : SnapContext) (number : ℕ) (next : Plan) → IsRefusing refuses by_fence IsDone true next
-      → (a : Answer) → IsGiven (data_remove image context number) a → Answers refuses by_fence IsDone changed (data_remove image context number) a (on_done next a)
-  refusing_remove changed image context number next goes_on answer.Done given = inr (λ live. refl, goes_on)
-  refusing_remove changed image context number next goes_on answer.Fenced given = inl (record { why = refusal.Fenced; is = refl; ends = refl; comes = λ was. refl })
-  refusing_remove changed image context number next goes_on _ given = let no = given.can.word in cc
+  refusing_remove : (changed : Bool) (site : SiteId) (image : ℕ) (context : SnapContext) (number : ℕ) (next : Plan) → IsRefusing refuses by_fence IsDone images true next
+      → (a : Answer) → IsGiven (data_remove image context number) a → Answers refuses by_fence IsDone images changed site (data_remove image context number) a (on_done next a)
+  refusing_remove changed site image context number next goes_on answer.Done given = inr (λ live may. refl, goes_on)
+  refusing_remove changed site image context number next goes_on answer.Fenced given = inl (record { why = refusal.Fenced; own = inl refl; is = refl; ends = refl; comes = λ was. refl })
+  refusing_remove changed site image context number next goes_on _ given = let no = given.can.word in cc
 
   refusing_piece : (whole : Bool) (changed : Bool) (site : SiteId) (image : ℕ) (context : SnapContext) (p : Piece) (next : Plan)
-      → IsRefusing refuses by_fence IsDone true next → IsRefusing refuses by_fence IsDone changed (zero_by site image context p whole false next)
-  refusing_piece false changed site image context p next goes_on = refusing_some changed image context p next goes_on
+      → IsRefusing refuses by_fence IsDone images true next → IsRefusing refuses by_fence IsDone images changed (zero_by site image context p whole false next)
+  refusing_piece false changed site image context p next goes_on = refusing_some changed site image context p next goes_on
   refusing_piece true changed site image context p next goes_on =
       let lowering = setting site image context p 0 next in
-      refusing_set changed image p.object 2 (removing site image context p lowering)
-      (refusing_remove changed image context p.object lowering (refusing_set true image p.object 0 next goes_on))
+      refusing_set changed site image p.object 2 (removing site image context p lowering)
+      (refusing_remove changed site image context p.object lowering (refusing_set true site image p.object 0 next goes_on))
 
   pub refusing_pieces : (pieces : List Piece) (changed : Bool) (site : SiteId) (image : ℕ) (h : HeaderView) → h.parent ≡ None
-      → IsRefusing refuses by_fence IsDone changed (zero_in_turns site image h pieces (applied site image))
+      → IsRefusing refuses by_fence IsDone images changed (zero_in_turns site image h pieces (applied site image))
   refusing_pieces [] changed site image h none = tt
   refusing_pieces (p ∷ pieces) changed site image h none =
       let next = zero_in_turns site image h pieces (applied site image) in
-      subst (λ inside. IsRefusing refuses by_fence IsDone changed (zero_by site image (context_of h) p (is_whole h p) inside next)) (sym (outside h p.object none))
+      subst (λ inside. IsRefusing refuses by_fence IsDone images changed (zero_by site image (context_of h) p (is_whole h p) inside next)) (sym (outside h p.object none))
       (refusing_piece (is_whole h p) changed site image (context_of h) p next (refusing_pieces pieces true site image h none))
