@@ -1,5 +1,5 @@
 -- What replies mean, command by command.
-use Rattle.std.proofs.Common.{◌≡◌, ◌⊎◌, inl, inr, ℕ, List, true, false, None, refl, subst}
+use Rattle.std.proofs.Common.{◌≡◌, ◌⊎◌, inl, inr, ℕ, List, [], true, false, None, refl, subst}
 use Rattle.rbd_kinds.specs.declared.answer.Answer.{Answer}
 use Rattle.rbd_kinds.specs.declared.answer.Answer.TheVariants as answer
 use Rattle.rbd_commands.specs.declared.command.Command.{Command}
@@ -23,7 +23,7 @@ use Rattle.rbd_machine.specs.declared.seat.Seat.{Seat}
 use Rattle.rbd_machine.specs.Plan.{Plan, Return, Goto}
 use Rattle.rbd_machine.specs.Refused.{refuses_none, never, by_fence, AreGiven, IsGiven, IsRefusedBy}
 use Rattle.rbd_machine.specs.Steps.{on_done, on_bits}
-use Rattle.rbd_machine.proofs.Refused.{IsRefusing, Answers, EndsBy, ends_by, refusing_find, refusing_look}
+use Rattle.rbd_machine.proofs.Refused.{IsRefusing, Answers, EndsBy, ends_by, only_image, refusing_find, refusing_look}
 use Rattle.rbd_machine.proofs.Walked.{ended}
 use Rattle.rbd_meaning.specs.Creates.{CreateMeans}
 use Rattle.rbd_meaning.specs.Count.{object_count}
@@ -61,32 +61,32 @@ TellsUsed _ = ⊥
 
 module _ (objects : ℕ) (h : HeaderView) (site : SiteId) where
   refusing_made : (image : ℕ) (a : Answer) → IsGiven (op.Header image (header.Create h)) a
-      → Answers refuses_none by_fence IsDone true (op.Header image (header.Create h)) a (on_done (Return reply.Done) a)
-  refusing_made image answer.Done can = inr (λ live. refl, tt)
-  refusing_made image answer.Fenced can = inl (record { why = refusal.Fenced; is = refl; ends = refl; comes = λ was. refl })
+      → Answers refuses_none by_fence IsDone (only_image site image) true site (op.Header image (header.Create h)) a (on_done (Return reply.Done) a)
+  refusing_made image answer.Done can = inr (λ live may. refl, tt)
+  refusing_made image answer.Fenced can = inl (record { why = refusal.Fenced; own = inl refl; is = refl; ends = refl; comes = λ was. refl })
   refusing_made image _ can = let no = can.can.word in cc
 
   refusing_mapped : (image : ℕ) (a : Answer) → IsGiven (op.Map image (states.Resize objects)) a
-      → Answers refuses_none by_fence IsDone true (op.Map image (states.Resize objects)) a (on_done (making site h image) a)
-  refusing_mapped image answer.Done can = inr (λ live. refl, refusing_made image)
-  refusing_mapped image answer.Fenced can = inl (record { why = refusal.Fenced; is = refl; ends = refl; comes = λ was. refl })
+      → Answers refuses_none by_fence IsDone (only_image site image) true site (op.Map image (states.Resize objects)) a (on_done (making site h image) a)
+  refusing_mapped image answer.Done can = inr (λ live may. refl, refusing_made image)
+  refusing_mapped image answer.Fenced can = inl (record { why = refusal.Fenced; own = inl refl; is = refl; ends = refl; comes = λ was. refl })
   refusing_mapped image _ can = let no = can.can.word in cc
 
   refusing_drawn : (name : List ℕ) (a : Answer) → IsGiven (op.Directory (directory.Add name)) a
-      → Answers refuses_none by_fence IsDone false (op.Directory (directory.Add name)) a (on_drawn (mapping site objects h) a)
-  refusing_drawn name (answer.Id image) can = inr (λ live. refl, refusing_mapped image)
-  refusing_drawn name answer.Exists can = inl (record { why = refusal.ImageExists; is = refl; ends = refl; comes = λ was. cc })
-  refusing_drawn name answer.Full can = inl (record { why = refusal.BadShape; is = refl; ends = refl; comes = λ was. cc })
-  refusing_drawn name answer.Fenced can = inl (record { why = refusal.Fenced; is = refl; ends = refl; comes = λ was. refl })
+      → Answers refuses_none by_fence IsDone [] false site (op.Directory (directory.Add name)) a (on_drawn (mapping site objects h) a)
+  refusing_drawn name (answer.Id image) can = inr (λ live may. refl, refusing_mapped image)
+  refusing_drawn name answer.Exists can = inl (record { why = refusal.ImageExists; own = inr tt; is = refl; ends = refl; comes = λ was. cc })
+  refusing_drawn name answer.Full can = inl (record { why = refusal.BadShape; own = inr tt; is = refl; ends = refl; comes = λ was. cc })
+  refusing_drawn name answer.Fenced can = inl (record { why = refusal.Fenced; own = inl refl; is = refl; ends = refl; comes = λ was. refl })
   refusing_drawn name _ can = let no = can.can.word in cc
 
 module _ (site : SiteId) (name : List ℕ) (size : ℕ) (shape : Shape) (plan : Plan) (is : IsCreate site name size shape plan) (feds : List Fed) (steps : List Answered) where
   create_within : (r : Reply) → AreGiven steps → KeepsLimits (layout_of shape) size → IsWalk Goto plan feds steps (Return r) → CreateMeans site name size shape steps r
   create_within r given keeps walk =
       let made : IsWalk Goto (drawing site name is.objects (new_header (layout_of shape) size)) feds steps (Return r) = subst (λ p. IsWalk Goto p feds steps (Return r)) (is.within keeps) walk in
-      go r (ends_by refuses_none by_fence IsDone feds false (drawing site name is.objects (new_header (layout_of shape) size)) steps r (refusing_drawn is.objects (new_header (layout_of shape) size) site name) given made) walk
+      go r (ends_by refuses_none by_fence IsDone feds [] false (drawing site name is.objects (new_header (layout_of shape) size)) steps r (refusing_drawn is.objects (new_header (layout_of shape) size) site name) given made) walk
     where
-      go : (r : Reply) → EndsBy refuses_none by_fence IsDone false steps r → IsWalk Goto plan feds steps (Return r) → CreateMeans site name size shape steps r
+      go : (r : Reply) → EndsBy refuses_none by_fence IsDone [] false steps r → IsWalk Goto plan feds steps (Return r) → CreateMeans site name size shape steps r
       go reply.Done ends walk = record { within = keeps; made = create_makes_one site name size shape plan feds steps is keeps walk }
       go (reply.Refused x) (inl granted) walk = absurd granted
       go (reply.Refused x) (inr (y, same, from)) walk = inr (record {
@@ -118,16 +118,16 @@ create_means seat _ plan feds steps r is given walk = absurd is
 -- ---- ls, info, snap ls
 
 refusing_names : (site : SiteId) (a : Answer) → IsGiven (op.Directory directory.List) a
-    → Answers refuses_none never TellsNames false (op.Directory directory.List) a (on_names (λ names. Return (reply.Names names)) a)
-refusing_names site (answer.Names names) can = inr (λ live. refl, tt)
-refusing_names site answer.Fenced can = inl (record { why = refusal.Fenced; is = refl; ends = refl; comes = λ was. cc })
+    → Answers refuses_none never TellsNames [] false site (op.Directory directory.List) a (on_names (λ names. Return (reply.Names names)) a)
+refusing_names site (answer.Names names) can = inr (λ live may. refl, tt)
+refusing_names site answer.Fenced can = inl (record { why = refusal.Fenced; own = inl refl; is = refl; ends = refl; comes = λ was. cc })
 refusing_names site _ can = let no = can.can.word in cc
 
-refusing_shown : (grants : Reply → Type 0) (site : SiteId) (name : List ℕ) (shown : HeaderView → Reply) → ((h : HeaderView) → grants (shown h)) → IsRefusing refuses_none never grants false (show_header site name shown)
+refusing_shown : (grants : Reply → Type 0) (site : SiteId) (name : List ℕ) (shown : HeaderView → Reply) → ((h : HeaderView) → grants (shown h)) → IsRefusing refuses_none never grants [] false (show_header site name shown)
 refusing_shown grants site name shown granted =
-    refusing_find refuses_none never grants name (showing site shown) (λ image. refusing_look refuses_none never grants image (λ h. Return (shown h)) (λ h. inr (λ live. refl, granted h)))
+    refusing_find refuses_none never grants site name (showing site shown) (λ image. refusing_look refuses_none never grants site image (λ h. Return (shown h)) (λ h. inr (λ live may. refl, granted h)))
 
-list_means : (site : SiteId) (feds : List Fed) (steps : List Answered) (r : Reply) → EndsBy refuses_none never TellsNames false steps r → IsWalk Goto (list_names site) feds steps (Return r) → ListMeans site steps r
+list_means : (site : SiteId) (feds : List Fed) (steps : List Answered) (r : Reply) → EndsBy refuses_none never TellsNames [] false steps r → IsWalk Goto (list_names site) feds steps (Return r) → ListMeans site steps r
 list_means site feds steps (reply.Names names) ends walk = names_are_listed site names feds steps walk
 list_means site feds steps (reply.Refused x) (inl granted) walk = absurd granted
 list_means site feds steps (reply.Refused x) (inr (y, same, from)) walk = record {
@@ -137,7 +137,7 @@ list_means site feds steps (reply.Refused x) (inr (y, same, from)) walk = record
 list_means site feds steps _ (inl granted) walk = absurd granted
 list_means site feds steps _ (inr (y, same, from)) walk = cc
 
-info_means : (site : SiteId) (image : List ℕ) (feds : List Fed) (steps : List Answered) (r : Reply) → EndsBy refuses_none never TellsInfo false steps r
+info_means : (site : SiteId) (image : List ℕ) (feds : List Fed) (steps : List Answered) (r : Reply) → EndsBy refuses_none never TellsInfo [] false steps r
     → IsWalk Goto (show_header site image reply.Info) feds steps (Return r) → InfoMeans site image steps r
 info_means site image feds steps (reply.Info h) ends walk = header_is_shown site image reply.Info (reply.Info h) feds steps tt walk
 info_means site image feds steps (reply.Refused x) (inl granted) walk = absurd granted
@@ -148,7 +148,7 @@ info_means site image feds steps (reply.Refused x) (inr (y, same, from)) walk = 
 info_means site image feds steps _ (inl granted) walk = absurd granted
 info_means site image feds steps _ (inr (y, same, from)) walk = cc
 
-snap_list_means : (site : SiteId) (image : List ℕ) (feds : List Fed) (steps : List Answered) (r : Reply) → EndsBy refuses_none never TellsSnaps false steps r
+snap_list_means : (site : SiteId) (image : List ℕ) (feds : List Fed) (steps : List Answered) (r : Reply) → EndsBy refuses_none never TellsSnaps [] false steps r
     → IsWalk Goto (show_header site image shown_snaps) feds steps (Return r) → SnapListMeans site image steps r
 snap_list_means site image feds steps (reply.Snaps snaps) ends walk = header_is_shown site image shown_snaps (reply.Snaps snaps) feds steps tt walk
 snap_list_means site image feds steps (reply.Refused x) (inl granted) walk = absurd granted
@@ -161,19 +161,19 @@ snap_list_means site image feds steps _ (inr (y, same, from)) walk = cc
 
 -- ---- du
 
-refusing_counted : (image of : ℕ) (a : Answer) → IsGiven (op.Map image (states.Get None)) a
-    → Answers refuses_none never TellsUsed false (op.Map image (states.Get None)) a (on_bits (λ bits. Return (reply.Used (used_among of bits) of)) a)
-refusing_counted image of (answer.Bits bits) can = inr (λ live. refl, tt)
-refusing_counted image of answer.Absent can = inl (record { why = refusal.NoImage; is = refl; ends = refl; comes = λ was. cc })
-refusing_counted image of answer.Fenced can = inl (record { why = refusal.Fenced; is = refl; ends = refl; comes = λ was. cc })
-refusing_counted image of _ can = let no = can.can.word in cc
+refusing_counted : (site : SiteId) (image of : ℕ) (a : Answer) → IsGiven (op.Map image (states.Get None)) a
+    → Answers refuses_none never TellsUsed (only_image site image) false site (op.Map image (states.Get None)) a (on_bits (λ bits. Return (reply.Used (used_among of bits) of)) a)
+refusing_counted site image of (answer.Bits bits) can = inr (λ live may. refl, tt)
+refusing_counted site image of answer.Absent can = inl (record { why = refusal.NoImage; own = inr (inl refl); is = refl; ends = refl; comes = λ was. cc })
+refusing_counted site image of answer.Fenced can = inl (record { why = refusal.Fenced; own = inl refl; is = refl; ends = refl; comes = λ was. cc })
+refusing_counted site image of _ can = let no = can.can.word in cc
 
-refusing_used : (site : SiteId) (name : List ℕ) → IsRefusing refuses_none never TellsUsed false (show_used site name)
+refusing_used : (site : SiteId) (name : List ℕ) → IsRefusing refuses_none never TellsUsed [] false (show_used site name)
 refusing_used site name =
-    refusing_find refuses_none never TellsUsed name (measuring site) (λ image. refusing_look refuses_none never TellsUsed image (λ h. counting site image (object_count h.layout h.size))
-    (λ h. inr (λ live. refl, refusing_counted image (object_count h.layout h.size))))
+    refusing_find refuses_none never TellsUsed site name (measuring site) (λ image. refusing_look refuses_none never TellsUsed site image (λ h. counting site image (object_count h.layout h.size))
+    (λ h. inr (λ live may. refl, refusing_counted site image (object_count h.layout h.size))))
 
-used_means : (site : SiteId) (image : List ℕ) (feds : List Fed) (steps : List Answered) (r : Reply) → AreGiven steps → EndsBy refuses_none never TellsUsed false steps r
+used_means : (site : SiteId) (image : List ℕ) (feds : List Fed) (steps : List Answered) (r : Reply) → AreGiven steps → EndsBy refuses_none never TellsUsed [] false steps r
     → IsWalk Goto (show_used site image) feds steps (Return r) → UsedMeans site image steps r
 used_means site image feds steps (reply.Used used of) given ends walk = used_is_shown site image used of feds steps given walk
 used_means site image feds steps (reply.Refused x) given (inl granted) walk = absurd granted
@@ -186,15 +186,15 @@ used_means site image feds steps _ given (inr (y, same, from)) walk = cc
 
 -- ---- rename
 
-refusing_renamed : (from to : List ℕ) (a : Answer) → IsGiven (op.Directory (directory.Rename from to)) a
-    → Answers refuses_none never IsDone false (op.Directory (directory.Rename from to)) a (on_renamed a)
-refusing_renamed from to answer.Done can = inr (λ live. refl, tt)
-refusing_renamed from to answer.Exists can = inl (record { why = refusal.ImageExists; is = refl; ends = refl; comes = λ was. cc })
-refusing_renamed from to answer.Absent can = inl (record { why = refusal.NoImage; is = refl; ends = refl; comes = λ was. cc })
-refusing_renamed from to answer.Fenced can = inl (record { why = refusal.Fenced; is = refl; ends = refl; comes = λ was. cc })
-refusing_renamed from to _ can = let no = can.can.word in cc
+refusing_renamed : (site : SiteId) (from to : List ℕ) (a : Answer) → IsGiven (op.Directory (directory.Rename from to)) a
+    → Answers refuses_none never IsDone [] false site (op.Directory (directory.Rename from to)) a (on_renamed a)
+refusing_renamed site from to answer.Done can = inr (λ live may. refl, tt)
+refusing_renamed site from to answer.Exists can = inl (record { why = refusal.ImageExists; own = inr tt; is = refl; ends = refl; comes = λ was. cc })
+refusing_renamed site from to answer.Absent can = inl (record { why = refusal.NoImage; own = inr tt; is = refl; ends = refl; comes = λ was. cc })
+refusing_renamed site from to answer.Fenced can = inl (record { why = refusal.Fenced; own = inl refl; is = refl; ends = refl; comes = λ was. cc })
+refusing_renamed site from to _ can = let no = can.can.word in cc
 
-rename_means : (site : SiteId) (from to : List ℕ) (feds : List Fed) (steps : List Answered) (r : Reply) → EndsBy refuses_none never IsDone false steps r
+rename_means : (site : SiteId) (from to : List ℕ) (feds : List Fed) (steps : List Answered) (r : Reply) → EndsBy refuses_none never IsDone [] false steps r
     → IsWalk Goto (rename site from to) feds steps (Return r) → RenameMeans site from to steps r
 rename_means site from to feds steps reply.Done ends walk = name_is_changed site from to feds steps walk
 rename_means site from to feds steps (reply.Refused x) (inl granted) walk = absurd granted
@@ -210,13 +210,13 @@ rename_means site from to feds steps _ (inr (y, same, from_there)) walk = cc
 pub listing_means : (seat : Seat) (c : Command) (feds : List Fed) (steps : List Answered) (r : Reply) → is_listing c ≡ true → AreGiven steps
     → IsWalk Goto (listing_plan seat.home c) feds steps (Return r) → IsMeantBy seat c steps r
 listing_means seat command.List feds steps r is given walk =
-    list_means seat.home feds steps r (ends_by refuses_none never TellsNames feds false (list_names seat.home) steps r (refusing_names seat.home) given walk) walk
+    list_means seat.home feds steps r (ends_by refuses_none never TellsNames feds [] false (list_names seat.home) steps r (refusing_names seat.home) given walk) walk
 listing_means seat (command.Info image) feds steps r is given walk =
-    info_means seat.home image feds steps r (ends_by refuses_none never TellsInfo feds false (show_header seat.home image reply.Info) steps r (refusing_shown TellsInfo seat.home image reply.Info (λ h. tt)) given walk) walk
+    info_means seat.home image feds steps r (ends_by refuses_none never TellsInfo feds [] false (show_header seat.home image reply.Info) steps r (refusing_shown TellsInfo seat.home image reply.Info (λ h. tt)) given walk) walk
 listing_means seat (command.SnapList image) feds steps r is given walk =
-    snap_list_means seat.home image feds steps r (ends_by refuses_none never TellsSnaps feds false (show_header seat.home image shown_snaps) steps r (refusing_shown TellsSnaps seat.home image shown_snaps (λ h. tt)) given walk) walk
+    snap_list_means seat.home image feds steps r (ends_by refuses_none never TellsSnaps feds [] false (show_header seat.home image shown_snaps) steps r (refusing_shown TellsSnaps seat.home image shown_snaps (λ h. tt)) given walk) walk
 listing_means seat (command.Used image) feds steps r is given walk =
-    used_means seat.home image feds steps r given (ends_by refuses_none never TellsUsed feds false (show_used seat.home image) steps r (refusing_used seat.home image) given walk) walk
+    used_means seat.home image feds steps r given (ends_by refuses_none never TellsUsed feds [] false (show_used seat.home image) steps r (refusing_used seat.home image) given walk) walk
 listing_means seat (command.Rename from to) feds steps r is given walk =
-    rename_means seat.home from to feds steps r (ends_by refuses_none never IsDone feds false (rename seat.home from to) steps r (refusing_renamed from to) given walk) walk
+    rename_means seat.home from to feds steps r (ends_by refuses_none never IsDone feds [] false (rename seat.home from to) steps r (refusing_renamed seat.home from to) given walk) walk
 listing_means seat _ feds steps r is given walk = cc

@@ -11,9 +11,9 @@ use Rattle.rbd_kinds.proofs.Results.{same_refusal}
 use Rattle.rbd_commands.specs.declared.refusal.Refusal.{Refusal}
 use Rattle.rbd_machine.specs.Path.{Answered, IsWalk, found, looked_at}
 use Rattle.rbd_machine.specs.Plan.{Plan, Return, Goto}
-use Rattle.rbd_machine.specs.Refused.{by_fence, AreGiven, AreLooks, IsRefusedBy}
+use Rattle.rbd_machine.specs.Refused.{by_fence, AreGiven, AreLooks, IsRefusedBy, IsRefusedWith}
 use Rattle.rbd_machine.specs.Steps.{applied, change_plan}
-use Rattle.rbd_machine.proofs.Refused.{EndsBy, IsRefusing, ends_by}
+use Rattle.rbd_machine.proofs.Refused.{EndsBy, IsRefusing, ends_by, only_image}
 use Rattle.rbd_machine.proofs.Walked.{Changed}
 use Rattle.rbd_meaning.specs.Parentless.{AreParentless}
 use Rattle.rbd_meaning.specs.Partly.{IsFrontOf}
@@ -50,15 +50,16 @@ module _ (site : SiteId) (name : List ℕ) (refuses : HeaderView → Option Refu
     looks rest = found site name image ∷ looked_at site image first ∷ looked_at site image own ∷ rest
 
     -- behind its looks
-    late_so : (rest : List Answered) (x : Refusal) → IsRefusedBy refuses by_fence rest x → IsCutOff (act image own) rest
+    late_so : (rest : List Answered) (x : Refusal) → IsRefusedWith (only_image site image) refuses by_fence rest x → IsCutOff (act image own) rest
         → ((feds : List Fed) (rest : List Answered) → IsWalk Goto (act image own) feds rest (Return reply.Done) → IsWhole (looks rest)) → IsRefusedSo (looks rest) x
     late_so rest x by cut whole = record {
       by = record {
         before = looks by.before;
         last = by.last;
         are = ap looks by.are;
+        own = by.own;
         refused = by.refused;
-        allowed = (refl, (may_wait, (may, by.allowed)));
+        allowed = (λ own. refl, (λ own. may_wait, (λ own. may, by.allowed)));
         unchanged = λ late. (refl, (refl, (refl, by.unchanged late)));
       };
       so_far = inr (record {
@@ -67,26 +68,26 @@ module _ (site : SiteId) (name : List ℕ) (refuses : HeaderView → Option Refu
       });
     }
 
-    no_steps : (rest : List Answered) (x : Refusal) → rest ≡ [] → IsRefusedBy refuses by_fence rest x → ⊥
+    no_steps : (rest : List Answered) (x : Refusal) → rest ≡ [] → IsRefusedWith (only_image site image) refuses by_fence rest x → ⊥
     no_steps rest x none by = go by.before (sym none ∙ by.are)
       where
         go : (before : List Answered) → [] ≡ before ++ by.last ∷ [] → ⊥
         go [] same = cc
         go (s ∷ before) same = cc
 
-    own_so : (feds : List Fed) (rest : List Answered) (x : Refusal) → AreGiven rest → IsRefusing refuses by_fence IsDone false (act image own) → IsHopeful (act image own)
+    own_so : (feds : List Fed) (rest : List Answered) (x : Refusal) → AreGiven rest → IsRefusing refuses by_fence IsDone (only_image site image) false (act image own) → IsHopeful (act image own)
         → ((feds : List Fed) (rest : List Answered) → IsWalk Goto (act image own) feds rest (Return reply.Done) → IsWhole (looks rest))
         → IsWalk Goto (act image own) feds rest (Return (reply.Refused x)) → IsRefusedSo (looks rest) x
-    own_so feds rest x given refusing hopeful whole walk = go (ends_by refuses by_fence IsDone feds false (act image own) rest (reply.Refused x) refusing given walk) (cut_off x (act image own) feds rest hopeful walk)
+    own_so feds rest x given refusing hopeful whole walk = go (ends_by refuses by_fence IsDone feds (only_image site image) false (act image own) rest (reply.Refused x) refusing given walk) (cut_off x (act image own) feds rest hopeful walk)
       where
-        go : EndsBy refuses by_fence IsDone false rest (reply.Refused x) → (rest ≡ []) ⊎ IsCutOff (act image own) rest → IsRefusedSo (looks rest) x
+        go : EndsBy refuses by_fence IsDone (only_image site image) false rest (reply.Refused x) → (rest ≡ []) ⊎ IsCutOff (act image own) rest → IsRefusedSo (looks rest) x
         go (inl granted) cut = absurd granted
         go (inr (y, same, from)) (inl none) = absurd (no_steps rest y none from.by)
-        go (inr (y, same, from)) (inr cut) = late_so rest x (subst (IsRefusedBy refuses by_fence rest) (same_refusal x y same) from.by) cut whole
+        go (inr (y, same, from)) (inr cut) = late_so rest x (subst (IsRefusedWith (only_image site image) refuses by_fence rest) (same_refusal x y same) from.by) cut whole
 
   -- what the act owes
   pub record IsAct (image : ℕ) (own : HeaderView) : Type 0 where
-    pub refusing : IsRefusing refuses by_fence IsDone false (act image own)
+    pub refusing : IsRefusing refuses by_fence IsDone (only_image site image) false (act image own)
     pub hopeful : IsHopeful (act image own)
 
   module _ (feds : List Fed) (steps : List Answered) (given : AreGiven steps) (parentless : AreParentless steps)
@@ -115,14 +116,14 @@ module _ (site : SiteId) (name : List ℕ) (refuses : HeaderView → Option Refu
     pub done_or_refused : (r : Reply) → IsWalk Goto (change_plan site name sharing.Alone refuses act) feds steps (Return r) → IsDone r ⊎ ((x : Refusal) × (r ≡ reply.Refused x))
     done_or_refused r walk = go (change_ends r site name sharing.Alone refuses act steps feds walk)
       where
-        at_end : (rest : List Answered) → EndsBy refuses by_fence IsDone false rest r → IsDone r ⊎ ((x : Refusal) × (r ≡ reply.Refused x))
-        at_end rest (inl granted) = inl granted
-        at_end rest (inr (y, same, from)) = inr (y, same)
+        at_end : (image : ℕ) (rest : List Answered) → EndsBy refuses by_fence IsDone (only_image site image) false rest r → IsDone r ⊎ ((x : Refusal) × (r ≡ reply.Refused x))
+        at_end image rest (inl granted) = inl granted
+        at_end image rest (inr (y, same, from)) = inr (y, same)
 
         go : Changed (Return r) site name refuses act steps ⊎ IsEarly refuses steps r → IsDone r ⊎ ((x : Refusal) × (r ≡ reply.Refused x))
         go (inl c) =
             let a = acts c.image c.own (no_parent c.image c.first c.own c.rest c.are) c.may in
-            at_end c.rest (ends_by refuses by_fence IsDone c.more false (act c.image c.own) c.rest r a.refusing (given_rest c.image c.first c.own c.rest c.are) c.walk)
+            at_end c.image c.rest (ends_by refuses by_fence IsDone c.more (only_image site c.image) false (act c.image c.own) c.rest r a.refusing (given_rest c.image c.first c.own c.rest c.are) c.walk)
         go (inr e) = inr (e.why, e.is)
 
 -- ---- resize
@@ -134,7 +135,7 @@ set_size_acts site name to image own none may =
     let hopes = built_resize (λ k p. Hopes k) (λ k p. Hopes k) (λ o. Unit {0}) (λ inside. Unit {0}) site image (hopes_rules site image) own (λ number. tt) to objects (applied site image) (applied site image) (record { can = tt; hopeful = tt }) in
     record {
       refusing =
-          built_resize (λ k p. Refusing refuses k) (λ k p. IsRefusing refuses by_fence IsDone false k) (IsDoneOrFenced refuses) IsOutside site image (refusing_rules refuses site image) own (outside own none) to objects
+          built_resize (λ k p. Refusing refuses site image k) (λ k p. IsRefusing refuses by_fence IsDone (only_image site image) false k) (IsDoneOrFenced refuses) IsOutside site image (refusing_rules refuses site image) own (outside own none) to objects
           (applied site image) (applied site image) (λ changed. tt);
       hopeful = hopes.hopeful;
     }
