@@ -14,7 +14,7 @@ use Rattle.rbd_machine.specs.Plan.{Plan, Return, Goto}
 use Rattle.rbd_machine.specs.Refused.{by_fence, AreGiven}
 use Rattle.rbd_machine.specs.Steps.{applied, non_primary}
 use Rattle.rbd_machine.proofs.Lawful.{or_else_none}
-use Rattle.rbd_machine.proofs.Refused.{IsRefusing}
+use Rattle.rbd_machine.proofs.Refused.{IsRefusing, only_image}
 use Rattle.rbd_meaning.specs.Parentless.{AreParentless}
 use Rattle.rbd_meaning.specs.Rollbacks.{RollbackMeans, RollsBack, listing_refusal, rollback_refuses}
 use Rattle.rbd_snap.specs.Rollback.{roll_back_listed, roll_back_to, rollback}
@@ -27,7 +27,7 @@ use Rattle.rbd_image.proofs.ResizesMeant.{IsAct, done_or_refused, refused_so}
 
 module _ (site : SiteId) (name snap : List ℕ) (image : ℕ) (own : HeaderView) (none : own.parent ≡ None) (may : rollback_refuses snap own ≡ None) where
   abbrev IsThisAct : Plan → Type 0
-  IsThisAct p = IsRefusing (rollback_refuses snap) by_fence IsDone false p × IsHopeful p
+  IsThisAct p = IsRefusing (rollback_refuses snap) by_fence IsDone (only_image site image) false p × IsHopeful p
 
   listed_acts : (listed : Option SnapView) → snap_named own.snaps snap ≡ listed → IsThisAct (roll_back_listed site snap image own listed)
   listed_acts None is =
@@ -37,7 +37,7 @@ module _ (site : SiteId) (name snap : List ℕ) (image : ℕ) (own : HeaderView)
   listed_acts (Some listed) is =
       let refuses = rollback_refuses snap in
       let refusing =
-      built_roll_back (λ k p. Refusing refuses k) (λ k p. IsRefusing refuses by_fence IsDone false k) (IsDoneOrFenced refuses) IsOutside site image (refusing_rules refuses site image) own (outside own none) listed
+      built_roll_back (λ k p. Refusing refuses site image k) (λ k p. IsRefusing refuses by_fence IsDone (only_image site image) false k) (IsDoneOrFenced refuses) IsOutside site image (refusing_rules refuses site image) own (outside own none) listed
       (applied site image) (applied site image) (λ changed. tt) in
       let hopes =
       built_roll_back (λ k p. Hopes k) (λ k p. Hopes k) (λ o. Unit {0}) (λ inside. Unit {0}) site image (hopes_rules site image) own (λ number. tt) listed (applied site image) (applied site image) (record { can = tt; hopeful = tt }) in
