@@ -1,5 +1,5 @@
 -- What replies mean, command by command.
-use Rattle.std.proofs.Common.{◌≡◌, inl, inr, ℕ, List, Bool, true, false, Option, Some, None, is_some, refl, subst}
+use Rattle.std.proofs.Common.{◌≡◌, inl, inr, ℕ, List, [], Bool, true, false, Option, Some, None, is_some, refl, subst}
 use Rattle.rbd_kinds.specs.declared.sharing.Sharing.TheVariants as sharing
 use Rattle.rbd_kinds.specs.declared.answer.Answer.{Answer}
 use Rattle.rbd_kinds.specs.declared.answer.Answer.TheVariants as answer
@@ -20,7 +20,7 @@ use Rattle.rbd_machine.specs.Plan.{Plan, Return, Goto}
 use Rattle.rbd_machine.specs.Refused.{refuses_none, never, AreGiven, IsGiven, IsRefused, IsRefusedBy}
 use Rattle.rbd_machine.specs.Steps.{on_done}
 use Rattle.rbd_machine.specs.declared.seat.Seat.{Seat}
-use Rattle.rbd_machine.proofs.Refused.{IsRefusing, Answers, EndsBy, ends_by, refusing_find, refusing_change}
+use Rattle.rbd_machine.proofs.Refused.{IsRefusing, Answers, EndsBy, ends_by, only_image, refusing_find, refusing_change}
 use Rattle.rbd_meaning.specs.Closes.{gone_or_fenced, CloseMeans, QuiesceMeans}
 use Rattle.rbd_meaning.specs.Meant.{IsMeantBy, MeantBy}
 use Rattle.rbd_lock.specs.Steps.{lock_drop}
@@ -36,54 +36,54 @@ IsDone _ = ⊥
 -- ---- an operation that is done, or isn't since the image is gone or the instance is fenced
 
 module _ (late : Refusal → Type 0) (changed : Bool) (gone : changed ≡ true → late refusal.NoImage) (fenced : changed ≡ true → late refusal.Fenced)
-    (next : Plan) (goes_on : IsRefusing refuses_none late IsDone true next) (image : ℕ) where
-  refusing_notify : (kind : NoticeKind) (a : Answer) → IsGiven (notify image kind) a → Answers refuses_none late IsDone changed (notify image kind) a (on_done next a)
-  refusing_notify kind answer.Done can = inr (λ live. refl, goes_on)
-  refusing_notify kind answer.Absent can = inl (record { why = refusal.NoImage; is = refl; ends = refl; comes = gone })
-  refusing_notify kind answer.Fenced can = inl (record { why = refusal.Fenced; is = refl; ends = refl; comes = fenced })
+    (site : SiteId) (image : ℕ) (next : Plan) (goes_on : IsRefusing refuses_none late IsDone (only_image site image) true next) where
+  refusing_notify : (kind : NoticeKind) (a : Answer) → IsGiven (notify image kind) a → Answers refuses_none late IsDone (only_image site image) changed site (notify image kind) a (on_done next a)
+  refusing_notify kind answer.Done can = inr (λ live may. refl, goes_on)
+  refusing_notify kind answer.Absent can = inl (record { why = refusal.NoImage; own = inr (inl refl); is = refl; ends = refl; comes = gone })
+  refusing_notify kind answer.Fenced can = inl (record { why = refusal.Fenced; own = inl refl; is = refl; ends = refl; comes = fenced })
   refusing_notify kind _ can = let no = can.can.word in cc
 
-  refusing_unwatch : (a : Answer) → IsGiven (unwatch image) a → Answers refuses_none late IsDone changed (unwatch image) a (on_done next a)
-  refusing_unwatch answer.Done can = inr (λ live. refl, goes_on)
-  refusing_unwatch answer.Absent can = inl (record { why = refusal.NoImage; is = refl; ends = refl; comes = gone })
-  refusing_unwatch answer.Fenced can = inl (record { why = refusal.Fenced; is = refl; ends = refl; comes = fenced })
+  refusing_unwatch : (a : Answer) → IsGiven (unwatch image) a → Answers refuses_none late IsDone (only_image site image) changed site (unwatch image) a (on_done next a)
+  refusing_unwatch answer.Done can = inr (λ live may. refl, goes_on)
+  refusing_unwatch answer.Absent can = inl (record { why = refusal.NoImage; own = inr (inl refl); is = refl; ends = refl; comes = gone })
+  refusing_unwatch answer.Fenced can = inl (record { why = refusal.Fenced; own = inl refl; is = refl; ends = refl; comes = fenced })
   refusing_unwatch _ can = let no = can.can.word in cc
 
 module _ (site : SiteId) where
   -- ---- close
 
-  refusing_unwatching : (image : ℕ) → IsRefusing refuses_none gone_or_fenced IsDone true (unwatching site image)
-  refusing_unwatching image = refusing_unwatch gone_or_fenced true (λ was. tt) (λ was. tt) replies_done tt image
+  refusing_unwatching : (image : ℕ) → IsRefusing refuses_none gone_or_fenced IsDone (only_image site image) true (unwatching site image)
+  refusing_unwatching image = refusing_unwatch gone_or_fenced true (λ was. tt) (λ was. tt) site image replies_done tt
 
-  refusing_dropped : (image : ℕ) (a : Answer) → IsGiven (lock_drop image) a → Answers refuses_none gone_or_fenced IsDone false (lock_drop image) a (on_dropped site image a)
+  refusing_dropped : (image : ℕ) (a : Answer) → IsGiven (lock_drop image) a → Answers refuses_none gone_or_fenced IsDone (only_image site image) false site (lock_drop image) a (on_dropped site image a)
   refusing_dropped image answer.Done can =
-      inr (λ live. refl, refusing_notify gone_or_fenced true (λ was. tt) (λ was. tt) (unwatching site image) (refusing_unwatching image) image notice.ReleasedLock)
-  refusing_dropped image answer.Changed can = inr (λ live. refl, refusing_unwatching image)
-  refusing_dropped image answer.Absent can = inl (record { why = refusal.NoImage; is = refl; ends = refl; comes = λ was. tt })
-  refusing_dropped image answer.Fenced can = inl (record { why = refusal.Fenced; is = refl; ends = refl; comes = λ was. tt })
+      inr (λ live may. refl, refusing_notify gone_or_fenced true (λ was. tt) (λ was. tt) site image (unwatching site image) (refusing_unwatching image) notice.ReleasedLock)
+  refusing_dropped image answer.Changed can = inr (λ live may. refl, refusing_unwatching image)
+  refusing_dropped image answer.Absent can = inl (record { why = refusal.NoImage; own = inr (inl refl); is = refl; ends = refl; comes = λ was. tt })
+  refusing_dropped image answer.Fenced can = inl (record { why = refusal.Fenced; own = inl refl; is = refl; ends = refl; comes = λ was. tt })
   refusing_dropped image _ can = let no = can.can.word in cc
 
-  refusing_close : (name : List ℕ) → IsRefusing refuses_none gone_or_fenced IsDone false (close site name)
-  refusing_close name = refusing_find refuses_none gone_or_fenced IsDone name (joining site) refusing_dropped
+  refusing_close : (name : List ℕ) → IsRefusing refuses_none gone_or_fenced IsDone [] false (close site name)
+  refusing_close name = refusing_find refuses_none gone_or_fenced IsDone site name (joining site) refusing_dropped
 
   -- ---- the others change nothing before their last operation
 
-  refusing_quiesce : (name : List ℕ) → IsRefusing refuses_none never IsDone false (quiesce site name)
+  refusing_quiesce : (name : List ℕ) → IsRefusing refuses_none never IsDone [] false (quiesce site name)
   refusing_quiesce name = refusing_change refuses_none never IsDone site name sharing.Alone quiesced (λ i h may. tt)
 
-  refusing_telling : (o : Option (List ℕ)) (image : ℕ) → IsRefusing refuses_none never IsDone false (telling site o image)
+  refusing_telling : (o : Option (List ℕ)) (image : ℕ) → IsRefusing refuses_none never IsDone (only_image site image) false (telling site o image)
   refusing_telling None image = tt
-  refusing_telling (Some bytes) image = refusing_notify never false (λ was. cc) (λ was. cc) replies_done tt image (notice.Custom bytes)
+  refusing_telling (Some bytes) image = refusing_notify never false (λ was. cc) (λ was. cc) site image replies_done tt (notice.Custom bytes)
 
-  refusing_straight : (s : Straight) → IsRefusing refuses_none never IsDone false (straight site s)
-  refusing_straight s = refusing_find refuses_none never IsDone s.name (telling site s.tells) (refusing_telling s.tells)
+  refusing_straight : (s : Straight) → IsRefusing refuses_none never IsDone [] false (straight site s)
+  refusing_straight s = refusing_find refuses_none never IsDone site s.name (telling site s.tells) (refusing_telling s.tells)
 
 -- ---- replies
 
 module _ (late : Refusal → Type 0) (site : SiteId) (name : List ℕ) (steps : List Answered) where
   -- how a request may end: done, or refused by its last answer
   abbrev EndsSo : Reply → Type 0
-  EndsSo r = EndsBy refuses_none late IsDone false steps r
+  EndsSo r = EndsBy refuses_none late IsDone [] false steps r
 
   is_refused : (x y : Refusal) → AreOwn site (look_up name) steps → reply.Refused x ≡ reply.Refused y → IsRefusedBy refuses_none late steps y → IsRefused site (look_up name) refuses_none late steps x
   is_refused x y own same by = record { own = own; by = subst (IsRefusedBy refuses_none late steps) (same_refusal x y same) by }
@@ -115,12 +115,12 @@ means_straight : (seat : Seat) (c : Command) (o : Option Straight) (feds : List 
     → IsWalk Goto (straight_plan seat.home o) feds steps (Return r) → MeantBy o seat c steps r
 means_straight seat c None feds steps r is given walk = cc
 means_straight seat c (Some s) feds steps r is given walk =
-    straight_means seat.home s feds steps r (ends_by refuses_none never IsDone feds false (straight seat.home s) steps r (refusing_straight seat.home s) given walk) walk
+    straight_means seat.home s feds steps r (ends_by refuses_none never IsDone feds [] false (straight seat.home s) steps r (refusing_straight seat.home s) given walk) walk
 
 pub means : (seat : Seat) (c : Command) (feds : List Fed) (steps : List Answered) (r : Reply) → is_close c ≡ true → AreGiven steps
     → IsWalk Goto (close_plan seat.home c) feds steps (Return r) → IsMeantBy seat c steps r
 means seat (command.Close image) feds steps r is given walk =
-    close_means seat.home image feds steps r (ends_by refuses_none gone_or_fenced IsDone feds false (close seat.home image) steps r (refusing_close seat.home image) given walk) walk
+    close_means seat.home image feds steps r (ends_by refuses_none gone_or_fenced IsDone feds [] false (close seat.home image) steps r (refusing_close seat.home image) given walk) walk
 means seat (command.Quiesce image) feds steps r is given walk =
-    quiesce_means seat.home image feds steps r (ends_by refuses_none never IsDone feds false (quiesce seat.home image) steps r (refusing_quiesce seat.home image) given walk) walk
+    quiesce_means seat.home image feds steps r (ends_by refuses_none never IsDone feds [] false (quiesce seat.home image) steps r (refusing_quiesce seat.home image) given walk) walk
 means seat c feds steps r is given walk = means_straight seat c (straight_of c) feds steps r is given walk
