@@ -26,7 +26,7 @@ use Rattle.rbd_machine.specs.Wait as wait
 use Rattle.rbd_machine.specs.declared.reason.Reason.TheVariants as reason
 use Rattle.rbd_machine.proofs.Walked.{ended, absent_ends, asked_to, awaited_to, noted_to}
 use Rattle.rbd_meaning.specs.Range.{extent_at}
-use Rattle.rbd_meaning.specs.Writes.{write_refuses, state_raised, piece_written, pieces_written, IsPieceBegun, WritesSome, RefusesWrite}
+use Rattle.rbd_meaning.specs.Writes.{write_refuses, state_raised, piece_written, AreWritten, IsPieceBegun, WritesSome, RefusesWrite}
 use Rattle.rbd_meaning.proofs.Ends.{same_front}
 use Rattle.rbd_pieces.specs.Write.{write_piece, writing}
 use Rattle.rbd_data.specs.Write.{put_plan, write, write_pieces}
@@ -45,7 +45,9 @@ record PiecesStop (site : SiteId) (image : ℕ) (h : HeaderView) (at : ℕ) (byt
   pub last : Answered
   pub pieces : all ≡ written ++ left
   pub is_begun : IsPieceBegun site image left begun
-  pub are : steps ≡ (pieces_written site image h at bytes written ++ begun) ++ last ∷ []
+  pub written_steps : List Answered
+  pub are_written : AreWritten site image h at bytes written written_steps
+  pub are : steps ≡ (written_steps ++ begun) ++ last ∷ []
 
 module _ (x : Refusal) (site : SiteId) (name : List ℕ) (at : ℕ) (bytes : List ℕ) where
   abbrev Refused : Plan
@@ -96,6 +98,14 @@ module _ (x : Refusal) (site : SiteId) (name : List ℕ) (at : ℕ) (bytes : Lis
             last = later.last;
             pieces = ap (λ q. p ∷ q) later.pieces;
             is_begun = later.is_begun;
+            written_steps = state_raised site image p ∷ piece_written site image h at bytes p ∷ later.written_steps;
+            are_written = record {
+              first = state_raised site image p ∷ piece_written site image h at bytes p ∷ [];
+              others = later.written_steps;
+              is_first = refl;
+              are_others = later.are_written;
+              are = refl;
+            };
             are = are ∙ ap (λ s. state_raised site image p ∷ piece_written site image h at bytes p ∷ s) later.are;
           }
       go a more last are w = record {
@@ -105,6 +115,8 @@ module _ (x : Refusal) (site : SiteId) (name : List ℕ) (at : ℕ) (bytes : Lis
         last = asked (write_of image h p) a;
         pieces = refl;
         is_begun = refl;
+        written_steps = [];
+        are_written = refl;
         are = are ∙ ap (λ s. state_raised site image p ∷ asked (write_of image h p) a ∷ s) (absent_ends a more last Refused w);
       }
 
@@ -131,6 +143,8 @@ module _ (x : Refusal) (site : SiteId) (name : List ℕ) (at : ℕ) (bytes : Lis
         last = asked (raise_of image p) a;
         pieces = refl;
         is_begun = tt;
+        written_steps = [];
+        are_written = refl;
         are = are ∙ ap (λ s. asked (raise_of image p) a ∷ s) (absent_ends a more rest Refused r);
       }
 
@@ -150,7 +164,7 @@ module _ (x : Refusal) (site : SiteId) (name : List ℕ) (at : ℕ) (bytes : Lis
       let n = noted_to (reply.Refused x) site image (event.Write at bytes) (write_pieces site image own at bytes pieces (applied site image)) feds rest walk in
       let stop = pieces_stop pieces image own n.more rest n.walk in
       record {
-        before = found site name image ∷ looked_at site image first ∷ looked_at site image own ∷ (pieces_written site image own at bytes stop.written ++ stop.begun);
+        before = found site name image ∷ looked_at site image first ∷ looked_at site image own ∷ (stop.written_steps ++ stop.begun);
         last = stop.last;
         are = are ∙ ap (λ s. found site name image ∷ looked_at site image first ∷ looked_at site image own ∷ s) stop.are;
         so_far = inr (record {
@@ -162,6 +176,8 @@ module _ (x : Refusal) (site : SiteId) (name : List ℕ) (at : ℕ) (bytes : Lis
           written = stop.written;
           left = stop.left;
           pieces = stop.pieces;
+          written_steps = stop.written_steps;
+          are_written = stop.are_written;
           begun = stop.begun;
           is_begun = stop.is_begun;
           are = refl;

@@ -1,5 +1,5 @@
 -- A write that is done, step by step.
-use Rattle.std.proofs.Common.{◌≡◌, ℕ, List, [], ◌∷◌, ap, ◌∙◌}
+use Rattle.std.proofs.Common.{ℕ, List, [], ◌∷◌, refl, ap, ◌∙◌}
 use Rattle.rbd_kinds.specs.declared.sharing.Sharing.TheVariants as sharing
 use Rattle.rbd_kinds.specs.declared.header.HeaderView.{HeaderView}
 use Rattle.rbd_kinds.specs.declared.id.SiteId.{SiteId}
@@ -10,7 +10,7 @@ use Rattle.rbd_layout.specs.Pieces.{pieces_of}
 use Rattle.rbd_layout.specs.declared.types.Piece.{Piece}
 use Rattle.rbd_parts.specs.Parts.{bytes_for}
 use Rattle.rbd_header.specs.Header.{context_of}
-use Rattle.rbd_machine.specs.Path.{Answered, IsWalk, found, looked_at}
+use Rattle.rbd_machine.specs.Path.{Answered, IsWalk}
 use Rattle.rbd_machine.specs.Plan.{Return, Goto}
 use Rattle.rbd_machine.specs.Wait as wait
 use Rattle.rbd_machine.specs.declared.reason.Reason.TheVariants as reason
@@ -20,12 +20,12 @@ use Rattle.rbd_pieces.specs.Write.{write_piece, writing}
 use Rattle.rbd_data.specs.Write.{put_plan, write, write_pieces}
 use Rattle.rbd_machine.proofs.Walked.{ended, went_on, awaited, noted, told_done, changed}
 use Rattle.rbd_meaning.specs.Range.{extent_at}
-use Rattle.rbd_meaning.specs.Writes.{WritesWhole, state_raised, piece_written, pieces_written, write_refuses}
+use Rattle.rbd_meaning.specs.Writes.{AreWritten, WritesWhole, state_raised, piece_written, write_refuses}
 
 -- ---- the pieces
 
 written : (pieces : List Piece) (site : SiteId) (image : ℕ) (h : HeaderView) (at : ℕ) (bytes : List ℕ) (feds : List Fed) (steps : List Answered)
-    → IsWalk Goto (write_pieces site image h at bytes pieces (applied site image)) feds steps (Return reply.Done) → steps ≡ pieces_written site image h at bytes pieces
+    → IsWalk Goto (write_pieces site image h at bytes pieces (applied site image)) feds steps (Return reply.Done) → AreWritten site image h at bytes pieces steps
 written [] site image h at bytes feds steps walk =
     let a = awaited (Return reply.Done) tt (wait.Applied site image) (Return reply.Done) feds steps walk in
     (ended reply.Done a.more steps (Return reply.Done) a.walk).0
@@ -38,10 +38,15 @@ written (p ∷ pieces) site image h at bytes feds steps walk =
     let s = told_done (Return reply.Done) tt later r.answer r.more r.rest r.walk in
     let w = went_on (Return reply.Done) tt site reason.Own (data_write image (context_of h) p put) (on_done next) r.more r.rest s.walk in
     let d = told_done (Return reply.Done) tt next w.answer w.more w.rest w.walk in
-    r.are ∙ ap (λ a. record { site = site; op = map_exists image p.object; answer = a } ∷ r.rest) s.is
-    ∙ ap (λ steps. state_raised site image p ∷ steps)
-    (w.are ∙ ap (λ a. record { site = site; op = data_write image (context_of h) p put; answer = a } ∷ w.rest) d.is
-    ∙ ap (λ steps. piece_written site image h at bytes p ∷ steps) (written pieces site image h at bytes w.more w.rest d.walk))
+    record {
+      first = state_raised site image p ∷ piece_written site image h at bytes p ∷ [];
+      others = w.rest;
+      is_first = refl;
+      are_others = written pieces site image h at bytes w.more w.rest d.walk;
+      are =
+          r.are ∙ ap (λ a. record { site = site; op = map_exists image p.object; answer = a } ∷ r.rest) s.is
+          ∙ ap (λ steps. state_raised site image p ∷ steps) (w.are ∙ ap (λ a. record { site = site; op = data_write image (context_of h) p put; answer = a } ∷ w.rest) d.is);
+    }
 
 -- ---- the whole
 
@@ -57,5 +62,7 @@ write_is_whole site name at bytes feds steps walk =
       own = c.own;
       may_wait = c.may_wait;
       may = c.may;
-      are = c.are ∙ ap (λ s. found site name c.image ∷ looked_at site c.image c.first ∷ looked_at site c.image c.own ∷ s) (written pieces site c.image c.own at bytes e.more c.rest e.walk);
+      written = c.rest;
+      are_written = written pieces site c.image c.own at bytes e.more c.rest e.walk;
+      are = c.are;
     }

@@ -4,5 +4,6 @@ pub mod Counts
 pub mod Ends
 pub mod Meant
 pub mod One
+pub mod Fixed
 pub mod Undone
 pub mod Whole

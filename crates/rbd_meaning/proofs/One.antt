@@ -40,10 +40,10 @@ use Rattle.rbd_meaning.specs.Resizes.{resize_refuses, RefusesResize, ResizeMeans
 use Rattle.rbd_meaning.specs.Rollbacks.{rollback_refuses, RefusesRollback, RollbackMeans, RollsBack}
 use Rattle.rbd_meaning.specs.Snaps.{map_told, create_refuses, remove_refuses, map_removed, IsGone, TakesOne, RemovesOne, RefusesRemoval, SnapCreateMeans, SnapRemoveMeans}
 use Rattle.rbd_meaning.specs.Straight.{all_told, bytes_told, GoesStraight, MeansStraight, Straight, straight_of, StraightMeans}
-use Rattle.rbd_meaning.specs.Writes.{write_refuses, state_raised, piece_written, pieces_written, WritesWhole, RefusesWrite, WriteMeans}
+use Rattle.rbd_meaning.specs.Writes.{write_refuses, WritesWhole, RefusesWrite, WriteMeans}
 use Rattle.rbd_meaning.proofs.Counts.{one_count}
 use Rattle.rbd_meaning.proofs.Ends.{same_last, same_front}
-use Rattle.rbd_meaning.proofs.Whole.{allowed_ends, discard_allowed, removal_ends, resize_allowed, rollback_allowed}
+use Rattle.rbd_meaning.proofs.Whole.{allowed_ends, discard_allowed, removal_ends, resize_allowed, rollback_allowed, write_allowed}
 
 -- ---- replies that are granted or refused, each by what holds behind the same operations
 
@@ -116,20 +116,7 @@ module _ (site : SiteId) (name : List ℕ) (size : ℕ) (shape : Shape) (steps :
 
 -- ---- write, fill
 
-record LastWritten (e : Extent) (steps : List Answered) : Type 0 where
-  pub front : List Answered
-  pub last : Answered
-  pub are : steps ≡ front ++ last ∷ []
-  pub none : refusal_by (write_refuses e) last.op last.answer ≡ None
-
 module _ (site : SiteId) (name : List ℕ) (at : ℕ) (bytes : List ℕ) where
-  last_written : (pieces : List Piece) (image : ℕ) (h : HeaderView) (s : Answered) → refusal_by (write_refuses (extent_at at bytes)) s.op s.answer ≡ None
-      → LastWritten (extent_at at bytes) (s ∷ pieces_written site image h at bytes pieces)
-  last_written [] image h s none = record { front = []; last = s; are = refl; none = none }
-  last_written (p ∷ pieces) image h s none =
-      let later = last_written pieces image h (piece_written site image h at bytes p) refl in
-      record { front = s ∷ state_raised site image p ∷ later.front; last = later.last; are = ap (λ r. s ∷ state_raised site image p ∷ r) later.are; none = later.none }
-
   module _ (steps : List Answered) where
     write_is : (r : Reply) → WriteMeans site name at bytes steps r → Is (DoneBy (WritesWhole site name at bytes steps)) (RefusesWrite site name at bytes steps) r
     write_is reply.Done meant = inl meant
@@ -137,10 +124,7 @@ module _ (site : SiteId) (name : List ℕ) (at : ℕ) (bytes : List ℕ) where
     write_is _ meant = absurd meant
 
     write_apart : (r : Reply) (x : Refusal) → DoneBy (WritesWhole site name at bytes steps) r → RefusesWrite site name at bytes steps x → ⊥
-    write_apart reply.Done x whole refused =
-        let last = last_written (pieces_of whole.own.layout (extent_at at bytes)) whole.image whole.own (looked_at site whole.image whole.own) whole.may in
-        unrefused (write_refuses (extent_at at bytes)) by_fence steps (found site name whole.image ∷ looked_at site whole.image whole.first ∷ last.front) last.last x
-        (whole.are ∙ ap (λ s. found site name whole.image ∷ looked_at site whole.image whole.first ∷ s) last.are) last.none refused.refused.by
+    write_apart reply.Done x whole refused = allowed_ends (write_refuses (extent_at at bytes)) by_fence steps x (write_allowed site name at bytes steps whole) refused.refused.by
     write_apart _ x whole refused = absurd whole
 
     one_write : (r s : Reply) → WriteMeans site name at bytes steps r → WriteMeans site name at bytes steps s → r ≡ s

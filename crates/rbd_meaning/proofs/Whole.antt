@@ -26,15 +26,18 @@ use Rattle.rbd_machine.specs.Knowledge.{ImagePlace}
 use Rattle.rbd_machine.specs.Path.{Answered}
 use Rattle.rbd_machine.specs.Refused.{refusal_by, AreAllowed, IsRefusedBy, MayRefuse}
 use Rattle.rbd_pieces.specs.Full.{cut_bytes, replaced_by}
+use Rattle.rbd_pieces.specs.Pieces.{ArePieces}
 use Rattle.rbd_pieces.specs.Shrink.{pieces_from}
 use Rattle.rbd_pieces.specs.Size.{pieces_zeroed, IsResizedBy}
 use Rattle.rbd_pieces.specs.Zero.{all_zeroed, is_inside, is_whole, some_zeroed, zeroed_steps, zeroed_by}
+use Rattle.rbd_pieces.proofs.Pieces.{of_each_piece}
 use Rattle.rbd_meaning.specs.Discards.{DiscardsWhole}
+use Rattle.rbd_meaning.specs.Range.{extent_at}
 use Rattle.rbd_meaning.specs.Reads.{bytes_shown}
 use Rattle.rbd_meaning.specs.Removals.{is_watched_beside, removal, removal_refusal_by, watchers_refuse, AllowRemoval, AreRemovals, IsRemovedBy, RefusesRemovalOf, RemovesImage}
 use Rattle.rbd_meaning.specs.Resizes.{ResizesWhole, resize_refuses}
-use Rattle.rbd_meaning.specs.Rollbacks.{AreRestored, RollsBack, rollback_refuses}
-use Rattle.rbd_meaning.specs.Writes.{write_refuses}
+use Rattle.rbd_meaning.specs.Rollbacks.{AreRestored, IsRestored, RollsBack, rollback_refuses}
+use Rattle.rbd_meaning.specs.Writes.{AreWritten, IsWritten, WritesWhole, write_refuses}
 
 -- no answer refuses, whatever images are its own before
 abbrev AreFree : (HeaderView → Option Refusal) → List Answered → Type 0
@@ -94,16 +97,30 @@ module _ (refuses : HeaderView → Option Refusal) where
   read_allowed image snap p answer.Absent bytes is = refl
   read_allowed image snap p _ bytes is = cc
 
+  -- piece by piece
+  each_allowed : {P : Type 0} → (IsPiece : P → List Answered → Type 0) → ((p : P) (steps : List Answered) → IsPiece p steps → AreFree refuses steps)
+      → (pieces : List P) (steps : List Answered) → ArePieces IsPiece pieces steps → AreFree refuses steps
+  each_allowed IsPiece each pieces steps are = of_each_piece (AreFree refuses) (λ images. tt) both_allowed IsPiece each pieces steps are
+
+  written_allowed : (site : SiteId) (image : ℕ) (h : HeaderView) (at : ℕ) (bytes : List ℕ) (pieces : List Piece) (steps : List Answered)
+      → AreWritten site image h at bytes pieces steps → AreFree refuses steps
+  written_allowed site image h at bytes pieces steps are =
+      each_allowed (IsWritten site image h at bytes) (λ p steps is. subst (AreFree refuses) (sym is) (λ images. (λ own. refl, (λ own. refl, tt)))) pieces steps are
+
+  one_restored_allowed : (site : SiteId) (image : ℕ) (h : HeaderView) (snap : ℕ) (p : Piece) (steps : List Answered) → IsRestored site image h snap p steps → AreFree refuses steps
+  one_restored_allowed site image h snap p steps is =
+      subst (AreFree refuses) (sym is.are)
+      (λ images. (λ own. read_allowed image (Some snap) p is.answer is.bytes is.shown, replaced_allowed site image h p (cut_bytes is.bytes) images))
+
   restored_allowed : (site : SiteId) (image : ℕ) (h : HeaderView) (snap : ℕ) (pieces : List Piece) (steps : List Answered) → AreRestored site image h snap pieces steps → AreFree refuses steps
-  restored_allowed site image h snap [] steps none = subst (AreFree refuses) (sym none) (λ images. tt)
-  restored_allowed site image h snap (p ∷ pieces) steps are =
-      let f = are.is_first in
-      subst (AreFree refuses) (sym are.are)
-      (both_allowed are.first are.others
-      (subst (AreFree refuses) (sym f.are) (λ images. (λ own. read_allowed image (Some snap) p f.answer f.bytes f.shown, replaced_allowed site image h p (cut_bytes f.bytes) images)))
-      (restored_allowed site image h snap pieces are.others are.are_others))
+  restored_allowed site image h snap pieces steps are = each_allowed (IsRestored site image h snap) (one_restored_allowed site image h snap) pieces steps are
 
 -- ---- whole ones
+
+pub write_allowed : (site : SiteId) (name : List ℕ) (at : ℕ) (bytes : List ℕ) (steps : List Answered) → WritesWhole site name at bytes steps → AreAllowed (write_refuses (extent_at at bytes)) [] steps
+write_allowed site name at bytes steps whole =
+    subst (AreAllowed (write_refuses (extent_at at bytes)) []) (sym whole.are)
+    (λ own. refl, (λ own. whole.may_wait, (λ own. whole.may, written_allowed (write_refuses (extent_at at bytes)) site whole.image whole.own at bytes _ whole.written whole.are_written _)))
 
 pub discard_allowed : (site : SiteId) (name : List ℕ) (e : Extent) (steps : List Answered) → DiscardsWhole site name e steps → AreAllowed (write_refuses e) [] steps
 discard_allowed site name e steps whole =

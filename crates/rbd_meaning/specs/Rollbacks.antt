@@ -1,5 +1,5 @@
 -- `snap rollback`: what refuses one, what has been done when it is done, and what its replies mean.
-use Rattle.std.specs.Prelude.{◌≡◌, ◌⊎◌, ℕ, List, [], ◌∷◌, ◌++◌, Option, Some, None}
+use Rattle.std.specs.Prelude.{◌≡◌, ◌⊎◌, ℕ, List, ◌∷◌, ◌++◌, Option, Some, None}
 use Rattle.rbd_kinds.specs.declared.answer.Answer.{Answer}
 use Rattle.rbd_kinds.specs.declared.header.HeaderView.{HeaderView}
 use Rattle.rbd_kinds.specs.declared.header.SnapView.{SnapView}
@@ -21,6 +21,7 @@ use Rattle.rbd_machine.specs.Steps.{or_else, non_primary}
 use Rattle.rbd_meaning.specs.Partly.{IsFrontOf}
 use Rattle.rbd_meaning.specs.Reads.{bytes_shown}
 use Rattle.rbd_pieces.specs.Full.{replaced}
+use Rattle.rbd_pieces.specs.Pieces.{ArePieces}
 use Rattle.rbd_pieces.specs.Size.{IsResized}
 use Rattle.rbd_pieces.specs.Zero.{head_of}
 
@@ -44,19 +45,9 @@ pub record IsRestored (site : SiteId) (image : ℕ) (h : HeaderView) (snap : ℕ
   pub are : steps ≡ record { site = site; op = data_read image (Some snap) p; answer = answer }
       ∷ replaced site image h p bytes
 
--- the first piece was restored, and the others behind it
-pub record AreRestoredBy (IsFirst AreOthers : List Answered → Type 0) (steps : List Answered) : Type 0 where
-  pub first : List Answered
-  pub others : List Answered
-  pub is_first : IsFirst first
-  pub are_others : AreOthers others
-  pub are : steps ≡ first ++ others
-
 -- the pieces were restored, one after another
 abbrev pub AreRestored : SiteId → (image : ℕ) → HeaderView → (snap : ℕ) → List Piece → List Answered → Type 0
-AreRestored site image h snap [] steps = steps ≡ []
-AreRestored site image h snap (p ∷ pieces) steps = AreRestoredBy (IsRestored site image h snap p)
-    (AreRestored site image h snap pieces) steps
+AreRestored site image h snap pieces steps = ArePieces (IsRestored site image h snap) pieces steps
 
 -- The request found its image and looked at the header twice, and neither look refused it. Then, by
 -- its look under the lock, it set the size to that of the snapshot which the header lists under the

@@ -18,6 +18,7 @@ use Rattle.rbd_machine.specs.Path.{Answered, found, looked_at}
 use Rattle.rbd_machine.specs.Refused.{by_fence, AreLooks, IsRefused}
 use Rattle.rbd_machine.specs.Steps.{or_else, non_primary}
 use Rattle.rbd_meaning.specs.Range.{extent_at, out_of_range}
+use Rattle.rbd_pieces.specs.Pieces.{ArePieces}
 
 abbrev pub write_refuses : Extent → HeaderView → Option Refusal
 write_refuses e h = or_else (non_primary h.role) (out_of_range e h.size)
@@ -31,7 +32,16 @@ abbrev pub piece_written : SiteId → (image : ℕ) → HeaderView → (at : ℕ
 piece_written site image h at bytes p =
     record { site = site; op = data_write image (context_of h) p (bytes_for p.parts at bytes); answer = answer.Done }
 
--- the pieces were written, one after another, each behind its object's state
+-- a piece was written: the state of its object was raised, and then its bytes were written
+abbrev pub IsWritten : SiteId → (image : ℕ) → HeaderView → (at : ℕ) → (bytes : List ℕ) → Piece → List Answered → Type 0
+IsWritten site image h at bytes p steps = steps ≡ state_raised site image p ∷ piece_written site image h at bytes p ∷ []
+
+-- the pieces were written, one after another
+abbrev pub AreWritten : SiteId → (image : ℕ) → HeaderView → (at : ℕ) → (bytes : List ℕ) → List Piece → List Answered
+    → Type 0
+AreWritten site image h at bytes pieces steps = ArePieces (IsWritten site image h at bytes) pieces steps
+
+-- the operations by which they were, each piece's behind its object's state
 abbrev pub pieces_written : SiteId → (image : ℕ) → HeaderView → (at : ℕ) → (bytes : List ℕ) → List Piece → List Answered
 pieces_written site image h at bytes [] = []
 pieces_written site image h at bytes (p ∷ pieces) =
@@ -51,8 +61,9 @@ pub record WritesWhole (site : SiteId) (name : List ℕ) (at : ℕ) (bytes : Lis
   pub own : HeaderView
   pub may_wait : write_refuses (extent_at at bytes) first ≡ None
   pub may : write_refuses (extent_at at bytes) own ≡ None
-  pub are : steps ≡ found site name image ∷ looked_at site image first ∷ looked_at site image own
-      ∷ pieces_written site image own at bytes (pieces_of own.layout (extent_at at bytes))
+  pub written : List Answered
+  pub are_written : AreWritten site image own at bytes (pieces_of own.layout (extent_at at bytes)) written
+  pub are : steps ≡ found site name image ∷ looked_at site image first ∷ looked_at site image own ∷ written
 
 -- The same, up to some of its pieces: the first of them were written, and at most the next one was
 -- begun.
@@ -65,10 +76,12 @@ pub record WritesSome (site : SiteId) (name : List ℕ) (at : ℕ) (bytes : List
   pub written : List Piece
   pub left : List Piece
   pub pieces : pieces_of own.layout (extent_at at bytes) ≡ written ++ left
+  pub written_steps : List Answered
+  pub are_written : AreWritten site image own at bytes written written_steps
   pub begun : List Answered
   pub is_begun : IsPieceBegun site image left begun
   pub are : steps ≡ found site name image ∷ looked_at site image first ∷ looked_at site image own
-      ∷ (pieces_written site image own at bytes written ++ begun)
+      ∷ (written_steps ++ begun)
 
 -- The request was refused, and had only looked before, or written its first pieces.
 pub record RefusesWrite (site : SiteId) (name : List ℕ) (at : ℕ) (bytes : List ℕ) (steps : List Answered)

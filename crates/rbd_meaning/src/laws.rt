@@ -16,6 +16,7 @@ ghost use Rattle.rbd_kinds.specs.declared.reply.Reply.TheVariants.{Refused};
 ghost use Rattle.rbd_kinds.specs.Form.{HasFewObjects};
 ghost use Rattle.rbd_kinds.specs.Header.{snap_named};
 ghost use Rattle.rbd_kinds.specs.Striping.{IsLayout, IsObjectCount};
+ghost use Rattle.rbd_layout.specs.declared.types.Piece.{Piece};
 ghost use Rattle.rbd_machine.specs.About.{look_up};
 ghost use Rattle.rbd_machine.specs.Path.{Answered, looked_at};
 ghost use Rattle.rbd_machine.specs.declared.seat.Seat.{Seat};
@@ -27,6 +28,7 @@ ghost use Rattle.rbd_meaning.specs.Replies.{may_answer};
 ghost use Rattle.rbd_meaning.specs.Resizes.{has_few_objects};
 ghost use Rattle.rbd_meaning.specs.Snaps.{TakesOne, RemovesOne};
 ghost use Rattle.rbd_meaning.specs.Undone.{lets_go, ChangeNothing, ComesLate};
+ghost use Rattle.rbd_meaning.specs.Writes.{AreWritten, pieces_written};
 
 /// A size has as many pieces as objects. It has few objects exactly where its bytes lie in the
 /// first 2^20 of them.
@@ -119,4 +121,12 @@ pub fn the_look_under_lock_allowed()
         (removes : RemovesOne site image snap steps) → removes.listed.status ≡ Unprotected }
     ensures image { (site : SiteId) (session : ℕ) (image : List ℕ) (steps : List Answered)
         (removes : RemovesImage site session image steps) → removes.own.snaps ≡ [] }
+{}
+
+/// One list of operations is that of pieces: a piece that was written has had its object's state
+/// raised, and then its bytes written.
+pub fn pieces_have_their_operations()
+    ensures { (site : SiteId) (image : ℕ) (h : HeaderView) (at : ℕ) (bytes : List ℕ) (pieces : List Piece)
+        (steps : List Answered) → AreWritten site image h at bytes pieces steps
+        ↔ (steps ≡ pieces_written site image h at bytes pieces) }
 {}

@@ -10,6 +10,7 @@ pub mod ZerosClosed
 pub mod Ends
 pub mod Held
 pub mod ZerosLawful
+pub mod Pieces
 pub mod Resized
 pub mod Sizes
 pub mod ZerosTell

@@ -3,6 +3,7 @@ pub mod Write
 pub mod Full
 pub mod Known
 pub mod Operations
+pub mod Pieces
 pub mod Shrink
 pub mod Size
 pub mod Zero

@@ -85,6 +85,7 @@
 //! | `specs/Shrink.antt` | the pieces that a smaller size zeros, by the states of the head's map |
 //! | `specs/Size.antt` | the plan of a size (`resize`), and for which answers it has the memory |
 //! | `specs/Known.antt` | what is known behind a part, and where a piece is lawful |
+//! | `specs/Pieces.antt` | what is done for several pieces (`ArePieces`), where what is done for one is a relation |
 //!
 //! # Cost
 //!

@@ -21,7 +21,7 @@ use Rattle.rbd_machine.specs.Path.{Answered, found, looked_at}
 use Rattle.rbd_meaning.specs.Discards.{DiscardsWhole}
 use Rattle.rbd_meaning.specs.Reads.{bytes_shown}
 use Rattle.rbd_meaning.specs.Resizes.{ResizesWhole, resize_refuses}
-use Rattle.rbd_meaning.specs.Rollbacks.{AreRestored, RollsBack, at_size, rollback_refuses}
+use Rattle.rbd_meaning.specs.Rollbacks.{AreRestored, IsRestored, RollsBack, at_size, rollback_refuses}
 use Rattle.rbd_meaning.specs.Writes.{write_refuses}
 use Rattle.rbd_image.specs.Resize.{set_size}
 use Rattle.rbd_snap.specs.Rollback.{roll_back_to}
@@ -37,6 +37,7 @@ use Rattle.rbd_replies.specs.Home.{AreDoneAt}
 use Rattle.rbd_replies.specs.Places.{Placed}
 use Rattle.rbd_replies.specs.RolledBack.{RollsBackTo}
 use Rattle.rbd_replies.specs.Zeroed.{Discards, Resizes}
+use Rattle.rbd_pieces.proofs.Pieces.{of_each_piece}
 use Rattle.rbd_replies.proofs.ChangesWhole.{Goes, discard_discards, goes_at, resize_resizes, rolled_at}
 use Rattle.rbd_replies.proofs.InLine.{AreInLine, in_line_behind}
 use Rattle.rbd_replies.proofs.KeepsOwn.{keeps_rollback, keeps_set_size, keeps_zeroing}
@@ -74,14 +75,13 @@ module _ (home : SiteId) (image : ℕ) where
   shown_is_served parts answer.Absent bytes shown = refl
   shown_is_served parts _ bytes shown = cc
 
+  plain_restoring : (h : HeaderView) (snap : ℕ) (p : Piece) (steps : List Answered) → IsRestored home image h snap p steps → ArePlain image steps
+  plain_restoring h snap p steps is =
+      subst (ArePlain image) (sym is.are) (record { served = shown_is_served p.parts is.answer is.bytes is.shown; unsized = λ k. refl }, plain_replaced h p (cut_bytes is.bytes))
+
   plain_restored : (h : HeaderView) (snap : ℕ) (pieces : List Piece) (steps : List Answered) → AreRestored home image h snap pieces steps → ArePlain image steps
-  plain_restored h snap [] steps none = subst (ArePlain image) (sym none) tt
-  plain_restored h snap (p ∷ pieces) steps restored =
-      let first = restored.is_first in
-      subst (ArePlain image) (sym restored.are)
-      (plain_both image restored.first restored.others
-      (subst (ArePlain image) (sym first.are) (record { served = shown_is_served p.parts first.answer first.bytes first.shown; unsized = λ k. refl }, plain_replaced h p (cut_bytes first.bytes)))
-      (plain_restored h snap pieces restored.others restored.are_others))
+  plain_restored h snap pieces steps are =
+      of_each_piece (ArePlain image) tt (plain_both image) (IsRestored home image h snap) (plain_restoring h snap) pieces steps are
 
   -- ---- a size that is set last
 

@@ -23,13 +23,15 @@ use Rattle.rbd_meaning.specs.Closes.{ClosesBy}
 use Rattle.rbd_meaning.specs.Meant.{IsMeantBy}
 use Rattle.rbd_meaning.specs.Reads.{AreRead, IsPassTo, SeeOthers}
 use Rattle.rbd_meaning.specs.Removals.{AreRemovals, removal}
-use Rattle.rbd_meaning.specs.Rollbacks.{AreRestored, at_size}
+use Rattle.rbd_meaning.specs.Rollbacks.{AreRestored, IsRestored, at_size}
 use Rattle.rbd_meaning.specs.Straight.{all_told, MeansStraight, Straight, straight_of}
-use Rattle.rbd_meaning.specs.Writes.{WritesWhole, pieces_written}
+use Rattle.rbd_meaning.specs.Writes.{AreWritten, IsWritten, WritesWhole}
 use Rattle.rbd_pieces.specs.Full.{cut_bytes, replaced_by}
+use Rattle.rbd_pieces.specs.Pieces.{ArePieces}
 use Rattle.rbd_pieces.specs.Shrink.{pieces_from}
 use Rattle.rbd_pieces.specs.Size.{IsResizedBy, pieces_zeroed}
 use Rattle.rbd_pieces.specs.Zero.{all_zeroed, head_of, is_inside, is_whole, zeroed_steps, zeroed_by}
+use Rattle.rbd_pieces.proofs.Pieces.{of_each_piece}
 use Rattle.rbd_replies.proofs.Places.{step_at}
 use Rattle.rbd_replies.specs.Home.{AreDoneAt}
 use Rattle.rbd_replies.specs.Places.{Placed}
@@ -54,12 +56,15 @@ module _ (site : SiteId) where
   own_at ask (first ∷ next ∷ others) own = (ap (λ (s : Answered). s.site) own.told, of_image_at own.image (next ∷ others) own.are)
 
   -- pieces
-  written_at : (image : ℕ) (h : HeaderView) (at : ℕ) (bytes : List ℕ) (pieces : List Piece) → AreAt site (pieces_written site image h at bytes pieces)
-  written_at image h at bytes [] = tt
-  written_at image h at bytes (p ∷ pieces) = (refl, (refl, written_at image h at bytes pieces))
+  each_at : {P : Type 0} → (IsPiece : P → List Answered → Type 0) → ((p : P) (steps : List Answered) → IsPiece p steps → AreAt site steps)
+      → (pieces : List P) (steps : List Answered) → ArePieces IsPiece pieces steps → AreAt site steps
+  each_at IsPiece each pieces steps are = of_each_piece (AreAt site) tt at_both IsPiece each pieces steps are
+
+  written_at : (image : ℕ) (h : HeaderView) (at : ℕ) (bytes : List ℕ) (pieces : List Piece) (steps : List Answered) → AreWritten site image h at bytes pieces steps → AreAt site steps
+  written_at image h at bytes pieces steps are = each_at (IsWritten site image h at bytes) (λ p steps is. subst (AreAt site) (sym is) (refl, (refl, tt))) pieces steps are
 
   whole_at : (name : List ℕ) (at : ℕ) (bytes : List ℕ) (steps : List Answered) → WritesWhole site name at bytes steps → AreAt site steps
-  whole_at name at bytes steps whole = subst (AreAt site) (sym whole.are) (refl, (refl, (refl, written_at whole.image whole.own at bytes _)))
+  whole_at name at bytes steps whole = subst (AreAt site) (sym whole.are) (refl, (refl, (refl, written_at whole.image whole.own at bytes _ whole.written whole.are_written)))
 
   read_at : (image : ℕ) (snap : Option ℕ) (pieces : List Piece) (steps : List Answered) → AreRead site image snap pieces steps → AreAt site steps
   read_at image snap [] [] read = tt
@@ -104,12 +109,8 @@ module _ (site : SiteId) where
   replaced_at image h p (byte ∷ left) = (refl, (refl, tt))
 
   restored_at : (image : ℕ) (h : HeaderView) (snap : ℕ) (pieces : List Piece) (steps : List Answered) → AreRestored site image h snap pieces steps → AreAt site steps
-  restored_at image h snap [] steps none = subst (AreAt site) (sym none) tt
-  restored_at image h snap (p ∷ pieces) steps restored =
-      let first = restored.is_first in
-      subst (AreAt site) (sym restored.are)
-      (at_both restored.first restored.others (subst (AreAt site) (sym first.are) (refl, replaced_at image h p (cut_bytes first.bytes)))
-      (restored_at image h snap pieces restored.others restored.are_others))
+  restored_at image h snap pieces steps are =
+      each_at (IsRestored site image h snap) (λ p steps is. subst (AreAt site) (sym is.are) (refl, replaced_at image h p (cut_bytes is.bytes))) pieces steps are
 
   -- what is removed
   removals_at : (ops : List Op) (steps : List Answered) → AreRemovals site ops steps → AreAt site steps

@@ -9,7 +9,7 @@ use Rattle.rbd_machine.specs.Path.{found, looked_at}
 use Rattle.rbd_machine.specs.Steps.{non_primary}
 use Rattle.rbd_machine.proofs.Lawful.{or_else_none}
 use Rattle.rbd_meaning.specs.Range.{extent_at, out_of_range}
-use Rattle.rbd_meaning.specs.Writes.{WritesWhole, pieces_written}
+use Rattle.rbd_meaning.specs.Writes.{WritesWhole}
 use Rattle.rbd_replies.specs.Changed.{Writes}
 use Rattle.rbd_replies.specs.Places.{Placed}
 use Rattle.rbd_replies.proofs.PlacedRight.{ArePlacedRight}
@@ -35,7 +35,7 @@ writes_at_places homes home name at bytes (one ∷ two ∷ three ∷ rest) (righ
     let is_one : step_at one ≡ found home name whole.image = cc in
     let is_two : step_at two ≡ looked_at home whole.image whole.first = cc in
     let is_three : step_at three ≡ looked_at home whole.image whole.own = cc in
-    let pieces : map step_at rest ≡ pieces_written home whole.image whole.own at bytes (pieces_of whole.own.layout (extent_at at bytes)) = cc in
+    let written : map step_at rest ≡ whole.written = cc in
     record {
       finds = record {
         found = one;
@@ -54,5 +54,5 @@ writes_at_places homes home name at bytes (one ∷ two ∷ three ∷ rest) (righ
           silent_first one (two ∷ three ∷ rest) (finding_is_silent homes one right home name whole.image is_one)
           ∙ silent_first two (three ∷ rest) (looking_is_silent homes two also home whole.image whole.first is_two)
           ∙ silent_first three rest (looking_is_silent homes three third home whole.image whole.own is_three)
-          ∙ pieces_there homes home whole.image whole.own at bytes (pieces_of whole.own.layout (extent_at at bytes)) rest others pieces;
+          ∙ pieces_there homes home whole.image whole.own at bytes (pieces_of whole.own.layout (extent_at at bytes)) rest others whole.written written whole.are_written;
     }
