@@ -1,6 +1,6 @@
 -- The passes of a read, step by step: those that saw another header, and the one that shows bytes.
 use Rattle.std.proofs.Common.{◌≡◌, ℕ, ◌++◌, List, [], ◌∷◌, Bool, true, false, cond, eqb, Option, Some, None, refl, sym, ap, ◌∙◌, subst, append_assoc, append-nil, arith}
-use Rattle.std.specs.Prelude.{IsSome, replicate, unwrap_or}
+use Rattle.std.specs.Prelude.{replicate}
 use Rattle.std.proofs.lemmas.Bool.Decides.{nat_tests}
 use Rattle.rbd_kinds.specs.declared.answer.Answer.{Answer}
 use Rattle.rbd_kinds.specs.declared.answer.Answer.TheVariants as answer
@@ -57,7 +57,7 @@ record Gathered (last : Plan) (site : SiteId) (image : ℕ) (snap : Option ℕ) 
   pub more : List Fed
   pub are : steps ≡ reads ++ rest
   pub read : AreRead site image snap pieces reads
-  pub walk : IsWalk Goto (next (got ++ bytes_read pieces reads)) more rest last
+  pub walk : IsWalk Goto (next (got ++ bytes_read site image snap pieces reads read)) more rest last
 
 gathered : (last : Plan) → EndsUnrefused last → (pieces : List Piece) (site : SiteId) (image : ℕ) (snap : Option ℕ) (got : List ℕ) (next : List ℕ → Plan) (feds : List Fed) (steps : List Answered)
     → IsWalk Goto (gather site image snap pieces got next) feds steps last → Gathered last site image snap pieces got next steps
@@ -66,7 +66,7 @@ gathered last kind [] site image snap got next feds steps walk = record {
   rest = steps;
   more = feds;
   are = refl;
-  read = tt;
+  read = refl;
   walk = subst (λ g. IsWalk Goto (next g) feds steps last) (sym (append-nil got)) walk;
 }
 gathered last kind (p ∷ pieces) site image snap got next feds steps walk =
@@ -75,15 +75,20 @@ gathered last kind (p ∷ pieces) site image snap got next feds steps walk =
     let t = told_bytes last kind p.parts k w.answer w.more w.rest w.walk in
     let later = gathered last kind pieces site image snap (got ++ t.told) next w.more w.rest t.walk in
     let step : Answered = record { site = site; op = data_read image snap p; answer = w.answer } in
-    let all : (got ++ t.told) ++ bytes_read pieces later.reads ≡ got ++ bytes_read (p ∷ pieces) (step ∷ later.reads) =
-    append_assoc got t.told (bytes_read pieces later.reads) ∙ ap (λ o. got ++ (unwrap_or o [] ++ bytes_read pieces later.reads)) (sym t.is) in
+    let shown = bytes_read site image snap pieces later.reads later.read in
     record {
       reads = step ∷ later.reads;
       rest = later.rest;
       more = later.more;
       are = w.are ∙ ap (λ s. step ∷ s) later.are;
-      read = (refl, refl, subst IsSome (sym t.is) refl, later.read);
-      walk = subst (λ g. IsWalk Goto (next g) later.more later.rest last) all later.walk;
+      read = record {
+        first = step ∷ [];
+        others = later.reads;
+        is_first = record { answer = w.answer; bytes = t.told; shown = t.is; are = refl };
+        are_others = later.read;
+        are = refl;
+      };
+      walk = subst (λ g. IsWalk Goto (next g) later.more later.rest last) (append_assoc got t.told shown) later.walk;
     }
 
 -- ---- the closing look
@@ -163,7 +168,7 @@ record Passed (last : Plan) (site : SiteId) (name : List ℕ) (snap : Option (Li
   pub fits : out_of_range e view.size ≡ None
   pub are : steps ≡ found site name image ∷ looked_at site image first ∷ (reads ++ rest)
   pub read : AreRead site image view.snap (pieces_of first.layout e) reads
-  pub walk : IsWalk Goto (closing site image (seen_at first e) (bytes_read (pieces_of first.layout e) reads)) more rest last
+  pub walk : IsWalk Goto (closing site image (seen_at first e) (bytes_read site image view.snap (pieces_of first.layout e) reads read)) more rest last
 
 module _ (last : Plan) (kind : EndsUnrefused last) (site : SiteId) (name : List ℕ) (snap : Option (List ℕ)) (e : Extent) where
   passed : (feds : List Fed) (steps : List Answered) → IsWalk Goto (pass site name snap e) feds steps last → Passed last site name snap e steps
@@ -222,7 +227,7 @@ pass_shows : (site : SiteId) (name : List ℕ) (snap : Option (List ℕ)) (e : E
 unfolding closed_by passed
 pass_shows site name snap e feds steps bytes walk =
     let p = passed (Return (reply.Bytes bytes)) tt site name snap e feds steps walk in
-    let c = closed site p.image (seen_at p.first e) (bytes_read (pieces_of p.first.layout e) p.reads) p.more p.rest bytes p.walk in
+    let c = closed site p.image (seen_at p.first e) (bytes_read site p.image p.view.snap (pieces_of p.first.layout e) p.reads p.read) p.more p.rest bytes p.walk in
     record {
       closing = c.closing;
       pass = closed_by site name snap e steps (Return (reply.Bytes bytes)) (answer.Header c.closing) p c.are;
@@ -235,7 +240,7 @@ pass_sees_another : (site : SiteId) (name : List ℕ) (snap : Option (List ℕ))
 unfolding closed_by passed
 pass_sees_another site name snap e to feds steps walk =
     let p = passed (Goto to) tt site name snap e feds steps walk in
-    let c = reopened site p.image (seen_at p.first e) (bytes_read (pieces_of p.first.layout e) p.reads) to p.more p.rest p.walk in
+    let c = reopened site p.image (seen_at p.first e) (bytes_read site p.image p.view.snap (pieces_of p.first.layout e) p.reads p.read) to p.more p.rest p.walk in
     record {
       closing = c.closing;
       pass = closed_by site name snap e steps (Goto to) c.closing p c.are;

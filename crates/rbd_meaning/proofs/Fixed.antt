@@ -1,9 +1,11 @@
 -- Where one list of steps alone is that of a piece, one alone is that of several.
-use Rattle.std.proofs.Common.{◌≡◌, ◌↔◌, ℕ, List, [], ◌∷◌, ◌++◌, refl, ap, ◌∙◌}
+use Rattle.std.proofs.Common.{◌≡◌, ◌↔◌, ℕ, List, [], ◌∷◌, ◌++◌, map, Option, refl, ap, ◌∙◌}
 use Rattle.rbd_kinds.specs.declared.header.HeaderView.{HeaderView}
 use Rattle.rbd_kinds.specs.declared.id.SiteId.{SiteId}
 use Rattle.rbd_layout.specs.declared.types.Piece.{Piece}
+use Rattle.rbd_machine.specs.Objects.{data_read}
 use Rattle.rbd_machine.specs.Path.{Answered}
+use Rattle.rbd_meaning.specs.Reads.{AreRead}
 use Rattle.rbd_meaning.specs.Writes.{AreWritten, piece_written, pieces_written, state_raised}
 
 module _ (site : SiteId) (image : ℕ) (h : HeaderView) (at : ℕ) (bytes : List ℕ) where
@@ -26,3 +28,23 @@ module _ (site : SiteId) (image : ℕ) (h : HeaderView) (at : ℕ) (bytes : List
 pub written_so : (site : SiteId) (image : ℕ) (h : HeaderView) (at : ℕ) (bytes : List ℕ) (pieces : List Piece) (steps : List Answered)
     → AreWritten site image h at bytes pieces steps ↔ (steps ≡ pieces_written site image h at bytes pieces)
 written_so site image h at bytes pieces steps = (written_is site image h at bytes pieces steps, is_written site image h at bytes pieces steps)
+
+-- ---- pieces that were read
+
+ops_read : (site : SiteId) (image : ℕ) (snap : Option ℕ) (pieces : List Piece) (steps : List Answered) → AreRead site image snap pieces steps
+    → map (λ (s : Answered). s.op) steps ≡ map (data_read image snap) pieces
+ops_read site image snap [] steps none = ap (map (λ (s : Answered). s.op)) none
+ops_read site image snap (p ∷ pieces) steps read =
+    ap (map (λ (s : Answered). s.op)) (read.are ∙ ap (λ first. first ++ read.others) read.is_first.are)
+    ∙ ap (λ ops. data_read image snap p ∷ ops) (ops_read site image snap pieces read.others read.are_others)
+
+sites_read : (site : SiteId) (image : ℕ) (snap : Option ℕ) (pieces : List Piece) (steps : List Answered) → AreRead site image snap pieces steps
+    → map (λ (s : Answered). s.site) steps ≡ map (λ p. site) pieces
+sites_read site image snap [] steps none = ap (map (λ (s : Answered). s.site)) none
+sites_read site image snap (p ∷ pieces) steps read =
+    ap (map (λ (s : Answered). s.site)) (read.are ∙ ap (λ first. first ++ read.others) read.is_first.are)
+    ∙ ap (λ sites. site ∷ sites) (sites_read site image snap pieces read.others read.are_others)
+
+pub read_by : (site : SiteId) (image : ℕ) (snap : Option ℕ) (pieces : List Piece) (steps : List Answered) → AreRead site image snap pieces steps
+    → (map (λ (s : Answered). s.op) steps ≡ map (data_read image snap) pieces) × (map (λ (s : Answered). s.site) steps ≡ map (λ p. site) pieces)
+read_by site image snap pieces steps read = (ops_read site image snap pieces steps read, sites_read site image snap pieces steps read)

@@ -23,10 +23,12 @@ use Rattle.rbd_layout.specs.declared.types.Piece.{Piece}
 use Rattle.rbd_header.specs.Header.{view_of}
 use Rattle.rbd_header.specs.declared.view.View.{View}
 use Rattle.rbd_machine.specs.About.{look_up, AreOwn}
+use Rattle.rbd_machine.specs.Objects.{data_read}
 use Rattle.rbd_machine.specs.Passes.{steps_of_passes}
 use Rattle.rbd_machine.specs.Path.{Answered, found, looked_at}
 use Rattle.rbd_machine.specs.declared.seat.Seat.{Seat}
 use Rattle.rbd_machine.specs.Refused.{refusal_by, AreAllowed, refuses_none, never, by_fence, IsRefusedBy, IsRefused}
+use Rattle.rbd_pieces.proofs.Pieces.{of_each_piece}
 use Rattle.rbd_meaning.specs.Arrange.{bytes_of_extent}
 use Rattle.rbd_meaning.specs.Closes.{lock_dropped, release_told, watch_ended, ClosesBy, Closes, LooksTwice, gone_or_fenced, CloseMeans, QuiesceMeans}
 use Rattle.rbd_meaning.specs.Creates.{CreateMeans, Makes, IsOutsideLimits, IsNotMade}
@@ -34,7 +36,7 @@ use Rattle.rbd_meaning.specs.Discards.{DiscardMeans, DiscardsWhole, RefusesDisca
 use Rattle.rbd_meaning.specs.Listings.{names_told, renamed_to, shown_snaps, used_among, ListMeans, InfoMeans, RenameMeans, SnapListMeans, ShowsHeader, ShowsUsed, UsedMeans}
 use Rattle.rbd_meaning.specs.Meant.{IsMeantBy}
 use Rattle.rbd_meaning.specs.Range.{extent_at}
-use Rattle.rbd_meaning.specs.Reads.{ReadMeans, ShowsAtLast, RefusedAtLast, IsPassTo, AreRead, bytes_read, view_refuses, read_refuses}
+use Rattle.rbd_meaning.specs.Reads.{ReadMeans, ShowsAtLast, RefusedAtLast, IsPassTo, IsShown, AreRead, bytes_read, bytes_shown, view_refuses, read_refuses}
 use Rattle.rbd_meaning.specs.Removals.{removal_refusal_by, RefusesRemovalOf, RemoveMeans, RemovesImage}
 use Rattle.rbd_meaning.specs.Resizes.{resize_refuses, RefusesResize, ResizeMeans, ResizesWhole}
 use Rattle.rbd_meaning.specs.Rollbacks.{rollback_refuses, RefusesRollback, RollbackMeans, RollsBack}
@@ -456,16 +458,44 @@ find_nothing_more [] two none nor = nor
 find_nothing_more (s ∷ one) two none nor = (none.0, find_nothing_more one two none.1 nor)
 
 reads_find_nothing : (pieces : List Piece) (steps : List Answered) (site : SiteId) (image : ℕ) (snap : Option ℕ) → AreRead site image snap pieces steps → FindsNothing steps
-reads_find_nothing [] [] site image snap read = tt
-reads_find_nothing [] (s ∷ steps) site image snap read = absurd read
-reads_find_nothing (p ∷ pieces) [] site image snap read = absurd read
-reads_find_nothing (p ∷ pieces) (s ∷ steps) site image snap (at, is, shown, read) = (ap is_find is, reads_find_nothing pieces steps site image snap read)
+reads_find_nothing pieces steps site image snap read =
+    of_each_piece FindsNothing tt find_nothing_more (IsShown site image snap) (λ p steps is. subst FindsNothing (sym is.are) (refl, tt)) pieces steps read
 
 -- ---- read
 
 some_length : (more : List Answered) (s : Answered) → 1 ≤ length (more ++ s ∷ [])
 some_length [] s = omega arith
 some_length (m ∷ more) s = let some = some_length more s in omega arith
+
+abbrev read_as : SiteId → (image : ℕ) → (snap : Option ℕ) → Piece → Answer → Answered
+read_as site image snap p a = record { site = site; op = data_read image snap p; answer = a }
+
+-- the same operations show the same bytes
+read_once : (pieces : List Piece) (site : SiteId) (image other : ℕ) (snap another : Option ℕ) (steps same_steps : List Answered)
+    (one : AreRead site image snap pieces steps) (two : AreRead site other another pieces same_steps) → steps ≡ same_steps
+    → bytes_read site image snap pieces steps one ≡ bytes_read site other another pieces same_steps two
+read_once [] site image other snap another steps same_steps one two same = refl
+read_once (p ∷ pieces) site image other snap another steps same_steps one two same =
+    let f = one.is_first in
+    let g = two.is_first in
+    let all : read_as site image snap p f.answer ∷ one.others ≡ read_as site other another p g.answer ∷ two.others =
+    sym (one.are ∙ ap (λ first. first ++ one.others) f.are) ∙ same ∙ two.are ∙ ap (λ first. first ++ two.others) g.are in
+    let step : read_as site image snap p f.answer ≡ read_as site other another p g.answer = cc in
+    let told : f.answer ≡ g.answer = ap (λ (t : Answered). t.answer) step in
+    let rest : one.others ≡ two.others = cc in
+    let some : Some f.bytes ≡ Some g.bytes = sym f.shown ∙ ap (bytes_shown p.parts) told ∙ g.shown in
+    let bytes : f.bytes ≡ g.bytes = cc in
+    ap (λ b. b ++ bytes_read site image snap pieces one.others one.are_others) bytes
+    ∙ ap (λ b. g.bytes ++ b) (read_once pieces site image other snap another one.others two.others one.are_others two.are_others rest)
+
+-- by the same header
+bytes_shown_once : (e : Extent) (h g : HeaderView) (site : SiteId) (image other : ℕ) (snap another : Option ℕ) (steps same_steps : List Answered)
+    (one : AreRead site image snap (pieces_of h.layout e) steps) (two : AreRead site other another (pieces_of g.layout e) same_steps) → h ≡ g → steps ≡ same_steps
+    → bytes_of_extent h.layout e (bytes_read site image snap (pieces_of h.layout e) steps one) ≡ bytes_of_extent g.layout e (bytes_read site other another (pieces_of g.layout e) same_steps two)
+bytes_shown_once e h g site image other snap another steps same_steps one two is same =
+    subst (λ (g : HeaderView). (two : AreRead site other another (pieces_of g.layout e) same_steps)
+    → bytes_of_extent h.layout e (bytes_read site image snap (pieces_of h.layout e) steps one) ≡ bytes_of_extent g.layout e (bytes_read site other another (pieces_of g.layout e) same_steps two)) is
+    (λ two. ap (bytes_of_extent h.layout e) (read_once (pieces_of h.layout e) site image other snap another steps same_steps one two same)) two
 
 module _ (site : SiteId) (name : List ℕ) (snap : Option (List ℕ)) (e : Extent) where
   -- a pass, behind its find
@@ -516,8 +546,7 @@ module _ (site : SiteId) (name : List ℕ) (snap : Option (List ℕ)) (e : Exten
         let first : p.first ≡ q.first = cc in
         let rest : p.reads ++ c ∷ [] ≡ q.reads ++ d ∷ [] = cc in
         a.shows.shows
-        ∙ ap (λ (h : HeaderView). bytes_of_extent h.layout e (bytes_read (pieces_of h.layout e) p.reads)) first
-        ∙ ap (λ r. bytes_of_extent q.first.layout e (bytes_read (pieces_of q.first.layout e) r)) (same_front p.reads q.reads c d rest)
+        ∙ bytes_shown_once e p.first q.first site p.image q.image p.view.snap q.view.snap p.reads q.reads p.read q.read first (same_front p.reads q.reads c d rest)
         ∙ sym b.shows.shows
 
     bytes_once : (r s : Reply) → BytesBy r → BytesBy s → r ≡ s

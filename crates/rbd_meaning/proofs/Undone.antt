@@ -1,5 +1,5 @@
 -- Refusals change nothing.
-use Rattle.std.proofs.Common.{◌≡◌, ◌⊎◌, inl, inr, ℕ, List, [], ◌∷◌, ◌++◌, true, false, Option, Some, None, refl, ap, sym, subst}
+use Rattle.std.proofs.Common.{◌≡◌, ◌⊎◌, inl, inr, ℕ, List, [], ◌∷◌, ◌++◌, true, false, Option, Some, None, refl, sym, subst}
 use Rattle.rbd_kinds.specs.declared.answer.Answer.{Answer}
 use Rattle.rbd_kinds.specs.declared.answer.Answer.TheVariants as answer
 use Rattle.rbd_commands.specs.declared.command.Command.{Command}
@@ -22,7 +22,8 @@ use Rattle.rbd_machine.specs.Path.{Answered}
 use Rattle.rbd_machine.specs.declared.seat.Seat.{Seat}
 use Rattle.rbd_machine.specs.Refused.{by_fence, refusal_by, only_looks, AreLooks, IsRefusedBy}
 use Rattle.rbd_meaning.specs.Meant.{IsMeantBy}
-use Rattle.rbd_meaning.specs.Reads.{AreRead, IsPassTo, SeeOthers, RefusedAtLast}
+use Rattle.rbd_pieces.proofs.Pieces.{of_each_piece}
+use Rattle.rbd_meaning.specs.Reads.{AreRead, IsShown, IsPassTo, SeeOthers, RefusedAtLast}
 use Rattle.rbd_meaning.specs.Removals.{image_removal_refuses, removal_refusal_by, RefusesRemovalOf}
 use Rattle.rbd_meaning.specs.Straight.{MeansStraight, Straight, straight_of}
 use Rattle.rbd_meaning.specs.Undone.{ComesLate, lets_go, tells_undone, ChangeNothing}
@@ -79,11 +80,8 @@ refused_changes_nothing refuses late x steps by not_late =
 -- ---- the passes of a read
 
 reads_change_nothing : (pieces : List Piece) (steps : List Answered) (site : SiteId) (image : ℕ) (snap : Option ℕ) → AreRead site image snap pieces steps → ChangeNothing steps
-reads_change_nothing [] [] site image snap read = tt
-reads_change_nothing [] (s ∷ steps) site image snap read = absurd read
-reads_change_nothing (p ∷ pieces) [] site image snap read = absurd read
-reads_change_nothing (p ∷ pieces) (s ∷ steps) site image snap (at, is, shown, read) =
-    (inl (ap only_looks is), reads_change_nothing pieces steps site image snap read)
+reads_change_nothing pieces steps site image snap read =
+    of_each_piece ChangeNothing tt nothing_after (IsShown site image snap) (λ p steps is. subst ChangeNothing (sym is.are) (inl refl, tt)) pieces steps read
 
 pub pass_changes_nothing : (site : SiteId) (name : List ℕ) (snap : Option (List ℕ)) (e : Extent) (steps : List Answered) (closing : Answer) → IsPassTo site name snap e steps closing → ChangeNothing steps
 pass_changes_nothing site name snap e steps closing pass =

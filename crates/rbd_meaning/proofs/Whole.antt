@@ -25,7 +25,7 @@ use Rattle.rbd_machine.specs.About.{owned_after, owned_behind}
 use Rattle.rbd_machine.specs.Knowledge.{ImagePlace}
 use Rattle.rbd_machine.specs.Path.{Answered}
 use Rattle.rbd_machine.specs.Refused.{refusal_by, AreAllowed, IsRefusedBy, MayRefuse}
-use Rattle.rbd_pieces.specs.Full.{cut_bytes, replaced_by}
+use Rattle.rbd_pieces.specs.Full.{cut_bytes, replaced, replaced_by}
 use Rattle.rbd_pieces.specs.Pieces.{ArePieces}
 use Rattle.rbd_pieces.specs.Shrink.{pieces_from}
 use Rattle.rbd_pieces.specs.Size.{pieces_zeroed, IsResizedBy}
@@ -33,7 +33,7 @@ use Rattle.rbd_pieces.specs.Zero.{all_zeroed, is_inside, is_whole, some_zeroed, 
 use Rattle.rbd_pieces.proofs.Pieces.{of_each_piece}
 use Rattle.rbd_meaning.specs.Discards.{DiscardsWhole}
 use Rattle.rbd_meaning.specs.Range.{extent_at}
-use Rattle.rbd_meaning.specs.Reads.{bytes_shown}
+use Rattle.rbd_meaning.specs.Reads.{IsShown, bytes_shown}
 use Rattle.rbd_meaning.specs.Removals.{is_watched_beside, removal, removal_refusal_by, watchers_refuse, AllowRemoval, AreRemovals, IsRemovedBy, RefusesRemovalOf, RemovesImage}
 use Rattle.rbd_meaning.specs.Resizes.{ResizesWhole, resize_refuses}
 use Rattle.rbd_meaning.specs.Rollbacks.{AreRestored, IsRestored, RollsBack, rollback_refuses}
@@ -97,6 +97,9 @@ module _ (refuses : HeaderView → Option Refusal) where
   read_allowed image snap p answer.Absent bytes is = refl
   read_allowed image snap p _ bytes is = cc
 
+  shown_allowed : (site : SiteId) (image : ℕ) (snap : Option ℕ) (p : Piece) (steps : List Answered) → IsShown site image snap p steps → AreFree refuses steps
+  shown_allowed site image snap p steps is = subst (AreFree refuses) (sym is.are) (λ images. (λ own. read_allowed image snap p is.answer is.bytes is.shown, tt))
+
   -- piece by piece
   each_allowed : {P : Type 0} → (IsPiece : P → List Answered → Type 0) → ((p : P) (steps : List Answered) → IsPiece p steps → AreFree refuses steps)
       → (pieces : List P) (steps : List Answered) → ArePieces IsPiece pieces steps → AreFree refuses steps
@@ -109,8 +112,9 @@ module _ (refuses : HeaderView → Option Refusal) where
 
   one_restored_allowed : (site : SiteId) (image : ℕ) (h : HeaderView) (snap : ℕ) (p : Piece) (steps : List Answered) → IsRestored site image h snap p steps → AreFree refuses steps
   one_restored_allowed site image h snap p steps is =
+      let read = is.read in
       subst (AreFree refuses) (sym is.are)
-      (λ images. (λ own. read_allowed image (Some snap) p is.answer is.bytes is.shown, replaced_allowed site image h p (cut_bytes is.bytes) images))
+      (both_allowed is.reading (replaced site image h p read.bytes) (shown_allowed site image (Some snap) p is.reading read) (replaced_allowed site image h p (cut_bytes read.bytes)))
 
   restored_allowed : (site : SiteId) (image : ℕ) (h : HeaderView) (snap : ℕ) (pieces : List Piece) (steps : List Answered) → AreRestored site image h snap pieces steps → AreFree refuses steps
   restored_allowed site image h snap pieces steps are = each_allowed (IsRestored site image h snap) (one_restored_allowed site image h snap) pieces steps are

@@ -1,6 +1,6 @@
 -- `read`: what refuses one, when it shows bytes, and what its replies mean. It shows them in one
 -- pass, between two looks at a header that didn't change, however often it began again before.
-use Rattle.std.specs.Prelude.{◌≡◌, ◌≤◌, ℕ, List, [], ◌∷◌, ◌++◌, length, replicate, Option, Some, None, IsSome, unwrap_or}
+use Rattle.std.specs.Prelude.{◌≡◌, ◌≤◌, ℕ, List, [], ◌∷◌, ◌++◌, length, replicate, Option, Some, None}
 use Rattle.rbd_kinds.specs.declared.answer.Answer.{Answer}
 use Rattle.rbd_kinds.specs.declared.answer.Answer.TheVariants as answer
 use Rattle.rbd_kinds.specs.declared.header.HeaderView.{HeaderView}
@@ -25,6 +25,7 @@ use Rattle.rbd_machine.specs.Path.{Answered, found, looked_at}
 use Rattle.rbd_machine.specs.Refused.{never, IsRefused}
 use Rattle.rbd_meaning.specs.Arrange.{bytes_of_extent}
 use Rattle.rbd_meaning.specs.Range.{out_of_range}
+use Rattle.rbd_pieces.specs.Pieces.{ArePieces}
 
 -- ---- what it refuses: a snapshot that isn't listed, and an extent outside the view
 
@@ -43,18 +44,23 @@ bytes_shown parts (answer.Bytes bytes) = Some bytes
 bytes_shown parts answer.Absent = Some (replicate (parts_len parts) 0)
 bytes_shown parts a = None
 
+-- a piece was read at a view, and the answer shows its bytes
+pub record IsShown (site : SiteId) (image : ℕ) (snap : Option ℕ) (p : Piece) (steps : List Answered) : Type 0 where
+  pub answer : Answer
+  pub bytes : List ℕ
+  pub shown : bytes_shown p.parts answer ≡ Some bytes
+  pub are : steps ≡ record { site = site; op = data_read image snap p; answer = answer } ∷ []
+
 -- the pieces were read at a view, one after another, and each was shown
 abbrev pub AreRead : SiteId → (image : ℕ) → (snap : Option ℕ) → List Piece → List Answered → Type 0
-AreRead site image snap [] [] = Unit {0}
-AreRead site image snap (p ∷ pieces) (step ∷ steps) =
-    (step.site ≡ site) × (step.op ≡ data_read image snap p) × IsSome (bytes_shown p.parts step.answer)
-    × AreRead site image snap pieces steps
-AreRead site image snap _ _ = ⊥
+AreRead site image snap pieces steps = ArePieces (IsShown site image snap) pieces steps
 
 -- the bytes that the pieces showed, one piece after another
-abbrev pub bytes_read : List Piece → List Answered → List ℕ
-bytes_read (p ∷ pieces) (step ∷ steps) = unwrap_or (bytes_shown p.parts step.answer) [] ++ bytes_read pieces steps
-bytes_read _ _ = []
+abbrev pub bytes_read : (site : SiteId) (image : ℕ) (snap : Option ℕ) (pieces : List Piece) (steps : List Answered)
+    → AreRead site image snap pieces steps → List ℕ
+bytes_read site image snap [] steps read = []
+bytes_read site image snap (p ∷ pieces) steps read =
+    read.is_first.bytes ++ bytes_read site image snap pieces read.others read.are_others
 
 -- The request found its image and looked at the header, by which the extent fits into the view; it
 -- read each piece of the extent there; and it looked again, and was told this.
@@ -78,7 +84,10 @@ pub record ShowsBetween (site : SiteId) (name : List ℕ) (snap : Option (List �
   pub closing : HeaderView
   pub pass : IsPassTo site name snap e steps (answer.Header closing)
   pub same : closing.generation ≡ pass.first.generation
-  pub shows : bytes ≡ bytes_of_extent pass.first.layout e (bytes_read (pieces_of pass.first.layout e) pass.reads)
+  pub shows :
+      bytes
+      ≡ bytes_of_extent pass.first.layout e
+      (bytes_read site pass.image pass.view.snap (pieces_of pass.first.layout e) pass.reads pass.read)
 
 -- ---- beginning again
 

@@ -1,6 +1,5 @@
 -- `snap rollback`: what refuses one, what has been done when it is done, and what its replies mean.
 use Rattle.std.specs.Prelude.{◌≡◌, ◌⊎◌, ℕ, List, ◌∷◌, ◌++◌, Option, Some, None}
-use Rattle.rbd_kinds.specs.declared.answer.Answer.{Answer}
 use Rattle.rbd_kinds.specs.declared.header.HeaderView.{HeaderView}
 use Rattle.rbd_kinds.specs.declared.header.SnapView.{SnapView}
 use Rattle.rbd_kinds.specs.declared.id.SiteId.{SiteId}
@@ -14,12 +13,11 @@ use Rattle.rbd_layout.specs.Pieces.{pieces_of}
 use Rattle.rbd_layout.specs.declared.types.Piece.{Piece}
 use Rattle.rbd_header.specs.Header.{cut}
 use Rattle.rbd_machine.specs.About.{look_up}
-use Rattle.rbd_machine.specs.Objects.{data_read}
 use Rattle.rbd_machine.specs.Path.{Answered, found, looked_at}
 use Rattle.rbd_machine.specs.Refused.{by_fence, AreLooks, IsRefused}
 use Rattle.rbd_machine.specs.Steps.{or_else, non_primary}
 use Rattle.rbd_meaning.specs.Partly.{IsFrontOf}
-use Rattle.rbd_meaning.specs.Reads.{bytes_shown}
+use Rattle.rbd_meaning.specs.Reads.{IsShown}
 use Rattle.rbd_pieces.specs.Full.{replaced}
 use Rattle.rbd_pieces.specs.Pieces.{ArePieces}
 use Rattle.rbd_pieces.specs.Size.{IsResized}
@@ -39,11 +37,9 @@ at_size size h = record h { size = size; parent = cut size h.parent }
 -- A piece was read at a snapshot, and what it showed replaced the head's object.
 pub record IsRestored (site : SiteId) (image : ℕ) (h : HeaderView) (snap : ℕ) (p : Piece)
     (steps : List Answered) : Type 0 where
-  pub answer : Answer
-  pub bytes : List ℕ
-  pub shown : bytes_shown p.parts answer ≡ Some bytes
-  pub are : steps ≡ record { site = site; op = data_read image (Some snap) p; answer = answer }
-      ∷ replaced site image h p bytes
+  pub reading : List Answered
+  pub read : IsShown site image (Some snap) p reading
+  pub are : steps ≡ reading ++ replaced site image h p read.bytes
 
 -- the pieces were restored, one after another
 abbrev pub AreRestored : SiteId → (image : ℕ) → HeaderView → (snap : ℕ) → List Piece → List Answered → Type 0

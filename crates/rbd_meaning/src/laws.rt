@@ -1,6 +1,6 @@
 //! What holds of every reply that is meant: laws, each the contract of a function that does
 //! nothing.
-ghost use Rattle.std.specs.Prelude.{◌≡◌, ◌↔◌, ℕ, List, [], ◌∷◌, ◌++◌, false, true, Some, None};
+ghost use Rattle.std.specs.Prelude.{◌≡◌, ◌↔◌, ℕ, List, [], ◌∷◌, ◌++◌, map, false, true, Option, Some, None};
 ghost use Rattle.rbd_kinds.specs.declared.answer.Answer.TheVariants.{Absent};
 ghost use Rattle.rbd_commands.specs.declared.command.Command.{Command};
 ghost use Rattle.rbd_commands.specs.declared.command.Command.TheVariants.{Write, Fill, Discard, Resize, Remove, SnapCreate, SnapRemove, SnapRollback};
@@ -18,11 +18,13 @@ ghost use Rattle.rbd_kinds.specs.Header.{snap_named};
 ghost use Rattle.rbd_kinds.specs.Striping.{IsLayout, IsObjectCount};
 ghost use Rattle.rbd_layout.specs.declared.types.Piece.{Piece};
 ghost use Rattle.rbd_machine.specs.About.{look_up};
+ghost use Rattle.rbd_machine.specs.Objects.{data_read};
 ghost use Rattle.rbd_machine.specs.Path.{Answered, looked_at};
 ghost use Rattle.rbd_machine.specs.declared.seat.Seat.{Seat};
 ghost use Rattle.rbd_meaning.specs.Count.{object_count};
 ghost use Rattle.rbd_meaning.specs.Meant.{IsMeantBy};
 ghost use Rattle.rbd_meaning.specs.Named.{looks_up};
+ghost use Rattle.rbd_meaning.specs.Reads.{AreRead};
 ghost use Rattle.rbd_meaning.specs.Removals.{RemovesImage};
 ghost use Rattle.rbd_meaning.specs.Replies.{may_answer};
 ghost use Rattle.rbd_meaning.specs.Resizes.{has_few_objects};
@@ -123,10 +125,14 @@ pub fn the_look_under_lock_allowed()
         (removes : RemovesImage site session image steps) → removes.own.snaps ≡ [] }
 {}
 
-/// One list of operations is that of pieces: a piece that was written has had its object's state
-/// raised, and then its bytes written.
+/// One list of operations is that of pieces. A piece that was written has had its object's state
+/// raised, and then its bytes written. One that was read has had one operation, which read it.
 pub fn pieces_have_their_operations()
-    ensures { (site : SiteId) (image : ℕ) (h : HeaderView) (at : ℕ) (bytes : List ℕ) (pieces : List Piece)
+    ensures written { (site : SiteId) (image : ℕ) (h : HeaderView) (at : ℕ) (bytes : List ℕ) (pieces : List Piece)
         (steps : List Answered) → AreWritten site image h at bytes pieces steps
         ↔ (steps ≡ pieces_written site image h at bytes pieces) }
+    ensures read { (site : SiteId) (image : ℕ) (snap : Option ℕ) (pieces : List Piece) (steps : List Answered)
+        → AreRead site image snap pieces steps
+        → (map (λ (s : Answered). s.op) steps ≡ map (data_read image snap) pieces)
+        × (map (λ (s : Answered). s.site) steps ≡ map (λ p. site) pieces) }
 {}

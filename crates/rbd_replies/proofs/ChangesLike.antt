@@ -77,7 +77,11 @@ module _ (home : SiteId) (image : ℕ) where
 
   plain_restoring : (h : HeaderView) (snap : ℕ) (p : Piece) (steps : List Answered) → IsRestored home image h snap p steps → ArePlain image steps
   plain_restoring h snap p steps is =
-      subst (ArePlain image) (sym is.are) (record { served = shown_is_served p.parts is.answer is.bytes is.shown; unsized = λ k. refl }, plain_replaced h p (cut_bytes is.bytes))
+      let read = is.read in
+      subst (ArePlain image) (sym is.are)
+      (plain_both image is.reading (replaced home image h p read.bytes)
+      (subst (ArePlain image) (sym read.are) (record { served = shown_is_served p.parts read.answer read.bytes read.shown; unsized = λ k. refl }, tt))
+      (plain_replaced h p (cut_bytes read.bytes)))
 
   plain_restored : (h : HeaderView) (snap : ℕ) (pieces : List Piece) (steps : List Answered) → AreRestored home image h snap pieces steps → ArePlain image steps
   plain_restored h snap pieces steps are =

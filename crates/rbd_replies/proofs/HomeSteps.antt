@@ -21,12 +21,12 @@ use Rattle.rbd_machine.specs.Path.{Answered}
 use Rattle.rbd_machine.specs.declared.seat.Seat.{Seat}
 use Rattle.rbd_meaning.specs.Closes.{ClosesBy}
 use Rattle.rbd_meaning.specs.Meant.{IsMeantBy}
-use Rattle.rbd_meaning.specs.Reads.{AreRead, IsPassTo, SeeOthers}
+use Rattle.rbd_meaning.specs.Reads.{AreRead, IsPassTo, IsShown, SeeOthers}
 use Rattle.rbd_meaning.specs.Removals.{AreRemovals, removal}
 use Rattle.rbd_meaning.specs.Rollbacks.{AreRestored, IsRestored, at_size}
 use Rattle.rbd_meaning.specs.Straight.{all_told, MeansStraight, Straight, straight_of}
 use Rattle.rbd_meaning.specs.Writes.{AreWritten, IsWritten, WritesWhole}
-use Rattle.rbd_pieces.specs.Full.{cut_bytes, replaced_by}
+use Rattle.rbd_pieces.specs.Full.{cut_bytes, replaced, replaced_by}
 use Rattle.rbd_pieces.specs.Pieces.{ArePieces}
 use Rattle.rbd_pieces.specs.Shrink.{pieces_from}
 use Rattle.rbd_pieces.specs.Size.{IsResizedBy, pieces_zeroed}
@@ -66,11 +66,11 @@ module _ (site : SiteId) where
   whole_at : (name : List ℕ) (at : ℕ) (bytes : List ℕ) (steps : List Answered) → WritesWhole site name at bytes steps → AreAt site steps
   whole_at name at bytes steps whole = subst (AreAt site) (sym whole.are) (refl, (refl, (refl, written_at whole.image whole.own at bytes _ whole.written whole.are_written)))
 
+  shown_at : (image : ℕ) (snap : Option ℕ) (p : Piece) (steps : List Answered) → IsShown site image snap p steps → AreAt site steps
+  shown_at image snap p steps is = subst (AreAt site) (sym is.are) (refl, tt)
+
   read_at : (image : ℕ) (snap : Option ℕ) (pieces : List Piece) (steps : List Answered) → AreRead site image snap pieces steps → AreAt site steps
-  read_at image snap [] [] read = tt
-  read_at image snap [] (step ∷ steps) read = absurd read
-  read_at image snap (p ∷ pieces) [] read = absurd read
-  read_at image snap (p ∷ pieces) (step ∷ steps) (first, is, shown, read) = (first, read_at image snap pieces steps read)
+  read_at image snap pieces steps read = each_at (IsShown site image snap) (shown_at image snap) pieces steps read
 
   -- the passes of a read
   module _ (name : List ℕ) (snap : Option (List ℕ)) (e : Extent) where
@@ -108,9 +108,14 @@ module _ (site : SiteId) where
   replaced_at image h p [] = all_zeroed_at image (context_of h) p (is_inside h p.object)
   replaced_at image h p (byte ∷ left) = (refl, (refl, tt))
 
+  restoring_at : (image : ℕ) (h : HeaderView) (snap : ℕ) (p : Piece) (steps : List Answered) → IsRestored site image h snap p steps → AreAt site steps
+  restoring_at image h snap p steps is =
+      let read = is.read in
+      subst (AreAt site) (sym is.are) (at_both is.reading (replaced site image h p read.bytes) (shown_at image (Some snap) p is.reading read) (replaced_at image h p (cut_bytes read.bytes)))
+
   restored_at : (image : ℕ) (h : HeaderView) (snap : ℕ) (pieces : List Piece) (steps : List Answered) → AreRestored site image h snap pieces steps → AreAt site steps
   restored_at image h snap pieces steps are =
-      each_at (IsRestored site image h snap) (λ p steps is. subst (AreAt site) (sym is.are) (refl, replaced_at image h p (cut_bytes is.bytes))) pieces steps are
+      each_at (IsRestored site image h snap) (restoring_at image h snap) pieces steps are
 
   -- what is removed
   removals_at : (ops : List Op) (steps : List Answered) → AreRemovals site ops steps → AreAt site steps

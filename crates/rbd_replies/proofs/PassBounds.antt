@@ -42,10 +42,9 @@ given_front (step ∷ front) back (can, given) = (can, given_front front back gi
 -- ---- a read, pass by pass
 
 as_many : (site : SiteId) (image : ℕ) (snap : Option ℕ) (pieces : List Piece) (steps : List Answered) → AreRead site image snap pieces steps → length steps ≡ length pieces
-as_many site image snap [] [] read = refl
-as_many site image snap [] (step ∷ steps) read = absurd read
-as_many site image snap (p ∷ pieces) [] read = absurd read
-as_many site image snap (p ∷ pieces) (step ∷ steps) read = ap suc (as_many site image snap pieces steps read.3)
+as_many site image snap [] steps none = ap length none
+as_many site image snap (p ∷ pieces) steps read =
+    ap length (read.are ∙ ap (λ first. first ++ read.others) read.is_first.are) ∙ ap suc (as_many site image snap pieces read.others read.are_others)
 
 module _ (site : SiteId) (name : List ℕ) (snap : Option (List ℕ)) (e : Extent) (pieces : ℕ) (few : HasAtMost pieces (Some e)) (most : ℕ) (is : most ≡ pieces + 3) where
   pass_within : (steps : List Answered) → AreGiven steps → SeesAnother site name snap e steps → length steps ≤ most

@@ -7,8 +7,7 @@ use Rattle.rbd_layout.specs.Pieces.{pieces_of}
 use Rattle.rbd_layout.proofs.Listed.{pieces_listed}
 use Rattle.rbd_machine.specs.Passes.{steps_of_passes}
 use Rattle.rbd_machine.specs.Path.{Answered, found, looked_at}
-use Rattle.rbd_meaning.specs.Arrange.{bytes_of_extent}
-use Rattle.rbd_meaning.specs.Reads.{AreRead, ShowsAtLast, ShowsBetween, bytes_read}
+use Rattle.rbd_meaning.specs.Reads.{ShowsAtLast, ShowsBetween, bytes_read}
 use Rattle.rbd_world.specs.Run.{records_after}
 use Rattle.rbd_replies.specs.Places.{Placed}
 use Rattle.rbd_replies.specs.Reads.{ShowsBytes}
@@ -104,7 +103,6 @@ module _ (homes : ℕ → SiteId) (home : SiteId) (name : List ℕ) (snap : Opti
       let last_home : last.done.site ≡ home = ap (λ (s : Answered). s.site) last_is in
       let form = two_right.standing.form.form image h two_there in
       let viewed : IsViewOf h view = shape_of_named h snap view form.rising (views_alone homes two.done.site two.before two_right.right image h two_there) shows.pass.viewed in
-      let read : AreRead home image view.snap (pieces_of h.layout e) (map step_at reads) = subst (AreRead home image view.snap (pieces_of h.layout e)) (sym reads_are) shows.pass.read in
       record {
         earlier = earlier;
         found = one;
@@ -124,13 +122,13 @@ module _ (homes : ℕ → SiteId) (home : SiteId) (name : List ℕ) (snap : Opti
         view = view;
         viewed = shows.pass.viewed;
         within = range_fits e view.size shows.pass.fits;
-        read = bytes_read (pieces_of h.layout e) (map step_at reads);
+        read = bytes_read home image view.snap (pieces_of h.layout e) shows.pass.reads shows.pass.read;
         pieces =
             pieces_shown homes home image h e view viewed (within_size e view.size (range_fits e view.size shows.pass.fits)) two last two_home last_home last_right shows.closing
             (subst (λ s. (records_after s two.before).headers image ≡ Some h) two_home two_there)
             (subst (λ s. (records_after s last.before).headers image ≡ Some shows.closing) last_home last_there)
-            shows.same (pieces_of h.layout e) reads (pieces_listed h.layout form.layout e).parts reads_right ordered.1.0 ordered.1.1 read;
-        shows = shows.shows ∙ ap (λ steps. bytes_of_extent h.layout e (bytes_read (pieces_of h.layout e) steps)) (sym reads_are);
+            shows.same (pieces_of h.layout e) reads (pieces_listed h.layout form.layout e).parts reads_right ordered.1.0 ordered.1.1 shows.pass.reads reads_are shows.pass.read;
+        shows = shows.shows;
       }
 
   whole_shown : (places : List Placed) → ArePlacedRight homes places → AreOrdered places → (steps : List Answered) (shows : ShowsBetween home name snap e steps bytes)

@@ -1,7 +1,7 @@
 -- A read that shows bytes shows those of the flat view, each piece's at its place, between two
 -- looks at one header.
 use Rattle.std.proofs.Common.{◌≡◌, ℕ, ◌+◌, ◌≤◌, true, List, [], ◌∷◌, ◌++◌, map, Option, Some, None, unwrap_or, refl, sym, ap, ◌∙◌, subst, arith}
-use Rattle.std.specs.Prelude.{All}
+use Rattle.std.specs.Prelude.{All, IsSome}
 use Rattle.std.proofs.lemmas.Bool.Decides.{nat_tests}
 use Rattle.std.proofs.lemmas.List.Elements.{All-head, All-tail}
 use Rattle.rbd_kinds.specs.declared.answer.Answer.TheVariants as answer
@@ -15,6 +15,7 @@ use Rattle.rbd_header.specs.declared.view.View.{View}
 use Rattle.rbd_layout.specs.Pieces.{IsPartsOf}
 use Rattle.rbd_layout.specs.declared.types.Piece.{Piece}
 use Rattle.rbd_layout.proofs.Within.{lies_in}
+use Rattle.rbd_machine.specs.Objects.{data_read}
 use Rattle.rbd_machine.specs.Path.{Answered, looked_at}
 use Rattle.rbd_meaning.specs.Reads.{AreRead, bytes_read, bytes_shown}
 use Rattle.rbd_site.specs.HeaderStep.{header_answer}
@@ -22,11 +23,11 @@ use Rattle.rbd_stands.specs.Condition.{ArePartsBelow}
 use Rattle.rbd_stands.specs.View.{shape_of}
 use Rattle.rbd_world.specs.Run.{records_after}
 use Rattle.rbd_replies.specs.Places.{Placed}
-use Rattle.rbd_replies.specs.Reads.{ArePiecesAt}
+use Rattle.rbd_replies.specs.Reads.{ArePiecesAt, IsPieceAt}
 use Rattle.rbd_replies.proofs.PlacedRight.{ArePlacedRight, IsPlacedRight}
 use Rattle.rbd_replies.proofs.Places.{step_at}
 use Rattle.rbd_replies.proofs.ReadKept.{header_between}
-use Rattle.rbd_replies.proofs.PlacesTaken.{begin_with}
+use Rattle.rbd_replies.proofs.PlacesTaken.{begin_with, none_taken}
 use Rattle.rbd_replies.proofs.PlacesTold.{records_at, served_there}
 use Rattle.rbd_replies.proofs.ReadNames.{IsViewOf}
 use Rattle.rbd_replies.proofs.ReadOrder.{AreBehind, AreOrdered, behind_last, goes_on}
@@ -90,24 +91,33 @@ module _ (homes : ℕ → SiteId) (home : SiteId) (image : ℕ) (h : HeaderView)
     (first_home : first.done.site ≡ home) (last_home : last.done.site ≡ home) (last_right : IsPlacedRight homes last) (new : HeaderView)
     (was : (records_after home first.before).headers image ≡ Some h) (is : (records_after home last.before).headers image ≡ Some new) (generation : new.generation ≡ h.generation) where
   pub pieces_shown : (pieces : List Piece) (places : List Placed) → All (λ (p : Piece). IsPartsOf h.layout e p.object p.parts) pieces → ArePlacedRight homes places
-      → AreBehind first (places ++ last ∷ []) → AreOrdered (places ++ last ∷ []) → AreRead home image view.snap pieces (map step_at places)
-      → ArePiecesAt image view.snap pieces (bytes_read pieces (map step_at places)) places
-  pieces_shown [] [] parts right behind ordered read = refl
-  pieces_shown [] (p ∷ places) parts right behind ordered read = elim read [ ]
-  pieces_shown (piece ∷ pieces) [] parts right behind ordered read = elim read [ ]
-  pieces_shown (piece ∷ pieces) (p ∷ places) parts right behind ordered read =
+      → AreBehind first (places ++ last ∷ []) → AreOrdered (places ++ last ∷ []) → (steps : List Answered) → map step_at places ≡ steps → (read : AreRead home image view.snap pieces steps)
+      → ArePiecesAt image view.snap pieces (bytes_read home image view.snap pieces steps read) places
+  pieces_shown [] places parts right behind ordered steps are none = subst (ArePiecesAt image view.snap [] []) (sym (none_taken places (are ∙ none))) refl
+  pieces_shown (piece ∷ pieces) [] parts right behind ordered steps are read =
+      let f = read.is_first in
+      let all : [] ≡ record { site = home; op = data_read image view.snap piece; answer = f.answer } ∷ read.others = are ∙ read.are ∙ ap (λ first. first ++ read.others) f.are in
+      absurd (cc)
+  pieces_shown (piece ∷ pieces) (p ∷ places) parts right behind ordered steps are read =
+      let f = read.is_first in
+      let step : Answered = record { site = home; op = data_read image view.snap piece; answer = f.answer } in
+      let all : step_at p ∷ map step_at places ≡ step ∷ read.others = are ∙ read.are ∙ ap (λ first. first ++ read.others) f.are in
+      let asked : step_at p ≡ step = cc in
+      let others : map step_at places ≡ read.others = cc in
+      let at_home : p.done.site ≡ home = ap (λ (s : Answered). s.site) asked in
+      let some : bytes_shown piece.parts p.done.answer ≡ Some f.bytes = ap (λ (s : Answered). bytes_shown piece.parts s.answer) asked ∙ f.shown in
       let there =
       header_between homes home image last.before p.before first.before (goes_on last.before p (behind_last p last places ordered.0)) (goes_on p.before first behind.0) last_right.right right.0.right h new was is generation in
       let v = there.view in
-      let here : (records_at p).headers image ≡ Some v = subst (λ s. (records_after s p.before).headers image ≡ Some v) (sym read.0) there.is in
+      let here : (records_at p).headers image ≡ Some v = subst (λ s. (records_after s p.before).headers image ≡ Some v) (sym at_home) there.is in
       let viewed_there : IsViewOf v view = subst (λ w. IsViewOf w view) (sym there.same) (owned_view h v.owner view viewed) in
       let below : ArePartsBelow v view.size piece.object piece.parts =
       subst (λ w. ArePartsBelow w view.size piece.object piece.parts) (sym there.same)
       (parts_within (record h { owner = v.owner }) e view.size piece.object piece within (All-head (λ (q : Piece). IsPartsOf h.layout e q.object q.parts) piece pieces parts)) in
-      let shown = piece_shown homes home image v view viewed_there p piece right.0 here below read.1 read.2 in (
-        unwrap_or (bytes_shown piece.parts p.done.answer) [],
-        bytes_read pieces (map step_at places),
+      let shown = piece_shown homes home image v view viewed_there p piece right.0 here below (ap (λ (s : Answered). s.op) asked) (subst IsSome (sym some) refl) in (
+        f.bytes,
+        bytes_read home image view.snap pieces read.others read.are_others,
         refl,
-        shown,
-        pieces_shown pieces places (All-tail (λ (q : Piece). IsPartsOf h.layout e q.object q.parts) piece pieces parts) right.1 behind.1 ordered.1 read.3,
+        subst (λ b. IsPieceAt image view.snap piece b p) (ap (λ o. unwrap_or o []) some) shown,
+        pieces_shown pieces places (All-tail (λ (q : Piece). IsPartsOf h.layout e q.object q.parts) piece pieces parts) right.1 behind.1 ordered.1 read.others others read.are_others,
       )

@@ -60,7 +60,11 @@ module _ (site : SiteId) (image : ℕ) (h : HeaderView) where
         rest = g.rest;
         more = g.more;
         are = are ∙ ap (λ s. read ∷ s) g.are;
-        is_part = record { answer = a; bytes = bytes; shown = shown; are = ap (λ s. read ∷ s) g.is_part };
+        is_part = record {
+          reading = read ∷ [];
+          read = record { answer = a; bytes = bytes; shown = shown; are = refl };
+          are = ap (λ s. read ∷ s) g.is_part;
+        };
         later = g.later;
       }
 

@@ -1,5 +1,8 @@
-use Rattle.rbd_meaning.proofs.Fixed.{written_so}
+use Rattle.rbd_meaning.proofs.Fixed.{read_by, written_so}
 use Rattle.rbd_meaning.proofs.laws.pieces_have_their_operations.Goals as goal
 
-pub returns : goal.returns
-returns c = written_so
+pub returns-clause-written : goal.returns-clause-written
+returns-clause-written c = written_so
+
+pub returns-clause-read : goal.returns-clause-read
+returns-clause-read c = read_by
