@@ -20,10 +20,9 @@ use Rattle.rbd_machine.proofs.Lawful.{lawful_change, or_else_none, own_is_found,
 use Rattle.rbd_meaning.specs.Range.{out_of_range}
 use Rattle.rbd_meaning.specs.Writes.{write_refuses}
 use Rattle.rbd_pieces.specs.Known.{OwnsByHeader, IsPieceOf, known_behind}
-use Rattle.rbd_pieces.specs.Zero.{zeroed_steps}
 use Rattle.rbd_pieces.proofs.Below.{pieces_below}
 use Rattle.rbd_pieces.proofs.ZerosLawful.{lawful_zero}
-use Rattle.rbd_pieces.proofs.Zeroed.{zero_owns}
+use Rattle.rbd_pieces.proofs.Zeroed.{zeroed_own}
 use Rattle.rbd_data.proofs.Writes.{within_size}
 use Rattle.rbd_data.specs.Discard.{discard, discard_plan, zero, zero_in_turns}
 
@@ -36,7 +35,8 @@ module _ (known_at : Label → Knowledge) where
       let turned = known_after_wait k (wait.Turn p.object) in
       lawful_zero known_at turned site image h p (zero_in_turns site image h pieces (applied site image)) (record { sharing = sharing.Discard; owns = owns; turn = refl })
       (All-head (IsPieceOf h) p pieces below)
-      (lawful_pieces pieces (known_behind turned (zeroed_steps site image h p)) site image h (zero_owns site image h h sharing.Discard p turned owns)
+      (λ steps is.
+      lawful_pieces pieces (known_behind turned steps) site image h (zeroed_own site image h h sharing.Discard p turned steps is owns)
       (All-tail (IsPieceOf h) p pieces below))
 
   lawful_discard : (site : SiteId) (name : List ℕ) (e : Extent) → IsLawful known_at nothing_known (discard site name e)

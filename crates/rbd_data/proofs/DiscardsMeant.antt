@@ -22,7 +22,7 @@ use Rattle.rbd_meaning.specs.Discards.{DiscardMeans, DiscardsWhole, RefusesDisca
 use Rattle.rbd_meaning.specs.Parentless.{AreParentless}
 use Rattle.rbd_meaning.specs.Writes.{write_refuses}
 use Rattle.rbd_meaning.proofs.Ends.{same_front}
-use Rattle.rbd_pieces.specs.Size.{pieces_zeroed}
+use Rattle.rbd_pieces.specs.Size.{AreZeroed}
 use Rattle.rbd_data.specs.Discard.{discard, zero, zero_in_turns}
 use Rattle.rbd_data.proofs.DiscardsOwn.{discard_is_own}
 use Rattle.rbd_meaning.proofs.ChangeEnds.{IsEarly, change_ends, refused_early}
@@ -32,7 +32,7 @@ use Rattle.rbd_data.proofs.Refusing.{IsDone, refusing_pieces}
 module _ (site : SiteId) (name : List ℕ) (e : Extent) where
   -- what it does behind its look under the lock
   does_own : (r : Reply) (image : ℕ) (own : HeaderView) (feds : List Fed) (steps : List Answered) → IsWalk Goto (zero site e image own) feds steps (Return r)
-      → Does r (pieces_zeroed site image own (pieces_of own.layout e)) steps
+      → Does r (AreZeroed site image own (pieces_of own.layout e)) steps
   does_own r image own feds steps walk =
       let pieces = pieces_of own.layout e in
       let n = noted_to r site image (event.Discard e.at e.len) (zero_in_turns site image own pieces (applied site image)) feds steps walk in
@@ -51,14 +51,16 @@ module _ (site : SiteId) (name : List ℕ) (e : Extent) where
         own = c.own;
         may_wait = c.may_wait;
         may = c.may;
-        are = c.are ∙ ap (behind c.image c.first c.own) (does_own reply.Done c.image c.own c.more c.rest c.walk);
+        zeroed = c.rest;
+        are_zeroed = does_own reply.Done c.image c.own c.more c.rest c.walk;
+        are = c.are;
       }
 
   -- no other reply comes
-  other_reply : (r : Reply) → EndsUnrefused (Return r) → ((all steps : List Answered) → Does r all steps → ⊥) → (feds : List Fed) (steps : List Answered) → IsWalk Goto (discard site name e) feds steps (Return r) → ⊥
+  other_reply : (r : Reply) → EndsUnrefused (Return r) → ((Are : List Answered → Type 0) (steps : List Answered) → Does r Are steps → ⊥) → (feds : List Fed) (steps : List Answered) → IsWalk Goto (discard site name e) feds steps (Return r) → ⊥
   other_reply r kind none feds steps walk =
       let c = changed (Return r) kind site name sharing.Discard (write_refuses e) (zero site e) feds steps walk in
-      none (pieces_zeroed site c.image c.own (pieces_of c.own.layout e)) c.rest (does_own r c.image c.own c.more c.rest c.walk)
+      none (AreZeroed site c.image c.own (pieces_of c.own.layout e)) c.rest (does_own r c.image c.own c.more c.rest c.walk)
 
   -- ---- refused behind its look under the lock
 
@@ -77,7 +79,7 @@ module _ (site : SiteId) (name : List ℕ) (e : Extent) where
     refused_late : AreOwn site (look_up name) steps → AreGiven steps → AreParentless steps → RefusesDiscard site name e steps x
     refused_late own given parentless =
         let by = by_the_fence given parentless in
-        let stop : IsCutOff (pieces_zeroed site c.image c.own (pieces_of c.own.layout e)) c.rest = does_own (reply.Refused x) c.image c.own c.more c.rest c.walk in
+        let stop : IsCutOff (AreZeroed site c.image c.own (pieces_of c.own.layout e)) c.rest = does_own (reply.Refused x) c.image c.own c.more c.rest c.walk in
         let same : by.before ≡ stop.before = same_front by.before stop.before by.last stop.last (sym by.are ∙ stop.are) in
         record {
           refused = record {
@@ -100,7 +102,9 @@ module _ (site : SiteId) (name : List ℕ) (e : Extent) where
               own = c.own;
               may_wait = c.may_wait;
               may = c.may;
-              are = ap (behind c.image c.first c.own) (ap (λ before. before ++ stop.left) same ∙ stop.whole);
+              zeroed = stop.before ++ stop.left;
+              are_zeroed = stop.whole;
+              are = ap (behind c.image c.first c.own) (ap (λ before. before ++ stop.left) same);
             };
           });
         }
@@ -122,4 +126,4 @@ discard_means site image at len feds steps (reply.Refused x) given parentless wa
     let e : Extent = record { at = at; len = len } in
     refused_means site image e x steps (discard_is_own site image e feds steps (Return (reply.Refused x)) walk) given parentless
     (change_ends (reply.Refused x) site image sharing.Discard (write_refuses e) (zero site e) steps feds walk)
-discard_means site image at len feds steps r given parentless walk = other_reply site image (record { at = at; len = len }) r tt (λ all steps does. does) feds steps walk
+discard_means site image at len feds steps r given parentless walk = other_reply site image (record { at = at; len = len }) r tt (λ Are steps does. does) feds steps walk

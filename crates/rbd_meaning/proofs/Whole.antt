@@ -25,11 +25,11 @@ use Rattle.rbd_machine.specs.About.{owned_after, owned_behind}
 use Rattle.rbd_machine.specs.Knowledge.{ImagePlace}
 use Rattle.rbd_machine.specs.Path.{Answered}
 use Rattle.rbd_machine.specs.Refused.{refusal_by, AreAllowed, IsRefusedBy, MayRefuse}
-use Rattle.rbd_pieces.specs.Full.{cut_bytes, replaced, replaced_by}
+use Rattle.rbd_pieces.specs.Full.{cut_bytes, replaced_by}
 use Rattle.rbd_pieces.specs.Pieces.{ArePieces}
 use Rattle.rbd_pieces.specs.Shrink.{pieces_from}
-use Rattle.rbd_pieces.specs.Size.{pieces_zeroed, IsResizedBy}
-use Rattle.rbd_pieces.specs.Zero.{all_zeroed, is_inside, is_whole, some_zeroed, zeroed_steps, zeroed_by}
+use Rattle.rbd_pieces.specs.Size.{AreZeroed, IsResizedBy}
+use Rattle.rbd_pieces.specs.Zero.{IsZeroed, all_zeroed, is_inside, is_whole, some_zeroed, zeroed_by}
 use Rattle.rbd_pieces.proofs.Pieces.{of_each_piece}
 use Rattle.rbd_meaning.specs.Discards.{DiscardsWhole}
 use Rattle.rbd_meaning.specs.Range.{extent_at}
@@ -63,6 +63,11 @@ module _ (refuses : HeaderView → Option Refusal) where
       go images [] allowed = second images
       go images (s ∷ one) allowed = (allowed.0, go (owned_after images s.site s.op s.answer) one allowed.1)
 
+  -- piece by piece
+  each_allowed : {P : Type 0} → (IsPiece : P → List Answered → Type 0) → ((p : P) (steps : List Answered) → IsPiece p steps → AreFree refuses steps)
+      → (pieces : List P) (steps : List Answered) → ArePieces IsPiece pieces steps → AreFree refuses steps
+  each_allowed IsPiece each pieces steps are = of_each_piece (AreFree refuses) (λ images. tt) both_allowed IsPiece each pieces steps are
+
   -- ---- parts of changes
 
   some_allowed : (site : SiteId) (image : ℕ) (context : SnapContext) (p : Piece) (inside : Bool) → AreFree refuses (some_zeroed site image context p inside)
@@ -77,16 +82,15 @@ module _ (refuses : HeaderView → Option Refusal) where
   zeroed_allowed site image context p false inside = some_allowed site image context p inside
   zeroed_allowed site image context p true inside = all_allowed site image context p inside
 
-  pieces_allowed : (site : SiteId) (image : ℕ) (h : HeaderView) (pieces : List Piece) → AreFree refuses (pieces_zeroed site image h pieces)
-  pieces_allowed site image h [] images = tt
-  pieces_allowed site image h (p ∷ pieces) images =
-      both_allowed (zeroed_steps site image h p) (pieces_zeroed site image h pieces) (zeroed_allowed site image (context_of h) p (is_whole h p) (is_inside h p.object)) (pieces_allowed site image h pieces) images
+  pieces_allowed : (site : SiteId) (image : ℕ) (h : HeaderView) (pieces : List Piece) (steps : List Answered) → AreZeroed site image h pieces steps → AreFree refuses steps
+  pieces_allowed site image h pieces steps are =
+      each_allowed (IsZeroed site image h) (λ p steps is. subst (AreFree refuses) (sym is) (zeroed_allowed site image (context_of h) p (is_whole h p) (is_inside h p.object))) pieces steps are
 
   resized_allowed : (site : SiteId) (image : ℕ) (h : HeaderView) (to objects : ℕ) (grows : Bool) (steps : List Answered) → IsResizedBy grows site image h to objects steps → AreFree refuses steps
   resized_allowed site image h to objects true steps are = subst (AreFree refuses) (sym are) (λ images. (λ own. refl, (λ own. refl, tt)))
   resized_allowed site image h to objects false steps shrunk =
       subst (AreFree refuses) (sym shrunk.are)
-      (λ images. (λ own. refl, both_allowed (pieces_zeroed site image h (pieces_from h to shrunk.bits)) _ (pieces_allowed site image h (pieces_from h to shrunk.bits)) (λ images. (λ own. refl, tt)) images))
+      (λ images. (λ own. refl, both_allowed shrunk.zeroed _ (pieces_allowed site image h (pieces_from h to shrunk.bits) shrunk.zeroed shrunk.are_zeroed) (λ images. (λ own. refl, tt)) images))
 
   replaced_allowed : (site : SiteId) (image : ℕ) (h : HeaderView) (p : Piece) (left : List ℕ) → AreFree refuses (replaced_by site image h p left)
   replaced_allowed site image h p [] images = all_allowed site image (context_of h) p (is_inside h p.object) images
@@ -100,11 +104,6 @@ module _ (refuses : HeaderView → Option Refusal) where
   shown_allowed : (site : SiteId) (image : ℕ) (snap : Option ℕ) (p : Piece) (steps : List Answered) → IsShown site image snap p steps → AreFree refuses steps
   shown_allowed site image snap p steps is = subst (AreFree refuses) (sym is.are) (λ images. (λ own. read_allowed image snap p is.answer is.bytes is.shown, tt))
 
-  -- piece by piece
-  each_allowed : {P : Type 0} → (IsPiece : P → List Answered → Type 0) → ((p : P) (steps : List Answered) → IsPiece p steps → AreFree refuses steps)
-      → (pieces : List P) (steps : List Answered) → ArePieces IsPiece pieces steps → AreFree refuses steps
-  each_allowed IsPiece each pieces steps are = of_each_piece (AreFree refuses) (λ images. tt) both_allowed IsPiece each pieces steps are
-
   written_allowed : (site : SiteId) (image : ℕ) (h : HeaderView) (at : ℕ) (bytes : List ℕ) (pieces : List Piece) (steps : List Answered)
       → AreWritten site image h at bytes pieces steps → AreFree refuses steps
   written_allowed site image h at bytes pieces steps are =
@@ -114,7 +113,8 @@ module _ (refuses : HeaderView → Option Refusal) where
   one_restored_allowed site image h snap p steps is =
       let read = is.read in
       subst (AreFree refuses) (sym is.are)
-      (both_allowed is.reading (replaced site image h p read.bytes) (shown_allowed site image (Some snap) p is.reading read) (replaced_allowed site image h p (cut_bytes read.bytes)))
+      (both_allowed is.reading is.replacing (shown_allowed site image (Some snap) p is.reading read)
+      (subst (AreFree refuses) (sym is.is_replaced) (replaced_allowed site image h p (cut_bytes read.bytes))))
 
   restored_allowed : (site : SiteId) (image : ℕ) (h : HeaderView) (snap : ℕ) (pieces : List Piece) (steps : List Answered) → AreRestored site image h snap pieces steps → AreFree refuses steps
   restored_allowed site image h snap pieces steps are = each_allowed (IsRestored site image h snap) (one_restored_allowed site image h snap) pieces steps are
@@ -129,7 +129,7 @@ write_allowed site name at bytes steps whole =
 pub discard_allowed : (site : SiteId) (name : List ℕ) (e : Extent) (steps : List Answered) → DiscardsWhole site name e steps → AreAllowed (write_refuses e) [] steps
 discard_allowed site name e steps whole =
     subst (AreAllowed (write_refuses e) []) (sym whole.are)
-    (λ own. refl, (λ own. whole.may_wait, (λ own. whole.may, pieces_allowed (write_refuses e) site whole.image whole.own _ _)))
+    (λ own. refl, (λ own. whole.may_wait, (λ own. whole.may, pieces_allowed (write_refuses e) site whole.image whole.own _ whole.zeroed whole.are_zeroed _)))
 
 pub resize_allowed : (site : SiteId) (name : List ℕ) (to : ℕ) (steps : List Answered) → ResizesWhole site name to steps → AreAllowed (resize_refuses to) [] steps
 resize_allowed site name to steps whole =

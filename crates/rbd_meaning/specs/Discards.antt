@@ -13,7 +13,7 @@ use Rattle.rbd_machine.specs.Path.{Answered, found, looked_at}
 use Rattle.rbd_machine.specs.Refused.{by_fence, AreLooks, IsRefused}
 use Rattle.rbd_meaning.specs.Partly.{IsFrontOf}
 use Rattle.rbd_meaning.specs.Writes.{write_refuses}
-use Rattle.rbd_pieces.specs.Size.{pieces_zeroed}
+use Rattle.rbd_pieces.specs.Size.{AreZeroed}
 
 -- The request found its image and looked at the header twice, and neither look refused it. Then, by
 -- its look under the lock, each piece of its extent became zeros, one after another, and nothing
@@ -24,8 +24,9 @@ pub record DiscardsWhole (site : SiteId) (name : List ℕ) (e : Extent) (steps :
   pub own : HeaderView
   pub may_wait : write_refuses e first ≡ None
   pub may : write_refuses e own ≡ None
-  pub are : steps ≡ found site name image ∷ looked_at site image first ∷ looked_at site image own
-      ∷ pieces_zeroed site image own (pieces_of own.layout e)
+  pub zeroed : List Answered
+  pub are_zeroed : AreZeroed site image own (pieces_of own.layout e) zeroed
+  pub are : steps ≡ found site name image ∷ looked_at site image first ∷ looked_at site image own ∷ zeroed
 
 -- The request was refused, and had only looked before, or zeroed its first pieces.
 pub record RefusesDiscard (site : SiteId) (name : List ℕ) (e : Extent) (steps : List Answered)

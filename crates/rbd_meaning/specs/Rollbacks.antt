@@ -18,7 +18,7 @@ use Rattle.rbd_machine.specs.Refused.{by_fence, AreLooks, IsRefused}
 use Rattle.rbd_machine.specs.Steps.{or_else, non_primary}
 use Rattle.rbd_meaning.specs.Partly.{IsFrontOf}
 use Rattle.rbd_meaning.specs.Reads.{IsShown}
-use Rattle.rbd_pieces.specs.Full.{replaced}
+use Rattle.rbd_pieces.specs.Full.{IsReplaced}
 use Rattle.rbd_pieces.specs.Pieces.{ArePieces}
 use Rattle.rbd_pieces.specs.Size.{IsResized}
 use Rattle.rbd_pieces.specs.Zero.{head_of}
@@ -39,7 +39,9 @@ pub record IsRestored (site : SiteId) (image : ℕ) (h : HeaderView) (snap : ℕ
     (steps : List Answered) : Type 0 where
   pub reading : List Answered
   pub read : IsShown site image (Some snap) p reading
-  pub are : steps ≡ reading ++ replaced site image h p read.bytes
+  pub replacing : List Answered
+  pub is_replaced : IsReplaced site image h p read.bytes replacing
+  pub are : steps ≡ reading ++ replacing
 
 -- the pieces were restored, one after another
 abbrev pub AreRestored : SiteId → (image : ℕ) → HeaderView → (snap : ℕ) → List Piece → List Answered → Type 0

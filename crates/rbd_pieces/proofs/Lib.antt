@@ -8,6 +8,7 @@ pub mod Below
 pub mod ZerosBounded
 pub mod ZerosClosed
 pub mod Ends
+pub mod Fixed
 pub mod Held
 pub mod ZerosLawful
 pub mod Pieces

@@ -1,5 +1,5 @@
 -- A size does what it may, and the image is its own by the header at the new size.
-use Rattle.std.proofs.Common.{◌≡◌, ◌⊎◌, inl, inr, ℕ, zero, suc, ◌+◌, ◌-◌, ◌*◌, ◌^◌, ◌<◌, ◌≤◌, List, [], ◌∷◌, All, Any, map, length, get_or, Bool, true, false, not, cond, ◌==◌, ◌||◌, Option, Some, None, option_map, refl, ap, ◌∙◌, sym, subst, arith}
+use Rattle.std.proofs.Common.{◌≡◌, ◌⊎◌, inl, inr, ℕ, zero, suc, ◌+◌, ◌-◌, ◌*◌, ◌^◌, ◌<◌, ◌≤◌, List, [], ◌∷◌, ◌++◌, All, Any, map, length, get_or, Bool, true, false, not, cond, ◌==◌, ◌||◌, Option, Some, None, option_map, refl, ap, ◌∙◌, sym, subst, arith}
 use Rattle.std.specs.Prelude.{nat_le}
 use Rattle.std.proofs.lemmas.Bool.{eqb-true}
 use Rattle.std.proofs.lemmas.Bool.Decides.{nat_tests}
@@ -31,11 +31,11 @@ use Rattle.rbd_machine.proofs.Lawful.{lawful_not_there}
 use Rattle.rbd_pieces.specs.Known.{OwnsByHeader, IsPieceOf, known_behind}
 use Rattle.rbd_pieces.specs.Operations.{done, header_set_size, map_get, map_resize}
 use Rattle.rbd_pieces.specs.Shrink.{piece_has_bytes, head_from, pieces_from}
-use Rattle.rbd_pieces.specs.Size.{IsResized, IsResizedBy, IsShrunk, cutting, growing, grown, pieces_zeroed, resize, resize_by, shrinking, shrunk, sizing, zero_pieces}
-use Rattle.rbd_pieces.specs.Zero.{is_inside, zeroed_steps}
+use Rattle.rbd_pieces.specs.Size.{AreZeroed, IsResized, IsResizedBy, IsShrunk, cutting, growing, grown, resize, resize_by, shrinking, shrunk, sizing, zero_pieces}
+use Rattle.rbd_pieces.specs.Zero.{is_inside}
 use Rattle.rbd_pieces.proofs.Below.{pieces_below}
 use Rattle.rbd_pieces.proofs.ZerosLawful.{lawful_own, lawful_zero, maps_changed}
-use Rattle.rbd_pieces.proofs.Zeroed.{IsZero, Takes, behind_more, found_or_fails, told_zero, zero_owns, zeros_own, zeros_there}
+use Rattle.rbd_pieces.proofs.Zeroed.{IsZero, Takes, behind_more, found_or_fails, told_zero, zeroed_own, zeros_own, zeros_there}
 
 -- ---- counts
 
@@ -74,13 +74,15 @@ size_is_told site image h sharing to k owns = told_there site image (option_map 
 -- ---- pieces one after another
 
 lawful_zeros : (at : Label → Knowledge) (site : SiteId) (image : ℕ) (h : HeaderView) (pieces : List Piece) (k : Knowledge) (next : Plan) → OwnsByHeader k site image Alone h → All (IsPieceOf h) pieces
-    → IsLawful at (known_behind k (pieces_zeroed site image h pieces)) next → IsLawful at k (zero_pieces site image h pieces next)
-lawful_zeros at site image h [] k next owns are lawful = lawful
+    → ((steps : List Answered) → AreZeroed site image h pieces steps → IsLawful at (known_behind k steps) next) → IsLawful at k (zero_pieces site image h pieces next)
+lawful_zeros at site image h [] k next owns are lawful = lawful [] refl
 lawful_zeros at site image h (p ∷ pieces) k next owns are lawful =
-    let behind = known_behind k (zeroed_steps site image h p) in
     lawful_zero at k site image h p (zero_pieces site image h pieces next) (record { sharing = Alone; owns = owns; turn = tt }) (All-head (IsPieceOf h) p pieces are)
-    (lawful_zeros at site image h pieces behind next (zero_owns site image h h Alone p k owns) (All-tail (IsPieceOf h) p pieces are)
-    (subst (λ known. IsLawful at known next) (behind_more k (zeroed_steps site image h p) (pieces_zeroed site image h pieces)) lawful))
+    (λ first is.
+    lawful_zeros at site image h pieces (known_behind k first) next (zeroed_own site image h h Alone p k first is owns) (All-tail (IsPieceOf h) p pieces are)
+    (λ others zeroed.
+    subst (λ known. IsLawful at known next) (behind_more k first others)
+    (lawful (first ++ others) (record { first = first; others = others; is_first = is; are_others = zeroed; are = refl }))))
 
 module _ (site : SiteId) (image : ℕ) (h : HeaderView) (to : ℕ) where
   -- ---- growth
@@ -160,42 +162,46 @@ module _ (site : SiteId) (image : ℕ) (h : HeaderView) (to : ℕ) where
             none = told_zero bits (object_of h.layout x) (ap (state_at bits) (sym same) ∙ passed_over p none);
           }))
 
-      abbrev cut_off : Knowledge
-      cut_off = known_behind told (pieces_zeroed site image h (pieces_from h to bits))
+      -- whichever steps zeroed them
+      module _ (zeroed : List Answered) (are : AreZeroed site image h (pieces_from h to bits) zeroed) where
+        abbrev cut_off : Knowledge
+        cut_off = known_behind told zeroed
 
-      all_zero : (x : ℕ) → to ≤ x → x < h.size → IsZero site image h x cut_off
-      all_zero x low high = zeros_there site image h x (pieces_from h to bits) told (all_take x low high) (zero_or_left x low high)
+        all_zero : (x : ℕ) → to ≤ x → x < h.size → IsZero site image h x cut_off
+        all_zero x low high = zeros_there site image h x (pieces_from h to bits) told zeroed are (all_take x low high) (zero_or_left x low high)
 
-      may_shrink : OwnsByHeader k site image Alone h → HasFewObjects h.layout to → to < h.size → Permits cut_off site (header_set_size image to)
-      may_shrink owns few less = record {
-        sharing = Alone;
-        header = h;
-        is = zeros_own site image h h Alone (pieces_from h to bits) told owns;
-        meets = (
-          refl,
-          record {
-            few = few;
-            mapped = λ more. absurd (omega (arith, less, more));
-            zeroed = all_zero;
-          },
-        );
-      }
+        may_shrink : OwnsByHeader k site image Alone h → HasFewObjects h.layout to → to < h.size → Permits cut_off site (header_set_size image to)
+        may_shrink owns few less = record {
+          sharing = Alone;
+          header = h;
+          is = zeros_own site image h h Alone (pieces_from h to bits) told zeroed are owns;
+          meets = (
+            refl,
+            record {
+              few = few;
+              mapped = λ more. absurd (omega (arith, less, more));
+              zeroed = all_zero;
+            },
+          );
+        }
 
-      lawful_cutting : (at : Label → Knowledge) (next : Plan) → OwnsByHeader k site image Alone h → HasFewObjects h.layout to → to < h.size → IsLawful at (known_behind k (shrunk site image h to bits)) next
-          → IsLawful at told (cutting site image h to next bits)
+      lawful_cutting : (at : Label → Knowledge) (next : Plan) → OwnsByHeader k site image Alone h → HasFewObjects h.layout to → to < h.size
+          → ((steps : List Answered) → IsShrunk site image h to steps → IsLawful at (known_behind k steps) next) → IsLawful at told (cutting site image h to next bits)
       lawful_cutting at next owns few less lawful =
           let below : All (IsPieceOf h) (pieces_of h.layout (head_from h to)) = pieces_below h (head_from h to) is (let all : to + (h.size - to) ≤ h.size = omega (arith, less) in all) in
           lawful_zeros at site image h (pieces_from h to bits) told (sizing site image to next) owns
           (All-filter (piece_has_bytes h bits) (IsPieceOf h) (pieces_of h.layout (head_from h to)) below)
-          (lawful_own at cut_off site (header_set_size image to) next (may_shrink owns few less)
-          (subst (λ known. IsLawful at known next) (behind_more told (pieces_zeroed site image h (pieces_from h to bits)) (done site (header_set_size image to) ∷ [])) lawful))
+          (λ zeroed are.
+          lawful_own at (cut_off zeroed are) site (header_set_size image to) next (may_shrink zeroed are owns few less)
+          (subst (λ known. IsLawful at known next) (behind_more told zeroed (done site (header_set_size image to) ∷ []))
+          (lawful (shrunk site image to bits zeroed) (record { bits = bits; zeroed = zeroed; are_zeroed = are; are = refl }))))
 
   lawful_shrinking : (at : Label → Knowledge) (k : Knowledge) (next : Plan) → IsLayout h.layout → OwnsByHeader k site image Alone h → HasFewObjects h.layout to → to < h.size
       → ((steps : List Answered) → IsShrunk site image h to steps → IsLawful at (known_behind k steps) next) → IsLawful at k (shrinking site image h to next)
   lawful_shrinking at k next is owns few less lawful = (tt, λ a can. on a)
     where
       on : (a : Answer) → IsLawful at (learned k site (map_get image) a) (on_bits (cutting site image h to next) a)
-      on (answer.Bits bits) = lawful_cutting is bits k at next owns few less (lawful (shrunk site image h to bits) (record { bits = bits; are = refl }))
+      on (answer.Bits bits) = lawful_cutting is bits k at next owns few less lawful
       on a = lawful_not_there at (learned k site (map_get image) a) a
 
   -- ---- either
@@ -213,11 +219,11 @@ module _ (site : SiteId) (image : ℕ) (h : HeaderView) (to : ℕ) where
 
   -- ---- whose the image is then
 
-  shrunk_owns : (k : Knowledge) (bits : List ℕ) → OwnsByHeader k site image Alone h → OwnsByHeader (known_behind k (shrunk site image h to bits)) site image Alone (with_size to h)
-  shrunk_owns k bits owns =
-      let zeros = pieces_zeroed site image h (pieces_from h to bits) in
-      subst (λ known. OwnsByHeader known site image Alone (with_size to h)) (sym (behind_more (told' k bits) zeros (done site (header_set_size image to) ∷ [])))
-      (size_is_told site image h Alone to (known_behind (told' k bits) zeros) (zeros_own site image h h Alone (pieces_from h to bits) (told' k bits) owns))
+  shrunk_owns : (k : Knowledge) (bits : List ℕ) (zeroed : List Answered) → AreZeroed site image h (pieces_from h to bits) zeroed → OwnsByHeader k site image Alone h
+      → OwnsByHeader (known_behind k (shrunk site image to bits zeroed)) site image Alone (with_size to h)
+  shrunk_owns k bits zeroed are owns =
+      subst (λ known. OwnsByHeader known site image Alone (with_size to h)) (sym (behind_more (told' k bits) zeroed (done site (header_set_size image to) ∷ [])))
+      (size_is_told site image h Alone to (known_behind (told' k bits) zeroed) (zeros_own site image h h Alone (pieces_from h to bits) (told' k bits) zeroed are owns))
     where
       told' : Knowledge → List ℕ → Knowledge
       told' k bits = learned k site (map_get image) (answer.Bits bits)
@@ -228,7 +234,7 @@ module _ (site : SiteId) (image : ℕ) (h : HeaderView) (to : ℕ) where
       subst (λ done. OwnsByHeader (known_behind k done) site image Alone (with_size to h)) (sym are)
       (size_is_told site image h Alone to (learned k site (map_resize image objects) answer.Done) owns)
   resized_owns_by false k objects steps owns is =
-      subst (λ done. OwnsByHeader (known_behind k done) site image Alone (with_size to h)) (sym is.are) (shrunk_owns k is.bits owns)
+      subst (λ done. OwnsByHeader (known_behind k done) site image Alone (with_size to h)) (sym is.are) (shrunk_owns k is.bits is.zeroed is.are_zeroed owns)
 
   pub resized_owns : (k : Knowledge) (objects : ℕ) (steps : List Answered) → OwnsByHeader k site image Alone h → IsResized site image h to objects steps → OwnsByHeader (known_behind k steps) site image Alone (with_size to h)
   resized_owns k objects steps owns are = resized_owns_by (nat_le h.size to) k objects steps owns are

@@ -16,11 +16,11 @@ use Rattle.rbd_machine.specs.Plan.{Plan, Return, Goto}
 use Rattle.rbd_machine.specs.Steps.{own, on_done, on_bits}
 use Rattle.rbd_machine.specs.declared.reason.Reason.TheVariants as reason
 use Rattle.rbd_machine.proofs.Walked.{EndsUnrefused, ended, told_bits, told_done, went_on}
-use Rattle.rbd_pieces.specs.Full.{cut_bytes, full_by, full_piece, replaced, replaced_by, writing_full}
+use Rattle.rbd_pieces.specs.Full.{IsReplaced, cut_bytes, full_by, full_piece, replaced, replaced_by, writing_full}
 use Rattle.rbd_pieces.specs.Operations.{data_empty, data_remove, data_write_full, data_zero, done, header_set_size, map_get, map_resize, map_set}
 use Rattle.rbd_pieces.specs.Shrink.{pieces_from}
-use Rattle.rbd_pieces.specs.Size.{IsResized, IsResizedBy, IsShrunk, cutting, growing, grown, pieces_zeroed, resize, resize_by, shrinking, sizing, states_told, zero_pieces}
-use Rattle.rbd_pieces.specs.Zero.{all_zeroed, emptying, is_inside, is_whole, removing, setting, zero_all, zero_by, zero_piece, zeroed_steps, zeroed_by, zeroing}
+use Rattle.rbd_pieces.specs.Size.{AreZeroed, IsResized, IsResizedBy, IsShrunk, cutting, growing, grown, resize, resize_by, shrinking, sizing, states_told, zero_pieces}
+use Rattle.rbd_pieces.specs.Zero.{IsZeroed, all_zeroed, emptying, is_inside, is_whole, removing, setting, zero_all, zero_by, zero_piece, zeroed_steps, zeroed_by, zeroing}
 
 -- These operations were done, each in turn, and what comes next has begun.
 record Did (last next : Plan) (first steps : List Answered) : Type 0 where
@@ -28,6 +28,12 @@ record Did (last next : Plan) (first steps : List Answered) : Type 0 where
   rest : List Answered
   are : steps ≡ first ++ rest
   walk : IsWalk Goto next more rest last
+
+-- so were some that are of a kind
+record DidSome (last next : Plan) (Are : List Answered → Type 0) (steps : List Answered) : Type 0 where
+  first : List Answered
+  are : Are first
+  did : Did last next first steps
 
 module _ (last : Plan) (kind : EndsUnrefused last) where
   -- ---- steps
@@ -87,12 +93,17 @@ module _ (last : Plan) (kind : EndsUnrefused last) where
         let a = did site (map_set image piece.object 1) writing feds steps walk in
         then_did writing next (done site (map_set image piece.object 1) ∷ []) (done site o ∷ []) steps a (did site o next a.more a.rest a.walk)
 
-    did_pieces : (pieces : List Piece) (next : Plan) (feds : List Fed) (steps : List Answered) → IsWalk Goto (zero_pieces site image h pieces next) feds steps last → Did last next (pieces_zeroed site image h pieces) steps
-    did_pieces [] next feds steps walk = record { more = feds; rest = steps; are = refl; walk = walk }
+    did_pieces : (pieces : List Piece) (next : Plan) (feds : List Fed) (steps : List Answered) → IsWalk Goto (zero_pieces site image h pieces next) feds steps last → DidSome last next (AreZeroed site image h pieces) steps
+    did_pieces [] next feds steps walk = record { first = []; are = refl; did = record { more = feds; rest = steps; are = refl; walk = walk } }
     did_pieces (p ∷ pieces) next feds steps walk =
         let others = zero_pieces site image h pieces next in
         let a = did_zero p others feds steps walk in
-        then_did others next (zeroed_steps site image h p) (pieces_zeroed site image h pieces) steps a (did_pieces pieces next a.more a.rest a.walk)
+        let b = did_pieces pieces next a.more a.rest a.walk in
+        record {
+          first = zeroed_steps site image h p ++ b.first;
+          are = record { first = zeroed_steps site image h p; others = b.first; is_first = refl; are_others = b.are; are = refl };
+          did = then_did others next (zeroed_steps site image h p) b.first steps a b.did;
+        }
 
 -- ---- the whole
 
@@ -101,11 +112,11 @@ at_end : (first steps : List Answered) → Did (Return reply.Done) (Return reply
 at_end first steps a = a.are ∙ ap (λ rest. first ++ rest) (ended reply.Done a.more a.rest (Return reply.Done) a.walk).0 ∙ append-nil first
 
 pub zero_did : (site : SiteId) (image : ℕ) (h : HeaderView) (piece : Piece) (feds : List Fed) (steps : List Answered)
-    → IsWalk Goto (zero_piece site image h piece (Return reply.Done)) feds steps (Return reply.Done) → steps ≡ zeroed_steps site image h piece
+    → IsWalk Goto (zero_piece site image h piece (Return reply.Done)) feds steps (Return reply.Done) → IsZeroed site image h piece steps
 zero_did site image h piece feds steps walk = at_end (zeroed_steps site image h piece) steps (did_zero (Return reply.Done) tt site image h piece (Return reply.Done) feds steps walk)
 
 pub full_did : (site : SiteId) (image : ℕ) (h : HeaderView) (piece : Piece) (bytes : List ℕ) (feds : List Fed) (steps : List Answered)
-    → IsWalk Goto (full_piece site image h piece bytes (Return reply.Done)) feds steps (Return reply.Done) → steps ≡ replaced site image h piece bytes
+    → IsWalk Goto (full_piece site image h piece bytes (Return reply.Done)) feds steps (Return reply.Done) → IsReplaced site image h piece bytes steps
 full_did site image h piece bytes feds steps walk =
     at_end (replaced site image h piece bytes) steps (did_full_by (Return reply.Done) tt site image h (cut_bytes bytes) piece (Return reply.Done) feds steps walk)
 
@@ -129,11 +140,12 @@ shrink_did site image h to feds steps walk =
     let pieces = pieces_from h to t.bits in
     let a = did_pieces last tt site image h pieces set w.more w.rest t.walk in
     let size = done site (header_set_size image to) in
-    let are : w.rest ≡ pieces_zeroed site image h pieces ++ size ∷ [] =
-    at_end (pieces_zeroed site image h pieces ++ size ∷ []) w.rest
-    (then_did last tt set last (pieces_zeroed site image h pieces) (size ∷ []) w.rest a (did last tt site (header_set_size image to) last a.more a.rest a.walk)) in
+    let are : w.rest ≡ a.first ++ size ∷ [] =
+    at_end (a.first ++ size ∷ []) w.rest (then_did last tt set last a.first (size ∷ []) w.rest a.did (did last tt site (header_set_size image to) last a.did.more a.did.rest a.did.walk)) in
     record {
       bits = t.bits;
+      zeroed = a.first;
+      are_zeroed = a.are;
       are =
           w.are ∙ ap (λ told. record { site = site; op = map_get image; answer = told } ∷ w.rest) t.is
           ∙ ap (λ rest. states_told site image t.bits ∷ rest) are;

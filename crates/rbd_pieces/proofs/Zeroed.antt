@@ -21,11 +21,11 @@ use Rattle.rbd_map.specs.States.{states_of}
 use Rattle.rbd_machine.specs.Knowledge.{Blank, Knowledge, MapsKnown, ObjectsKnown, blanked, forgotten, learned, maps_of, objects_known_of, removed, states_set, with_objects}
 use Rattle.rbd_machine.specs.Path.{Answered}
 use Rattle.rbd_machine.specs.Permits.{IsInParts, IsZeroByChange, IsZeroByState}
-use Rattle.rbd_pieces.specs.Full.{cut_bytes, replaced, replaced_by}
+use Rattle.rbd_pieces.specs.Full.{IsReplaced, cut_bytes, replaced, replaced_by}
 use Rattle.rbd_pieces.specs.Known.{OwnsByHeader, known_behind}
 use Rattle.rbd_pieces.specs.Operations.{data_empty, data_remove, data_zero, map_set}
-use Rattle.rbd_pieces.specs.Size.{pieces_zeroed}
-use Rattle.rbd_pieces.specs.Zero.{all_zeroed, is_inside, is_whole, zeroed_steps, zeroed_by}
+use Rattle.rbd_pieces.specs.Size.{AreZeroed}
+use Rattle.rbd_pieces.specs.Zero.{IsZeroed, all_zeroed, is_inside, is_whole, zeroed_steps, zeroed_by}
 use Rattle.rbd_pieces.proofs.ZerosLawful.{maps_changed, objects_changed, with_state}
 
 -- ---- lists
@@ -73,12 +73,23 @@ full_by_owns site image h own sharing p [] k owns = by (is_inside h p.object)
 pub full_owns : (site : SiteId) (image : ℕ) (h own : HeaderView) (sharing : Sharing) (p : Piece) (bytes : List ℕ) (k : Knowledge) → OwnsByHeader k site image sharing own → OwnsByHeader (known_behind k (replaced site image h p bytes)) site image sharing own
 full_owns site image h own sharing p bytes k owns = full_by_owns site image h own sharing p (cut_bytes bytes) k owns
 
-pub zeros_own : (site : SiteId) (image : ℕ) (h own : HeaderView) (sharing : Sharing) (pieces : List Piece) (k : Knowledge) → OwnsByHeader k site image sharing own
-    → OwnsByHeader (known_behind k (pieces_zeroed site image h pieces)) site image sharing own
-zeros_own site image h own sharing [] k owns = owns
-zeros_own site image h own sharing (p ∷ pieces) k owns =
-    subst (λ known. OwnsByHeader known site image sharing own) (sym (behind_more k (zeroed_steps site image h p) (pieces_zeroed site image h pieces)))
-    (zeros_own site image h own sharing pieces (known_behind k (zeroed_steps site image h p)) (zero_owns site image h own sharing p k owns))
+module _ (site : SiteId) (image : ℕ) (h own : HeaderView) (sharing : Sharing) where
+  abbrev OwnsBehind : Knowledge → List Answered → Type 0
+  OwnsBehind k steps = OwnsByHeader (known_behind k steps) site image sharing own
+
+  -- whichever steps they were
+  pub zeroed_own : (p : Piece) (k : Knowledge) (steps : List Answered) → IsZeroed site image h p steps → OwnsByHeader k site image sharing own → OwnsBehind k steps
+  zeroed_own p k steps is owns = subst (OwnsBehind k) (sym is) (zero_owns site image h own sharing p k owns)
+
+  pub replaced_own : (p : Piece) (bytes : List ℕ) (k : Knowledge) (steps : List Answered) → IsReplaced site image h p bytes steps → OwnsByHeader k site image sharing own → OwnsBehind k steps
+  replaced_own p bytes k steps is owns = subst (OwnsBehind k) (sym is) (full_owns site image h own sharing p bytes k owns)
+
+  pub zeros_own : (pieces : List Piece) (k : Knowledge) (steps : List Answered) → AreZeroed site image h pieces steps → OwnsByHeader k site image sharing own → OwnsBehind k steps
+  zeros_own [] k steps none owns = subst (OwnsBehind k) (sym none) owns
+  zeros_own (p ∷ pieces) k steps are owns =
+      subst (OwnsBehind k) (sym are.are)
+      (subst (λ known. OwnsByHeader known site image sharing own) (sym (behind_more k are.first are.others))
+      (zeros_own pieces (known_behind k are.first) are.others are.are_others (zeroed_own p k are.first are.is_first owns)))
 
 -- ---- zeros
 
@@ -196,10 +207,18 @@ module _ (site : SiteId) (image : ℕ) (h : HeaderView) (x : ℕ) where
       go (inr (is, other)) (inl zeros) = inl (zero_elsewhere p k other zeros)
       go (inr (is, other)) (inr found) = inr (later other found)
 
-  pub zeros_there : (pieces : List Piece) (k : Knowledge) → All Takes pieces → IsZero k ⊎ Any (λ (q : Piece). q.object ≡ object_of h.layout x) pieces
-      → IsZero (known_behind k (pieces_zeroed site image h pieces))
-  zeros_there [] k take (inl zeros) = zeros
-  zeros_there [] k take (inr (n, y, less, is, same)) = absurd (omega arith)
-  zeros_there (p ∷ pieces) k take either =
-      subst IsZero (sym (behind_more k (zeroed_steps site image h p) (pieces_zeroed site image h pieces)))
-      (zeros_there pieces (known_behind k (zeroed_steps site image h p)) (All-tail Takes p pieces take) (zero_step p pieces k (All-head Takes p pieces take) either))
+  -- whichever steps they were
+  zeroed_step : (p : Piece) (pieces : List Piece) (k : Knowledge) (steps : List Answered) → IsZeroed site image h p steps → Takes p
+      → IsZero k ⊎ Any (λ (q : Piece). q.object ≡ object_of h.layout x) (p ∷ pieces) → IsZero (known_behind k steps) ⊎ Any (λ (q : Piece). q.object ≡ object_of h.layout x) pieces
+  zeroed_step p pieces k steps is takes either =
+      subst (λ steps. IsZero (known_behind k steps) ⊎ Any (λ (q : Piece). q.object ≡ object_of h.layout x) pieces) (sym is) (zero_step p pieces k takes either)
+
+  pub zeros_there : (pieces : List Piece) (k : Knowledge) (steps : List Answered) → AreZeroed site image h pieces steps → All Takes pieces
+      → IsZero k ⊎ Any (λ (q : Piece). q.object ≡ object_of h.layout x) pieces → IsZero (known_behind k steps)
+  zeros_there [] k steps none take (inl zeros) = subst (λ steps. IsZero (known_behind k steps)) (sym none) zeros
+  zeros_there [] k steps none take (inr (n, y, less, is, same)) = absurd (omega arith)
+  zeros_there (p ∷ pieces) k steps are take either =
+      subst (λ steps. IsZero (known_behind k steps)) (sym are.are)
+      (subst IsZero (sym (behind_more k are.first are.others))
+      (zeros_there pieces (known_behind k are.first) are.others are.are_others (All-tail Takes p pieces take)
+      (zeroed_step p pieces k are.first are.is_first (All-head Takes p pieces take) either)))

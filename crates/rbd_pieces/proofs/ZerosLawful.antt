@@ -17,14 +17,15 @@ use Rattle.rbd_layout.specs.declared.types.Piece.{Piece}
 use Rattle.rbd_machine.specs.Knowledge.{Knowledge, MapsKnown, ObjectsKnown, is_absent, is_raised, learned, maps_of, marks_after, objects_known_of, removed, states_set, with_maps, with_objects}
 use Rattle.rbd_machine.specs.Label.{Label}
 use Rattle.rbd_machine.specs.Lawful.{IsLawful}
+use Rattle.rbd_machine.specs.Path.{Answered}
 use Rattle.rbd_machine.specs.Permits.{HasState, HasTurn, IsOutsideOverlap, Permits}
 use Rattle.rbd_machine.specs.Plan.{Plan}
 use Rattle.rbd_machine.specs.Steps.{on_done, own}
 use Rattle.rbd_machine.proofs.Lawful.{lawful_on_done}
-use Rattle.rbd_pieces.specs.Full.{cut_bytes, full_by, full_piece, replaced, replaced_by, writing_full}
+use Rattle.rbd_pieces.specs.Full.{IsReplaced, cut_bytes, full_by, full_piece, replaced, replaced_by, writing_full}
 use Rattle.rbd_pieces.specs.Known.{OwnsByHeader, IsPieceOf, OwnsObject, known_behind}
 use Rattle.rbd_pieces.specs.Operations.{data_empty, data_remove, data_write_full, data_zero, map_set}
-use Rattle.rbd_pieces.specs.Zero.{all_zeroed, emptying, is_below, is_inside, is_whole, removing, setting, zero_all, zero_by, zero_piece, zeroed_steps, zeroed_by, zeroing}
+use Rattle.rbd_pieces.specs.Zero.{IsZeroed, all_zeroed, emptying, is_below, is_inside, is_whole, removing, setting, zero_all, zero_by, zero_piece, zeroed_steps, zeroed_by, zeroing}
 use Rattle.rbd_pieces.proofs.Ends.{is_cut}
 use Rattle.rbd_pieces.proofs.Held.{past_size, whole_is_held}
 
@@ -149,11 +150,12 @@ module _ (site : SiteId) (image : ℕ) (h : HeaderView) (p : Piece) (is : IsPiec
         (lawful_own at raised site (data_write_full image (context_of h) p.object (byte ∷ left)) next (may_replace raised owns turn (raised_last k site image p.object) layout whole (byte ∷ left) few) lawful)
 
 module _ (at : Label → Knowledge) (k : Knowledge) (site : SiteId) (image : ℕ) (h : HeaderView) (p : Piece) where
-  pub lawful_zero : (next : Plan) → OwnsObject k site image h p.object → IsPieceOf h p → IsLawful at (known_behind k (zeroed_steps site image h p)) next → IsLawful at k (zero_piece site image h p next)
-  lawful_zero next own is lawful = lawful_by site image h p is own.sharing at k own.owns own.turn next (is_whole h p) (is_inside h p.object) refl lawful
+  pub lawful_zero : (next : Plan) → OwnsObject k site image h p.object → IsPieceOf h p → ((steps : List Answered) → IsZeroed site image h p steps → IsLawful at (known_behind k steps) next)
+      → IsLawful at k (zero_piece site image h p next)
+  lawful_zero next own is lawful = lawful_by site image h p is own.sharing at k own.owns own.turn next (is_whole h p) (is_inside h p.object) refl (lawful (zeroed_steps site image h p) refl)
 
   pub lawful_full : (bytes : List ℕ) (next : Plan) → OwnsObject k site image h p.object → IsLayout h.layout → IsPieceOf h p → is_whole h p ≡ true → length bytes ≤ parts_len p.parts
-      → IsLawful at (known_behind k (replaced site image h p bytes)) next → IsLawful at k (full_piece site image h p bytes next)
+      → ((steps : List Answered) → IsReplaced site image h p bytes steps → IsLawful at (known_behind k steps) next) → IsLawful at k (full_piece site image h p bytes next)
   lawful_full bytes next own layout is whole few lawful =
       let less : length (cut_bytes bytes) ≤ length bytes = cut_len bytes in
-      lawful_full_by site image h p is own.sharing at k own.owns own.turn next layout whole (cut_bytes bytes) (omega (arith, less, few)) lawful
+      lawful_full_by site image h p is own.sharing at k own.owns own.turn next layout whole (cut_bytes bytes) (omega (arith, less, few)) (lawful (replaced site image h p bytes) refl)

@@ -82,3 +82,7 @@ replaced_by site image h piece (byte ∷ left) =
 
 abbrev pub replaced : SiteId → (image : ℕ) → HeaderView → Piece → (bytes : List ℕ) → List Answered
 replaced site image h piece bytes = replaced_by site image h piece (cut_bytes bytes)
+
+-- a piece whose object has been replaced by these bytes
+abbrev pub IsReplaced : SiteId → (image : ℕ) → HeaderView → Piece → (bytes : List ℕ) → List Answered → Type 0
+IsReplaced site image h piece bytes steps = steps ≡ replaced site image h piece bytes

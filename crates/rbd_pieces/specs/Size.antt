@@ -9,8 +9,9 @@ use Rattle.rbd_machine.specs.Path.{Answered}
 use Rattle.rbd_machine.specs.Plan.{Plan}
 use Rattle.rbd_machine.specs.Steps.{own, on_bits, on_done, TellsBits, TellsDone}
 use Rattle.rbd_pieces.specs.Operations.{header_set_size, map_get, map_resize, done}
+use Rattle.rbd_pieces.specs.Pieces.{ArePieces}
 use Rattle.rbd_pieces.specs.Shrink.{pieces_from}
-use Rattle.rbd_pieces.specs.Zero.{rest_of_zero, zeroed_steps, zero_piece}
+use Rattle.rbd_pieces.specs.Zero.{IsZeroed, rest_of_zero, zeroed_steps, zero_piece}
 use Rattle.rbd_pieces.specs.declared.size.Size.{Size}
 use Rattle.rbd_pieces.specs.declared.size.Stage.{Stage}
 use Rattle.rbd_pieces.specs.declared.size.Stage.TheVariants as stage
@@ -84,6 +85,11 @@ IsReady s a = IsReadyAt s.stage s a
 abbrev pub states_told : SiteId → (image : ℕ) → (bits : List ℕ) → Answered
 states_told site image bits = record { site = site; op = map_get image; answer = answer.Bits bits }
 
+-- the pieces became zeros, one after another
+abbrev pub AreZeroed : SiteId → (image : ℕ) → HeaderView → List Piece → List Answered → Type 0
+AreZeroed site image h pieces steps = ArePieces (IsZeroed site image h) pieces steps
+
+-- the operations by which they did
 abbrev pub pieces_zeroed : SiteId → (image : ℕ) → HeaderView → List Piece → List Answered
 pieces_zeroed site image h [] = []
 pieces_zeroed site image h (p ∷ pieces) = zeroed_steps site image h p ++ pieces_zeroed site image h pieces
@@ -91,15 +97,16 @@ pieces_zeroed site image h (p ∷ pieces) = zeroed_steps site image h p ++ piece
 abbrev pub grown : SiteId → (image to objects : ℕ) → List Answered
 grown site image to objects = done site (map_resize image objects) ∷ done site (header_set_size image to) ∷ []
 
-abbrev pub shrunk : SiteId → (image : ℕ) → HeaderView → (to : ℕ) → (bits : List ℕ) → List Answered
-shrunk site image h to bits =
-    states_told site image bits
-    ∷ (pieces_zeroed site image h (pieces_from h to bits) ++ done site (header_set_size image to) ∷ [])
+abbrev pub shrunk : SiteId → (image to : ℕ) → (bits : List ℕ) → (zeroed : List Answered) → List Answered
+shrunk site image to bits zeroed =
+    states_told site image bits ∷ (zeroed ++ done site (header_set_size image to) ∷ [])
 
 -- by some states that the head's map told
 pub record IsShrunk (site : SiteId) (image : ℕ) (h : HeaderView) (to : ℕ) (steps : List Answered) : Type 0 where
   pub bits : List ℕ
-  pub are : steps ≡ shrunk site image h to bits
+  pub zeroed : List Answered
+  pub are_zeroed : AreZeroed site image h (pieces_from h to bits) zeroed
+  pub are : steps ≡ shrunk site image to bits zeroed
 
 abbrev pub IsResizedBy : (grows : Bool) → SiteId → (image : ℕ) → HeaderView → (to objects : ℕ) → List Answered → Type 0
 IsResizedBy true site image h to objects steps = steps ≡ grown site image to objects

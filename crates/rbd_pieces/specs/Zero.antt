@@ -1,5 +1,5 @@
 -- The bytes of one piece become zeros.
-use Rattle.std.specs.Prelude.{ℕ, ◌<◌, ◌==◌, ◌&&◌, nat_lt, Bool, true, false, List, [], ◌∷◌, Option, Some, None}
+use Rattle.std.specs.Prelude.{◌≡◌, ℕ, ◌<◌, ◌==◌, ◌&&◌, nat_lt, Bool, true, false, List, [], ◌∷◌, Option, Some, None}
 use Rattle.std.specs.Cmp.Lexicographic.{pointwise}
 use Rattle.rbd_kinds.specs.declared.header.HeaderView.{HeaderView}
 use Rattle.rbd_kinds.specs.declared.header.ParentLink.{ParentLink}
@@ -118,3 +118,7 @@ module _ (site : SiteId) (image : ℕ) (context : SnapContext) (piece : Piece) w
 abbrev pub zeroed_steps : SiteId → (image : ℕ) → HeaderView → Piece → List Answered
 zeroed_steps site image h piece = zeroed_by site image (context_of h) piece (is_whole h piece)
     (is_inside h piece.object)
+
+-- a piece that has become zeros
+abbrev pub IsZeroed : SiteId → (image : ℕ) → HeaderView → Piece → List Answered → Type 0
+IsZeroed site image h piece steps = steps ≡ zeroed_steps site image h piece

@@ -19,11 +19,11 @@ ghost use Rattle.rbd_machine.specs.Label.{Label};
 ghost use Rattle.rbd_machine.specs.Lawful.{IsLawful};
 ghost use Rattle.rbd_machine.specs.Path.{Answered, IsBounded, IsWalk};
 ghost use Rattle.rbd_machine.specs.Plan.{Plan, Goto, Return, IsClosed};
-ghost use Rattle.rbd_pieces.specs.Full.{IsCut, cut_bytes, full_piece, replaced};
+ghost use Rattle.rbd_pieces.specs.Full.{IsCut, IsReplaced, cut_bytes, full_piece, replaced};
 ghost use Rattle.rbd_pieces.specs.Known.{OwnsByHeader, IsPieceOf, OwnsObject, known_behind};
 ghost use Rattle.rbd_pieces.specs.Shrink.{head_from};
-ghost use Rattle.rbd_pieces.specs.Size.{IsResized, resize};
-ghost use Rattle.rbd_pieces.specs.Zero.{IsOfHead, head_of, is_whole, zeroed_steps, zero_piece};
+ghost use Rattle.rbd_pieces.specs.Size.{AreZeroed, IsResized, pieces_zeroed, resize};
+ghost use Rattle.rbd_pieces.specs.Zero.{IsOfHead, IsZeroed, head_of, is_whole, zeroed_steps, zero_piece};
 
 /// A piece that becomes zeros or replaces its object has three operations at most. A size has two,
 /// and where it is less than before, three more for each piece of the bytes that go.
@@ -56,15 +56,27 @@ pub fn parts_are_done()
     ensures zero { (site : SiteId) (image : ℕ) (h : HeaderView) (piece : Piece) (feds : List Fed)
         (steps : List Answered)
         → IsWalk Goto (zero_piece site image h piece (Return Done)) feds steps (Return Done)
-        → steps ≡ zeroed_steps site image h piece }
+        → IsZeroed site image h piece steps }
     ensures full { (site : SiteId) (image : ℕ) (h : HeaderView) (piece : Piece) (bytes : List ℕ) (feds : List Fed)
         (steps : List Answered)
         → IsWalk Goto (full_piece site image h piece bytes (Return Done)) feds steps (Return Done)
-        → steps ≡ replaced site image h piece bytes }
+        → IsReplaced site image h piece bytes steps }
     ensures size { (site : SiteId) (image : ℕ) (h : HeaderView) (to objects : ℕ) (feds : List Fed)
         (steps : List Answered)
         → IsWalk Goto (resize site image h to objects (Return Done)) feds steps (Return Done)
         → IsResized site image h to objects steps }
+{}
+
+/// One list of operations is that of a piece that has become zeros, of one whose object has been
+/// replaced by bytes, and of several that have become zeros.
+pub fn parts_have_their_operations()
+    ensures zero { (site : SiteId) (image : ℕ) (h : HeaderView) (piece : Piece) (steps : List Answered)
+        → IsZeroed site image h piece steps ↔ (steps ≡ zeroed_steps site image h piece) }
+    ensures full { (site : SiteId) (image : ℕ) (h : HeaderView) (piece : Piece) (bytes : List ℕ)
+        (steps : List Answered)
+        → IsReplaced site image h piece bytes steps ↔ (steps ≡ replaced site image h piece bytes) }
+    ensures zeros { (site : SiteId) (image : ℕ) (h : HeaderView) (pieces : List Piece) (steps : List Answered)
+        → AreZeroed site image h pieces steps ↔ (steps ≡ pieces_zeroed site image h pieces) }
 {}
 
 /// The pieces of an extent that ends within the size are pieces of the head.
@@ -90,13 +102,14 @@ pub fn parts_are_lawful()
     ensures zero { (at : Label → Knowledge) (k : Knowledge) (site : SiteId) (image : ℕ) (h : HeaderView)
         (piece : Piece) (next : Plan)
         → OwnsObject k site image h piece.object → IsPieceOf h piece
-        → IsLawful at (known_behind k (zeroed_steps site image h piece)) next
+        → ((steps : List Answered) → IsZeroed site image h piece steps → IsLawful at (known_behind k steps) next)
         → IsLawful at k (zero_piece site image h piece next) }
     ensures full { (at : Label → Knowledge) (k : Knowledge) (site : SiteId) (image : ℕ) (h : HeaderView) (piece : Piece)
         (bytes : List ℕ) (next : Plan)
         → OwnsObject k site image h piece.object → IsLayout h.layout → IsPieceOf h piece → is_whole h piece ≡ true
         → length bytes ≤ parts_len piece.parts
-        → IsLawful at (known_behind k (replaced site image h piece bytes)) next
+        → ((steps : List Answered) → IsReplaced site image h piece bytes steps
+        → IsLawful at (known_behind k steps) next)
         → IsLawful at k (full_piece site image h piece bytes next) }
     ensures size { (at : Label → Knowledge) (k : Knowledge) (site : SiteId) (image : ℕ) (h : HeaderView)
         (to objects : ℕ) (next : Plan)
@@ -109,12 +122,13 @@ pub fn parts_are_lawful()
 /// Behind a part the image is still the request's own; behind a size, by the header at that size.
 pub fn parts_leave_the_image_its_own()
     ensures zero { (k : Knowledge) (site : SiteId) (image : ℕ) (sharing : Sharing) (h own : HeaderView) (piece : Piece)
-        → OwnsByHeader k site image sharing own
-        → OwnsByHeader (known_behind k (zeroed_steps site image h piece)) site image sharing own }
+        (steps : List Answered)
+        → OwnsByHeader k site image sharing own → IsZeroed site image h piece steps
+        → OwnsByHeader (known_behind k steps) site image sharing own }
     ensures full { (k : Knowledge) (site : SiteId) (image : ℕ) (sharing : Sharing) (h own : HeaderView) (piece : Piece)
-        (bytes : List ℕ)
-        → OwnsByHeader k site image sharing own
-        → OwnsByHeader (known_behind k (replaced site image h piece bytes)) site image sharing own }
+        (bytes : List ℕ) (steps : List Answered)
+        → OwnsByHeader k site image sharing own → IsReplaced site image h piece bytes steps
+        → OwnsByHeader (known_behind k steps) site image sharing own }
     ensures size { (k : Knowledge) (site : SiteId) (image : ℕ) (h : HeaderView) (to objects : ℕ) (steps : List Answered)
         → OwnsByHeader k site image Alone h → IsResized site image h to objects steps
         → OwnsByHeader (known_behind k steps) site image Alone (with_size to h) }

@@ -31,8 +31,8 @@ use Rattle.rbd_world.specs.Sound.{IsRight}
 use Rattle.rbd_pieces.specs.Full.{cut_bytes, replaced_by}
 use Rattle.rbd_pieces.specs.Operations.{header_set_size, done}
 use Rattle.rbd_pieces.specs.Shrink.{pieces_from}
-use Rattle.rbd_pieces.specs.Size.{IsResizedBy, pieces_zeroed}
-use Rattle.rbd_pieces.specs.Zero.{all_zeroed, is_inside, is_whole, zeroed_steps, zeroed_by}
+use Rattle.rbd_pieces.specs.Size.{AreZeroed, IsResizedBy}
+use Rattle.rbd_pieces.specs.Zero.{IsZeroed, all_zeroed, is_inside, is_whole, zeroed_by}
 use Rattle.rbd_replies.specs.Home.{AreDoneAt}
 use Rattle.rbd_replies.specs.Places.{Placed}
 use Rattle.rbd_replies.specs.RolledBack.{RollsBackTo}
@@ -61,10 +61,10 @@ module _ (home : SiteId) (image : ℕ) where
   plain_zeroed context piece false true = (record { served = refl; unsized = λ k. refl }, (record { served = refl; unsized = λ k. refl }, tt))
   plain_zeroed context piece true inside = plain_all context piece inside
 
-  plain_pieces : (h : HeaderView) (pieces : List Piece) → ArePlain image (pieces_zeroed home image h pieces)
-  plain_pieces h [] = tt
-  plain_pieces h (p ∷ pieces) =
-      plain_both image (zeroed_steps home image h p) (pieces_zeroed home image h pieces) (plain_zeroed (context_of h) p (is_whole h p) (is_inside h p.object)) (plain_pieces h pieces)
+  plain_pieces : (h : HeaderView) (pieces : List Piece) (steps : List Answered) → AreZeroed home image h pieces steps → ArePlain image steps
+  plain_pieces h pieces steps are =
+      of_each_piece (ArePlain image) tt (plain_both image) (IsZeroed home image h)
+      (λ p steps is. subst (ArePlain image) (sym is) (plain_zeroed (context_of h) p (is_whole h p) (is_inside h p.object))) pieces steps are
 
   plain_replaced : (h : HeaderView) (p : Piece) (left : List ℕ) → ArePlain image (replaced_by home image h p left)
   plain_replaced h p [] = plain_all (context_of h) p (is_inside h p.object)
@@ -79,9 +79,9 @@ module _ (home : SiteId) (image : ℕ) where
   plain_restoring h snap p steps is =
       let read = is.read in
       subst (ArePlain image) (sym is.are)
-      (plain_both image is.reading (replaced home image h p read.bytes)
+      (plain_both image is.reading is.replacing
       (subst (ArePlain image) (sym read.are) (record { served = shown_is_served p.parts read.answer read.bytes read.shown; unsized = λ k. refl }, tt))
-      (plain_replaced h p (cut_bytes read.bytes)))
+      (subst (ArePlain image) (sym is.is_replaced) (plain_replaced h p (cut_bytes read.bytes))))
 
   plain_restored : (h : HeaderView) (snap : ℕ) (pieces : List Piece) (steps : List Answered) → AreRestored home image h snap pieces steps → ArePlain image steps
   plain_restored h snap pieces steps are =
@@ -103,7 +103,7 @@ module _ (home : SiteId) (image : ℕ) where
   resized_last : (grows : Bool) (h : HeaderView) (to objects : ℕ) (steps : List Answered) → IsResizedBy grows home image h to objects steps → SetsLast to steps
   resized_last true h to objects steps are = subst (SetsLast to) (sym are) (sets_last to (_ ∷ []) (record { served = refl; unsized = λ k. refl }, tt))
   resized_last false h to objects steps shrunk =
-      subst (SetsLast to) (sym shrunk.are) (sets_last to (_ ∷ pieces_zeroed home image h (pieces_from h to shrunk.bits)) (record { served = refl; unsized = λ k. refl }, plain_pieces h (pieces_from h to shrunk.bits)))
+      subst (SetsLast to) (sym shrunk.are) (sets_last to (_ ∷ shrunk.zeroed) (record { served = refl; unsized = λ k. refl }, plain_pieces h (pieces_from h to shrunk.bits) shrunk.zeroed shrunk.are_zeroed))
 
 -- ---- the commands
 
@@ -193,7 +193,7 @@ module _ (homes : ℕ → SiteId) (home : SiteId) where
         may = whole.may;
         keeps = keeps_zeroing home e whole.image whole.own;
       })
-      (plain_but whole.image _ (plain_pieces home whole.image whole.own (pieces_of whole.own.layout e))))
+      (plain_but whole.image _ (plain_pieces home whole.image whole.own (pieces_of whole.own.layout e) whole.zeroed whole.are_zeroed)))
 
   pub resize_at : (name : List ℕ) (to : ℕ) (places : List Placed) → ArePlacedRight homes places → IsOfLine homes home (command.Resize name to) places
       → ResizesWhole home name to (map step_at places) → Resizes name to places

@@ -20,7 +20,7 @@ use Rattle.rbd_meaning.specs.Range.{out_of_range}
 use Rattle.rbd_meaning.specs.Resizes.{ResizesWhole}
 use Rattle.rbd_meaning.specs.Rollbacks.{RollsBack, at_size}
 use Rattle.rbd_stands.specs.Reading.{IsToldBy, TellsFlatImage}
-use Rattle.rbd_pieces.specs.Size.{IsResized, pieces_zeroed}
+use Rattle.rbd_pieces.specs.Size.{IsResized}
 use Rattle.rbd_pieces.specs.Zero.{head_of}
 use Rattle.rbd_replies.specs.Changed.{FindsImage}
 use Rattle.rbd_replies.specs.Places.{Placed, effects_of, flat_at}
@@ -103,12 +103,12 @@ module _ (homes : ℕ → SiteId) (home : SiteId) where
   -- ---- discard
 
   pub discard_discards : (places : List Placed) → ArePlacedRight homes places → (name : List ℕ) (e : Extent) (whole : DiscardsWhole home name e (map step_at places))
-      → ((goes : Goes homes home name whole.image whole.own (pieces_zeroed home whole.image whole.own (pieces_of whole.own.layout e)) places) → AllLike whole.image whole.own goes.rest) → Discards name e places
+      → ((goes : Goes homes home name whole.image whole.own whole.zeroed places) → AllLike whole.image whole.own goes.rest) → Discards name e places
   discard_discards places right name e whole like =
       let goes = goes_at places right name whole.image whole.first whole.own _ whole.are in
       let within : fits e whole.own.size ≡ true = range_fits e whole.own.size (or_else_none (non_primary whole.own.role) (out_of_range e whole.own.size) whole.may) in
       let zeros = zeros_there homes home whole.image whole.own e (within_size e whole.own.size within) (pieces_of whole.own.layout e) (pieces_listed whole.own.layout goes.laid e).parts
-      goes.rest goes.right (like goes) goes.rest_is in
+      goes.rest goes.right (like goes) whole.zeroed goes.rest_is whole.are_zeroed in
       record {
         finds = goes.finds;
         within = ap (λ (h : HeaderView). fits e h.size) goes.header_is ∙ within;

@@ -26,11 +26,11 @@ use Rattle.rbd_meaning.specs.Removals.{AreRemovals, removal}
 use Rattle.rbd_meaning.specs.Rollbacks.{AreRestored, IsRestored, at_size}
 use Rattle.rbd_meaning.specs.Straight.{all_told, MeansStraight, Straight, straight_of}
 use Rattle.rbd_meaning.specs.Writes.{AreWritten, IsWritten, WritesWhole}
-use Rattle.rbd_pieces.specs.Full.{cut_bytes, replaced, replaced_by}
+use Rattle.rbd_pieces.specs.Full.{cut_bytes, replaced_by}
 use Rattle.rbd_pieces.specs.Pieces.{ArePieces}
 use Rattle.rbd_pieces.specs.Shrink.{pieces_from}
-use Rattle.rbd_pieces.specs.Size.{IsResizedBy, pieces_zeroed}
-use Rattle.rbd_pieces.specs.Zero.{all_zeroed, head_of, is_inside, is_whole, zeroed_steps, zeroed_by}
+use Rattle.rbd_pieces.specs.Size.{AreZeroed, IsResizedBy}
+use Rattle.rbd_pieces.specs.Zero.{IsZeroed, all_zeroed, head_of, is_inside, is_whole, zeroed_by}
 use Rattle.rbd_pieces.proofs.Pieces.{of_each_piece}
 use Rattle.rbd_replies.proofs.Places.{step_at}
 use Rattle.rbd_replies.specs.Home.{AreDoneAt}
@@ -92,16 +92,15 @@ module _ (site : SiteId) where
   zeroed_by_at image context piece false true = (refl, (refl, tt))
   zeroed_by_at image context piece true inside = all_zeroed_at image context piece inside
 
-  zeroed_at : (image : ℕ) (h : HeaderView) (pieces : List Piece) → AreAt site (pieces_zeroed site image h pieces)
-  zeroed_at image h [] = tt
-  zeroed_at image h (p ∷ pieces) =
-      at_both (zeroed_steps site image h p) (pieces_zeroed site image h pieces) (zeroed_by_at image (context_of h) p (is_whole h p) (is_inside h p.object)) (zeroed_at image h pieces)
+  zeroed_at : (image : ℕ) (h : HeaderView) (pieces : List Piece) (steps : List Answered) → AreZeroed site image h pieces steps → AreAt site steps
+  zeroed_at image h pieces steps are =
+      each_at (IsZeroed site image h) (λ p steps is. subst (AreAt site) (sym is) (zeroed_by_at image (context_of h) p (is_whole h p) (is_inside h p.object))) pieces steps are
 
   -- a size that is set
   resized_at : (grows : Bool) (image : ℕ) (h : HeaderView) (to objects : ℕ) (steps : List Answered) → IsResizedBy grows site image h to objects steps → AreAt site steps
   resized_at true image h to objects steps are = subst (AreAt site) (sym are) (refl, (refl, tt))
   resized_at false image h to objects steps shrunk =
-      subst (AreAt site) (sym shrunk.are) (refl, at_both (pieces_zeroed site image h (pieces_from h to shrunk.bits)) (_ ∷ []) (zeroed_at image h (pieces_from h to shrunk.bits)) (refl, tt))
+      subst (AreAt site) (sym shrunk.are) (refl, at_both shrunk.zeroed (_ ∷ []) (zeroed_at image h (pieces_from h to shrunk.bits) shrunk.zeroed shrunk.are_zeroed) (refl, tt))
 
   -- objects that become what they were
   replaced_at : (image : ℕ) (h : HeaderView) (p : Piece) (left : List ℕ) → AreAt site (replaced_by site image h p left)
@@ -111,7 +110,7 @@ module _ (site : SiteId) where
   restoring_at : (image : ℕ) (h : HeaderView) (snap : ℕ) (p : Piece) (steps : List Answered) → IsRestored site image h snap p steps → AreAt site steps
   restoring_at image h snap p steps is =
       let read = is.read in
-      subst (AreAt site) (sym is.are) (at_both is.reading (replaced site image h p read.bytes) (shown_at image (Some snap) p is.reading read) (replaced_at image h p (cut_bytes read.bytes)))
+      subst (AreAt site) (sym is.are) (at_both is.reading is.replacing (shown_at image (Some snap) p is.reading read) (subst (AreAt site) (sym is.is_replaced) (replaced_at image h p (cut_bytes read.bytes))))
 
   restored_at : (image : ℕ) (h : HeaderView) (snap : ℕ) (pieces : List Piece) (steps : List Answered) → AreRestored site image h snap pieces steps → AreAt site steps
   restored_at image h snap pieces steps are =
@@ -161,7 +160,7 @@ module _ (seat : Seat) where
   meant_at (command.Fill name at len byte) steps reply.Done whole = whole_at seat.home name at _ steps whole
   meant_at (command.Fill name at len byte) steps (reply.Refused x) refuses = own_at seat.home _ steps refuses.refused.own
   meant_at (command.Discard name at len) steps reply.Done whole =
-      subst (AreAt seat.home) (sym whole.are) (refl, (refl, (refl, zeroed_at seat.home whole.image whole.own (pieces_of whole.own.layout (record { at = at; len = len })))))
+      subst (AreAt seat.home) (sym whole.are) (refl, (refl, (refl, zeroed_at seat.home whole.image whole.own (pieces_of whole.own.layout (record { at = at; len = len })) whole.zeroed whole.are_zeroed)))
   meant_at (command.Discard name at len) steps (reply.Refused x) refuses = own_at seat.home _ steps refuses.refused.own
   meant_at (command.Resize name to) steps reply.Done whole =
       subst (AreAt seat.home) (sym whole.are)

@@ -19,7 +19,7 @@ use Rattle.rbd_meaning.specs.Reads.{bytes_shown}
 use Rattle.rbd_meaning.specs.Rollbacks.{AreRestored, IsRestored}
 use Rattle.rbd_stands.specs.Condition.{extents_of}
 use Rattle.rbd_stands.specs.View.{shape_of_snap}
-use Rattle.rbd_pieces.specs.Full.{cut_bytes, replaced_by, replaced}
+use Rattle.rbd_pieces.specs.Full.{cut_bytes, replaced_by}
 use Rattle.rbd_pieces.specs.Operations.{data_write_full, map_set, done}
 use Rattle.rbd_pieces.specs.Zero.{head_of, is_inside}
 use Rattle.rbd_replies.specs.Places.{Placed, effects_of}
@@ -87,8 +87,8 @@ module _ (homes : ℕ → SiteId) (home : SiteId) (image : ℕ) (h : HeaderView)
       (later : (places : List Placed) → ArePlacedRight homes places → AllLike image h places → map step_at places ≡ others → AreOthers places)
       (first : List Answered) (is_first : IsRestored home image h listed.id piece first) where
     restored_at : (places : List Placed) → ArePlacedRight homes places → AllLike image h places
-        → (one : BeginWith (record { site = home; op = data_read image (Some listed.id) piece; answer = is_first.read.answer }) (replaced home image h piece is_first.read.bytes ++ others) places)
-        → (both : Divides (replaced home image h piece is_first.read.bytes) others one.rest) → RestoresFirst AreOthers image listed.id piece places
+        → (one : BeginWith (record { site = home; op = data_read image (Some listed.id) piece; answer = is_first.read.answer }) (is_first.replacing ++ others) places)
+        → (both : Divides is_first.replacing others one.rest) → RestoresFirst AreOthers image listed.id piece places
     restored_at places right like one both =
         let right_one : ArePlacedRight homes (one.place ∷ one.rest) = subst (ArePlacedRight homes) one.are right in
         let like_one : AllLike image h (one.place ∷ one.rest) = subst (AllLike image h) one.are like in
@@ -104,7 +104,7 @@ module _ (homes : ℕ → SiteId) (home : SiteId) (image : ℕ) (h : HeaderView)
           silent =
               effect_there homes one.place right_one.0 (record { site = home; op = data_read image (Some listed.id) piece; answer = is_first.read.answer }) one.is
               ∙ look_does_nothing ((records_at one.place).headers image) (data_read image (Some listed.id) piece) is_first.read.answer refl;
-          effects = replaced_there piece parts (cut_bytes is_first.read.bytes) both.front (right_front homes both.front both.back right_both) (like_front image h both.front both.back like_both) both.front_is;
+          effects = replaced_there piece parts (cut_bytes is_first.read.bytes) both.front (right_front homes both.front both.back right_both) (like_front image h both.front both.back like_both) (both.front_is ∙ is_first.is_replaced);
           are_others = later both.back (right_back homes both.front both.back right_both) (like_back image h both.front both.back like_both) both.back_is;
         }
 
@@ -113,9 +113,9 @@ module _ (homes : ℕ → SiteId) (home : SiteId) (image : ℕ) (h : HeaderView)
   all_restored [] parts steps none places right like are = none_taken places (are ∙ none)
   all_restored (piece ∷ pieces) parts steps restored places right like are =
       let first = restored.is_first in
-      let all : map step_at places ≡ record { site = home; op = data_read image (Some listed.id) piece; answer = first.read.answer } ∷ (replaced home image h piece first.read.bytes ++ restored.others) =
-      are ∙ restored.are ∙ ap (λ front. front ++ restored.others) (first.are ∙ ap (λ reading. reading ++ replaced home image h piece first.read.bytes) first.read.are) in
-      let one = begin_with (record { site = home; op = data_read image (Some listed.id) piece; answer = first.read.answer }) (replaced home image h piece first.read.bytes ++ restored.others) places all in
+      let all : map step_at places ≡ record { site = home; op = data_read image (Some listed.id) piece; answer = first.read.answer } ∷ (first.replacing ++ restored.others) =
+      are ∙ restored.are ∙ ap (λ front. front ++ restored.others) (first.are ∙ ap (λ reading. reading ++ first.replacing) first.read.are) in
+      let one = begin_with (record { site = home; op = data_read image (Some listed.id) piece; answer = first.read.answer }) (first.replacing ++ restored.others) places all in
       restored_at piece (All-head (λ (q : Piece). IsPartsOf h.layout (head_of h) q.object q.parts) piece pieces parts) (RestoresAll image listed.id pieces) restored.others
       (all_restored pieces (All-tail (λ (q : Piece). IsPartsOf h.layout (head_of h) q.object q.parts) piece pieces parts) restored.others restored.are_others)
-      restored.first first places right like one (divide (replaced home image h piece first.read.bytes) restored.others one.rest one.others)
+      restored.first first places right like one (divide first.replacing restored.others one.rest one.others)

@@ -15,11 +15,12 @@ use Rattle.rbd_layout.proofs.Listed.{pieces_listed}
 use Rattle.rbd_layout.specs.Pieces.{IsPartsOf, pieces_of}
 use Rattle.rbd_layout.specs.declared.types.Piece.{Piece}
 use Rattle.rbd_stands.specs.Condition.{AreWhole}
+use Rattle.rbd_machine.specs.Path.{Answered}
 use Rattle.rbd_pieces.proofs.AllBytes.{whole_is_all}
 use Rattle.rbd_pieces.specs.Operations.{header_set_size, map_resize, map_set, done}
 use Rattle.rbd_pieces.specs.Shrink.{piece_has_bytes, head_from, pieces_from}
-use Rattle.rbd_pieces.specs.Size.{IsResized, IsResizedBy, grown, pieces_zeroed, shrunk, states_told}
-use Rattle.rbd_pieces.specs.Zero.{all_zeroed, is_inside, is_whole, zeroed_steps, zeroed_by}
+use Rattle.rbd_pieces.specs.Size.{AreZeroed, IsResized, IsResizedBy, grown, shrunk, states_told}
+use Rattle.rbd_pieces.specs.Zero.{all_zeroed, is_inside, is_whole, zeroed_by}
 use Rattle.rbd_replies.specs.Places.{Placed, effects_of}
 use Rattle.rbd_replies.specs.Zeroed.{SetsSize, zero_effect, zero_effects}
 use Rattle.rbd_replies.proofs.Measured.{AllLike, effects_append, laid_there, like_back, like_front, empty_there, remove_there, zero_there}
@@ -85,16 +86,16 @@ module _ (homes : ℕ → SiteId) (home : SiteId) (image : ℕ) (h : HeaderView)
   -- ---- several
 
   pub zeros_there : (e : Extent) → e.at + e.len ≤ h.size → (pieces : List Piece) → ArePiecesIn h e pieces → (places : List Placed) → ArePlacedRight homes places → AllLike image h places
-      → map step_at places ≡ pieces_zeroed home image h pieces → effects_of places ≡ zero_effects image pieces
-  zeros_there e within [] parts places right like are = ap effects_of (none_taken places are)
-  zeros_there e within (piece ∷ pieces) parts places right like are =
-      let both = divide (zeroed_steps home image h piece) (pieces_zeroed home image h pieces) places are in
+      → (steps : List Answered) → map step_at places ≡ steps → AreZeroed home image h pieces steps → effects_of places ≡ zero_effects image pieces
+  zeros_there e within [] parts places right like steps are none = ap effects_of (none_taken places (are ∙ none))
+  zeros_there e within (piece ∷ pieces) parts places right like steps are zeroed =
+      let both = divide zeroed.first zeroed.others places (are ∙ zeroed.are) in
       let right_both : ArePlacedRight homes (both.front ++ both.back) = subst (ArePlacedRight homes) both.are right in
       let like_both : AllLike image h (both.front ++ both.back) = subst (AllLike image h) both.are like in
       let first = piece_there e within piece (All-head (λ (q : Piece). IsPartsOf h.layout e q.object q.parts) piece pieces parts) (is_whole h piece) refl (context_of h) (is_inside h piece.object)
-      both.front (right_front homes both.front both.back right_both) (like_front image h both.front both.back like_both) both.front_is in
+      both.front (right_front homes both.front both.back right_both) (like_front image h both.front both.back like_both) (both.front_is ∙ zeroed.is_first) in
       let later = zeros_there e within pieces (All-tail (λ (q : Piece). IsPartsOf h.layout e q.object q.parts) piece pieces parts) both.back
-      (right_back homes both.front both.back right_both) (like_back image h both.front both.back like_both) both.back_is in
+      (right_back homes both.front both.back right_both) (like_back image h both.front both.back like_both) zeroed.others both.back_is zeroed.are_others in
       ap effects_of both.are ∙ effects_append both.front both.back ∙ ap (λ front. front ++ effects_of both.back) first ∙ ap (λ rest. zero_effect image piece ∷ rest) later
 
   -- ---- a size
@@ -127,25 +128,25 @@ module _ (homes : ℕ → SiteId) (home : SiteId) (image : ℕ) (h : HeaderView)
       let none : map step_at places ≡ [] = cc in
       size_set p places to right.0 set none
 
-  cut_and_sized : IsLayout h.layout → (to : ℕ) (bits : List ℕ) → nat_le h.size to ≡ false → (places : List Placed) → ArePlacedRight homes places → AllLike image h places
-      → Divides (pieces_zeroed home image h (pieces_from h to bits)) (done home (header_set_size image to) ∷ []) places
+  cut_and_sized : IsLayout h.layout → (to : ℕ) (bits : List ℕ) → nat_le h.size to ≡ false → (zeroed : List Answered) → AreZeroed home image h (pieces_from h to bits) zeroed
+      → (places : List Placed) → ArePlacedRight homes places → AllLike image h places → Divides zeroed (done home (header_set_size image to) ∷ []) places
       → effects_of places ≡ zero_effects image (pieces_from h to bits) ++ effect.Size image to ∷ []
-  cut_and_sized laid to bits shrinks places right like both =
+  cut_and_sized laid to bits shrinks zeroed are_zeroed places right like both =
       let right_both : ArePlacedRight homes (both.front ++ both.back) = subst (ArePlacedRight homes) both.are right in
       let like_both : AllLike image h (both.front ++ both.back) = subst (AllLike image h) both.are like in
       let zeros = zeros_there (head_from h to) (up_to_size to shrinks) (pieces_from h to bits) (cut_pieces to bits (pieces_listed h.layout laid (head_from h to)).parts) both.front
-      (right_front homes both.front both.back right_both) (like_front image h both.front both.back like_both) both.front_is in
+      (right_front homes both.front both.back right_both) (like_front image h both.front both.back like_both) zeroed both.front_is are_zeroed in
       ap effects_of both.are ∙ effects_append both.front both.back ∙ ap (λ front. front ++ effects_of both.back) zeros
       ∙ ap (λ back. zero_effects image (pieces_from h to bits) ++ back) (sized_there to both.back (right_back homes both.front both.back right_both) both.back_is)
 
   -- behind the states that the map told
-  shrunk_there : IsLayout h.layout → (to : ℕ) (bits : List ℕ) → nat_le h.size to ≡ false → (places : List Placed) → ArePlacedRight homes places → AllLike image h places
-      → map step_at places ≡ shrunk home image h to bits → effects_of places ≡ zero_effects image (pieces_from h to bits) ++ effect.Size image to ∷ []
-  shrunk_there laid to bits shrinks [] right like are = absurd (cc)
-  shrunk_there laid to bits shrinks (p ∷ places) right like are =
+  shrunk_there : IsLayout h.layout → (to : ℕ) (bits : List ℕ) → nat_le h.size to ≡ false → (zeroed : List Answered) → AreZeroed home image h (pieces_from h to bits) zeroed
+      → (places : List Placed) → ArePlacedRight homes places → AllLike image h places → map step_at places ≡ shrunk home image to bits zeroed → effects_of places ≡ zero_effects image (pieces_from h to bits) ++ effect.Size image to ∷ []
+  shrunk_there laid to bits shrinks zeroed are_zeroed [] right like are = absurd (cc)
+  shrunk_there laid to bits shrinks zeroed are_zeroed (p ∷ places) right like are =
       let is : step_at p ≡ states_told home image bits = cc in
       silent_first p places (effect_there homes p right.0 (states_told home image bits) is)
-      ∙ cut_and_sized laid to bits shrinks places right.1 like.1 (divide (pieces_zeroed home image h (pieces_from h to bits)) (done home (header_set_size image to) ∷ []) places cc)
+      ∙ cut_and_sized laid to bits shrinks zeroed are_zeroed places right.1 like.1 (divide zeroed (done home (header_set_size image to) ∷ []) places cc)
 
   resized_by : IsLayout h.layout → (grows : Bool) (to objects : ℕ) → nat_le h.size to ≡ grows → (places : List Placed) → ArePlacedRight homes places → AllLike image h places
       → IsResizedBy grows home image h to objects (map step_at places) → SetsSize image h to (effects_of places)
@@ -158,7 +159,7 @@ module _ (homes : ℕ → SiteId) (home : SiteId) (image : ℕ) (h : HeaderView)
   resized_by laid false to objects grows places right like resized = record {
     bits = resized.bits;
     are =
-        shrunk_there laid to resized.bits grows places right like resized.are
+        shrunk_there laid to resized.bits grows resized.zeroed resized.are_zeroed places right like resized.are
         ∙ ap (λ b. zero_effects image (cond b [] (pieces_from h to resized.bits)) ++ effect.Size image to ∷ []) (sym grows);
   }
 

@@ -27,13 +27,13 @@ use Rattle.rbd_machine.proofs.AtLeast.{jump_lawful, lawful_by_more, learned_at_l
 use Rattle.rbd_machine.proofs.Lawful.{lawful_change, lawful_not_there, own_is_found, under_lock_known}
 use Rattle.rbd_meaning.specs.Rollbacks.{at_size, rollback_refuses}
 use Rattle.rbd_pieces.specs.Gather.{gather, on_bytes}
-use Rattle.rbd_pieces.specs.Full.{full_piece, replaced}
+use Rattle.rbd_pieces.specs.Full.{full_piece}
 use Rattle.rbd_pieces.specs.Known.{OwnsByHeader, IsPieceOf, known_behind}
 use Rattle.rbd_pieces.specs.Zero.{head_of}
 use Rattle.rbd_pieces.proofs.Below.{pieces_below}
 use Rattle.rbd_pieces.proofs.ZerosLawful.{lawful_full}
 use Rattle.rbd_pieces.proofs.Resized.{lawful_resize, resized_owns}
-use Rattle.rbd_pieces.proofs.Zeroed.{full_owns}
+use Rattle.rbd_pieces.proofs.Zeroed.{replaced_own}
 use Rattle.rbd_meaning.specs.Count.{object_count}
 use Rattle.rbd_snap.specs.Restore.{HasWholeObject}
 use Rattle.rbd_snap.specs.Rollback.{restore, restore_pieces, roll_back, roll_back_listed, roll_back_to, rollback_plan}
@@ -75,8 +75,9 @@ module _ (at : Label → Knowledge) (site : SiteId) (image : ℕ) (snap : ℕ) (
       lawful_restore p k (restore_pieces site image seen snap pieces next) (λ bytes few.
       lawful_full at k site image own p bytes (restore_pieces site image seen snap pieces next) (record { sharing = sharing.Alone; owns = owns; turn = tt }) form.layout
       (All-head (IsPieceOf own) p pieces below) (All-head (HasWholeObject seen) p pieces whole).whole few
-      (lawful_pieces pieces (known_behind k (replaced site image own p bytes)) next form (All-tail (IsPieceOf own) p pieces below) (All-tail (HasWholeObject seen) p pieces whole)
-      (full_owns site image own own sharing.Alone p bytes k owns) lawful))
+      (λ steps is.
+      lawful_pieces pieces (known_behind k steps) next form (All-tail (IsPieceOf own) p pieces below) (All-tail (HasWholeObject seen) p pieces whole)
+      (replaced_own site image own own sharing.Alone p bytes k steps is owns) lawful))
 
 -- ---- the requests
 

@@ -25,7 +25,7 @@ use Rattle.rbd_machine.proofs.Walked.{asked_to, changed, noted_to, refusal_ends_
 use Rattle.rbd_meaning.specs.Reads.{bytes_shown}
 use Rattle.rbd_meaning.specs.Rollbacks.{AreRestored, IsRestored, RollsBack, at_size, rollback_refuses}
 use Rattle.rbd_pieces.specs.Gather.{on_bytes}
-use Rattle.rbd_pieces.specs.Full.{full_piece, replaced}
+use Rattle.rbd_pieces.specs.Full.{IsReplaced, full_piece}
 use Rattle.rbd_pieces.specs.Size.{IsResized}
 use Rattle.rbd_pieces.specs.Zero.{head_of}
 use Rattle.rbd_pieces.proofs.Walked.{full_did}
@@ -40,13 +40,13 @@ use Rattle.rbd_image.proofs.ResizesWhole.{Done, Goes, nothing_more, own_in_form,
 
 module _ (site : SiteId) (image : ℕ) (h : HeaderView) where
   full_goes : (p : Piece) (bytes : List ℕ) (next : Plan) (feds : List Fed) (steps : List Answered) → IsWalk Goto (full_piece site image h p bytes next) feds steps Done
-      → Goes (λ first. first ≡ replaced site image h p bytes) next steps
+      → Goes (IsReplaced site image h p bytes) next steps
   full_goes p bytes next feds steps walk = go (splits next (full_piece site image h p bytes Done) (full_piece site image h p bytes next) feds steps reply.Done follows walk)
     where
       follows : Follows next (full_piece site image h p bytes Done) (full_piece site image h p bytes next)
       follows = built_full (Follows next) (Follows next) (λ o. Unit {0}) (λ inside. Unit {0}) site image (follows_rules next site image) h p bytes Done next refl
 
-      go : Splits next (full_piece site image h p bytes Done) steps reply.Done ⊎ Stays next (full_piece site image h p bytes Done) steps reply.Done → Goes (λ first. first ≡ replaced site image h p bytes) next steps
+      go : Splits next (full_piece site image h p bytes Done) steps reply.Done ⊎ Stays next (full_piece site image h p bytes Done) steps reply.Done → Goes (IsReplaced site image h p bytes) next steps
       go (inl s) = record { first = s.first; rest = s.rest; more = s.more; are = s.are; is_part = full_did site image h p bytes s.feds s.first s.walk; later = s.later }
       go (inr s) = absurd (s.other refl)
 
@@ -63,7 +63,9 @@ module _ (site : SiteId) (image : ℕ) (h : HeaderView) where
         is_part = record {
           reading = read ∷ [];
           read = record { answer = a; bytes = bytes; shown = shown; are = refl };
-          are = ap (λ s. read ∷ s) g.is_part;
+          replacing = g.first;
+          is_replaced = g.is_part;
+          are = refl;
         };
         later = g.later;
       }
