@@ -14,7 +14,7 @@ use std::marker::Model;
 pub const SHEAF: usize = 128;
 
 /// How many places name it, and its pages. Contracts see it as a `Sheet`, with its pages in place
-/// of bytes.
+/// of bytes. One that no place names keeps no memory.
 #[derive(Drop)]
 pub struct Sheaf {
     count: u32,
@@ -22,11 +22,15 @@ pub struct Sheaf {
 }
 
 impl Model for Sheaf {
+    ghost use Rattle.std.specs.Prelude.{◌≡◌};
+    ghost use Rattle.std.specs.Vec.{vec_capacity};
     ghost use Rattle.rbd_pages.specs.Sheets.{Sheet};
 
     ghost Value = { Sheet };
 
     ghost view = { λ s. record { count = s.count; bytes = s.pages.items } };
+
+    ghost invariant = { λ s. s.count ≡ 0 → vec_capacity s.pages ≡ 0 };
 }
 
 impl Sheaf {
@@ -56,25 +60,14 @@ impl Sheaf {
     {
         self.count = self.count.wrapping_add(1);
         if self.count == 0 {
-            return self.refuse();
+            return refuse(&mut self.count);
         }
         Ok(())
     }
 
-    /// The count as it was before it went round to 0.
-    // Not inline: else each count is looked at before it is stored, three instructions more.
-    #[cold]
-    #[inline(never)]
-    fn refuse(&mut self) -> Result<(), NoMemory>
-        ensures count { self.new ≡ record { count = 4294967295; bytes = self.old.bytes } }
-        ensures refused { IsErr result }
-    {
-        self.count = u32::MAX;
-        Err(NoMemory)
-    }
-
-    /// A place less names it.
+    /// A place less names it, and not the last one.
     pub fn set_count(&mut self, count: u32)
+        requires { 0 < count }
         ensures { self.new ≡ record { count = count; bytes = self.old.bytes } }
     {
         self.count = count;
@@ -97,6 +90,7 @@ impl Sheaf {
 
     /// Takes the memory for so many more pages.
     pub fn reserve(&mut self, more: usize) -> Result<(), NoMemory>
+        requires { 0 < self.old.count }
         ensures { self.new ≡ self.old }
     {
         self.pages.reserve(more)?;
@@ -127,6 +121,7 @@ impl Sheaf {
     ) -> Result<(), NoMemory>
         requires counted { AreCounted arena.old self.old.bytes }
         requires near { k ≤ length self.old.bytes }
+        requires named { 0 < self.old.count }
         ensures count { self.new.count ≡ self.old.count }
         ensures prepared { Prepared arena.old self.old.bytes arena.new self.new.bytes }
         ensures len { OnOk result (length self.new.bytes ≡ max (length self.old.bytes) (k + 1)) }
@@ -152,4 +147,16 @@ impl Sheaf {
         self.count = 0;
         self.pages = Vec::new(*self.pages.allocator());
     }
+}
+
+/// The count as it was before it went round to 0.
+// Not inline: else each count is looked at before it is stored, three instructions more.
+#[cold]
+#[inline(never)]
+fn refuse(count: &mut u32) -> Result<(), NoMemory>
+    ensures count { count.new ≡ 4294967295 }
+    ensures refused { IsErr result }
+{
+    *count = u32::MAX;
+    Err(NoMemory)
 }

@@ -13,6 +13,15 @@ prepare_page-requires-clause-counted c =
     let below = within_items c.self.inside.sheaves.items c.args.self.now.sheaves c.args.index is (let alone = c.requires.alone in omega arith) in
     counted_read c.self.inside.sheaves.items c.self.inside.arena c.args.index _ c.self.invariant.0 below c.index_mut.ensures.value
 
+pub prepare_page-requires-clause-named : goal.prepare_page-requires-clause-named
+prepare_page-requires-clause-named c =
+    let is = ap (λ (x : Stock). x.sheaves) c.self.view_is in
+    let below = within_items c.self.inside.sheaves.items c.args.self.now.sheaves c.args.index is (let alone = c.requires.alone in omega arith) in
+    let alone = ap (λ sheaves. count_at sheaves c.args.index) is in
+    let one = c.requires.alone in
+    let read = count_read c.self.inside.sheaves.items c.args.index _ below c.index_mut.ensures.value in
+    omega arith
+
 pub invariant_of-self : goal.invariant_of-self
 invariant_of-self c =
     let is = ap (λ (x : Stock). x.sheaves) c.self.view_is in
