@@ -8,6 +8,7 @@ use Rattle.rbd_kinds.specs.declared.header.HeaderView.{HeaderView}
 use Rattle.rbd_kinds.specs.declared.id.Instance.{Instance}
 use Rattle.rbd_kinds.specs.declared.id.SiteId.{SiteId}
 use Rattle.rbd_kinds.specs.declared.layout.Layout.{Layout}
+use Rattle.rbd_kinds.specs.Sharing.{go_together}
 use Rattle.rbd_kinds.proofs.Images.{same_site_is}
 use Rattle.rbd_object.specs.Mapped.{Mapped}
 use Rattle.rbd_flat.specs.Flat.{Flat}
@@ -24,7 +25,6 @@ use Rattle.rbd_interference.specs.Beside.{AreBeside}
 use Rattle.rbd_interference.specs.Truth.{AreMapsTrue, AreObjectsTrue, AreZeros, IsCountTrue, IsStill, IsTrueAt, KnowsNoHeader, header_of_own, is_alone_on, is_own_alone, known_header, sharing_of_own, sharing_on, IsStillOwn}
 use Rattle.rbd_interference.specs.Turns.{KnowsOf}
 use Rattle.rbd_interference.proofs.Seen.{IsSeenLess, same_seen}
-use Rattle.rbd_kinds.specs.Sharing.{go_together}
 
 -- ---- less
 

@@ -12,6 +12,7 @@ use Rattle.rbd_kinds.specs.declared.sharing.Sharing.{Sharing}
 use Rattle.rbd_kinds.specs.declared.sharing.Sharing.TheVariants.{Alone}
 use Rattle.rbd_machine.specs.Knowledge.{Knowledge, is_drawn, is_gone, maps_of, objects_known_of, is_raised}
 use Rattle.rbd_machine.specs.Permits.{Permits, PermitsOnMap, IsLeftOver, MayLengthen, MaySet, OwnsBy}
+use Rattle.rbd_machine.proofs.Together.{shared_both}
 use Rattle.rbd_site.specs.Records.{Records}
 use Rattle.rbd_site.specs.Step.{is_fenced, after, after_served}
 use Rattle.rbd_stands.specs.Covering.{Maps}
@@ -22,7 +23,7 @@ use Rattle.rbd_interference.proofs.Fenced.{after_free}
 use Rattle.rbd_interference.proofs.Headers.{not_waiting, own_known, unknown_while_waiting}
 use Rattle.rbd_interference.proofs.MapsBehind.{each_image, maps_behind, same_again, true_of}
 use Rattle.rbd_interference.proofs.States.{set_elsewhere}
-use Rattle.rbd_interference.proofs.Sharing.{alone_beside_none, shared_both}
+use Rattle.rbd_interference.proofs.Sharing.{alone_beside_none}
 
 module _ (site : SiteId) (r : Records) (k j : Knowledge) (me you : Instance) (t : IsTrueAt site r me k) (u : IsTrueAt site r you j) (beside : AreBeside site r me you k j) where
   -- ---- of an image whose header it knows

@@ -13,6 +13,7 @@ use Rattle.rbd_kinds.specs.declared.sharing.Sharing.{Sharing}
 use Rattle.rbd_object.specs.Mapped.{Mapped}
 use Rattle.rbd_machine.specs.Knowledge.{Knowledge, objects_known_of}
 use Rattle.rbd_machine.specs.Permits.{Permits, PermitsOnObject, IsLeftOver, OwnsBy}
+use Rattle.rbd_machine.proofs.Together.{shared_both}
 use Rattle.rbd_site.specs.DataStep.{data_after}
 use Rattle.rbd_site.specs.Records.{Records, object_at, or_blank, put}
 use Rattle.rbd_site.specs.Step.{is_fenced, after, after_served}
@@ -25,7 +26,6 @@ use Rattle.rbd_interference.proofs.Fenced.{after_free}
 use Rattle.rbd_interference.proofs.Headers.{unknown_while_waiting}
 use Rattle.rbd_interference.proofs.MapsBehind.{at_each}
 use Rattle.rbd_interference.proofs.MapsKept.{both_shared, known_apart}
-use Rattle.rbd_interference.proofs.Sharing.{shared_both}
 
 -- ---- the objects behind a change of one
 

@@ -28,6 +28,7 @@ use Rattle.rbd_machine.specs.Lawful.{IsLawful}
 use Rattle.rbd_machine.specs.Permits.{HasTurn, OwnsBy, Permits, PermitsOnObject}
 use Rattle.rbd_machine.specs.Plan.{Ask, Plan, Standing}
 use Rattle.rbd_machine.specs.declared.reason.Reason.{Reason}
+use Rattle.rbd_machine.proofs.Together.{shared_both}
 use Rattle.rbd_interference.specs.Beside.{LeavesObject, MayAct, SharesLock}
 use Rattle.rbd_interference.specs.Truth.{header_of_own, is_alone_on, is_own_alone, known_header, sharing_of_own}
 use Rattle.rbd_slots.specs.declared.running.Running.{Running}
@@ -43,7 +44,6 @@ use Rattle.rbd_knowledge.proofs.Behind.{knows_there}
 use Rattle.rbd_knowledge.proofs.Firsts.{one_first}
 use Rattle.rbd_knowledge.proofs.There.{IsMemberFor, may_of, owner_there}
 use Rattle.rbd_knowledge.proofs.Turning.{turn_of_goes}
-use Rattle.rbd_queue.proofs.Together.{shared_both}
 
 -- it changes the object, or may
 abbrev changes_object : DataOp → Bool

@@ -16,3 +16,4 @@ pub mod Wanted
 pub mod Gone
 pub mod Orderly
 pub mod CourseSteps
+pub mod Together

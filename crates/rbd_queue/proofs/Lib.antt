@@ -6,6 +6,5 @@ pub mod Owned
 pub mod Passing
 pub mod Past
 pub mod Staying
-pub mod Together
 pub mod Views
 pub mod Walked

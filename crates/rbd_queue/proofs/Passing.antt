@@ -11,13 +11,13 @@ use Rattle.rbd_guard.specs.Order.{is_in}
 use Rattle.rbd_guard.proofs.Apart.{head_in}
 use Rattle.rbd_kinds.specs.Sharing.{go_together, is_alone}
 use Rattle.rbd_kinds.specs.declared.sharing.Sharing.{Sharing}
+use Rattle.rbd_machine.proofs.Together.{alone_with_none, flips}
 use Rattle.rbd_queue.specs.Line.{Member, member_of, is_member, ahead, members_behind, is_past, lets_pass, is_let_pass, may_pass, holds_ticket, slots, none_past_behind, has_turn, new_member, held, passed, entered, next_piece, changed_member, without, Each, EachPair, LetsPass, IsFairLine, may_hold_objects, may_hold_objects_in, may_enter, objects_in, objects_of_slot, IsFairMember}
 use Rattle.rbd_queue.specs.Steady.{IsSteady}
 use Rattle.rbd_queue.specs.Turns.{begins_with}
 use Rattle.rbd_queue.proofs.Fair.{put, put_is, put_keeps, absent_change, rest_out, in_slots, stays_past, each_true, and_left, and_right}
 use Rattle.rbd_queue.proofs.Few.{few}
 use Rattle.rbd_queue.proofs.Keeping.{found_has, is_found}
-use Rattle.rbd_queue.proofs.Together.{alone_with_none, flips}
 
 -- ---- two members, one ahead of the other
 

@@ -36,6 +36,7 @@ use Rattle.rbd_machine.specs.Plan.{Plan, Ask, Await, Note, Return, Goto, Standin
 use Rattle.rbd_machine.specs.Refused.{IsGiven}
 use Rattle.rbd_machine.specs.declared.reason.Reason.{Reason}
 use Rattle.rbd_machine.specs.declared.seat.Seat.{Seat}
+use Rattle.rbd_machine.proofs.Together.{shared_both}
 use Rattle.rbd_lock.specs.Acquire.{op_at_stage, op_of}
 use Rattle.rbd_lock.specs.Release.{release_op, release_op_at}
 use Rattle.rbd_lock.specs.declared.acquire.Acquire.{Acquire}
@@ -63,7 +64,6 @@ use Rattle.rbd_world.specs.World.{WorldView, client_in, records_in, session_of_c
 use Rattle.rbd_world.proofs.Changed.{same_or_other}
 use Rattle.rbd_world.proofs.Debts.{debt_open, none_fenced, others_owe, own_steps, worked}
 use Rattle.rbd_world.proofs.Exactly.{OwesAsItGoes}
-use Rattle.rbd_queue.proofs.Together.{shared_both}
 
 -- ---- what an operation says
 
