@@ -1,5 +1,5 @@
 -- Plans whose operations are their own, step by step.
-use Rattle.std.proofs.Common.{◌≡◌, ◌⊎◌, inl, ℕ, List, [], ◌∷◌, Option, Some, None, refl, sym, subst}
+use Rattle.std.proofs.Common.{◌≡◌, ℕ, List, [], ◌∷◌, Option, Some, None, refl, sym, subst}
 use Rattle.rbd_kinds.specs.declared.sharing.Sharing.{Sharing}
 use Rattle.rbd_kinds.specs.declared.answer.Answer.{Answer}
 use Rattle.rbd_kinds.specs.declared.answer.Answer.TheVariants as answer
@@ -9,7 +9,7 @@ use Rattle.rbd_kinds.specs.declared.machine.Fed.{Fed}
 use Rattle.rbd_kinds.specs.declared.machine.Fed.TheVariants as fed
 use Rattle.rbd_kinds.specs.declared.operation.Op.{Op}
 use Rattle.rbd_commands.specs.declared.refusal.Refusal.{Refusal}
-use Rattle.rbd_machine.specs.About.{image_of, AreOfImage, AreOwn, IsLookAbove}
+use Rattle.rbd_machine.specs.About.{image_of, AreOfImage, AreOwn}
 use Rattle.rbd_machine.specs.Path.{Answered, IsWalk}
 use Rattle.rbd_machine.specs.Plan.{Plan, Ask, Await, Note, Return, Goto, past_label}
 use Rattle.rbd_machine.specs.Steps.{not_there, unless, on_id, on_header, on_done, own, joining, looked, holding, owned}
@@ -17,9 +17,9 @@ use Rattle.rbd_machine.proofs.Settled.{settled_goto}
 use Rattle.rbd_machine.proofs.Walked.{ended}
 
 module _ (site : SiteId) where
-  -- each operation is of the image, or looks above it
+  -- each operation is of the image
   abbrev pub IsOfImage : (image : ℕ) → Plan → Type 0
-  IsOfImage image (Ask s why o next) = (s ≡ site) × ((image_of o ≡ Some image) ⊎ IsLookAbove o) × ((a : Answer) → IsOfImage image (next a))
+  IsOfImage image (Ask s why o next) = (s ≡ site) × (image_of o ≡ Some image) × ((a : Answer) → IsOfImage image (next a))
   IsOfImage image (Await wait next) = IsOfImage image next
   IsOfImage image (Note s i event next) = IsOfImage image next
   IsOfImage image (Return r) = Unit {0}
@@ -47,10 +47,10 @@ module _ (site : SiteId) where
     pub of_joining : (sharing : Sharing) (refuses : HeaderView → Option Refusal) (act : ℕ → HeaderView → Plan) → ((h : HeaderView) → IsOfImage image (act image h)) → IsOfImage image (joining site sharing refuses act image)
     of_joining sharing refuses act acts = (
       refl,
-      inl refl,
+      refl,
       of_on_header (looked site refuses act image) (λ h.
           of_unless (refuses h) (holding site refuses act image)
-          (refl, inl refl, of_on_header (owned refuses act image) (λ own. of_unless (refuses own) (act image own) (acts own)))),
+          (refl, refl, of_on_header (owned refuses act image) (λ own. of_unless (refuses own) (act image own) (acts own)))),
     )
 
     of_settled : (plan : Plan) → IsOfImage image plan → IsOfImage image (past_label Goto plan)
