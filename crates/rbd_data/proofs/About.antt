@@ -1,5 +1,5 @@
 -- The operations of requests are their own.
-use Rattle.std.proofs.Common.{ℕ, List, [], ◌∷◌, Bool, true, false, cond, eqb, Option, Some, None, refl, inl}
+use Rattle.std.proofs.Common.{ℕ, List, [], ◌∷◌, Bool, true, false, cond, eqb, Option, Some, None, refl}
 use Rattle.rbd_kinds.specs.declared.sharing.Sharing.TheVariants as sharing
 use Rattle.rbd_kinds.specs.declared.answer.Answer.{Answer}
 use Rattle.rbd_kinds.specs.declared.answer.Answer.TheVariants as answer
@@ -56,10 +56,10 @@ module _ (site : SiteId) (name : List ℕ) where
   of_viewing e image h None = tt
   of_viewing e image h (Some view) =
       of_unless site image (out_of_range e view.size) (gathering site image h e view)
-      (of_gather site image (pieces_of h.layout e) view.snap [] (closing site image (seen_at h e)) (λ read. (refl, inl refl, of_closing image (seen_at h e) read)))
+      (of_gather site image (pieces_of h.layout e) view.snap [] (closing site image (seen_at h e)) (λ read. (refl, refl, of_closing image (seen_at h e) read)))
 
   pub pass_is_own : (snap : Option (List ℕ)) (e : Extent) (feds : List Fed) (steps : List Answered) (last : Plan) → IsWalk Goto (pass site name snap e) feds steps last → AreOwn site (look_up name) steps
   pass_is_own snap e feds steps last walk =
       are_own site (look_up name) (on_id (looking site snap e))
-      (by_on_id site (looking site snap e) (λ image. (refl, inl refl, of_on_header site image (read_by_header site snap e image) (λ h. of_viewing e image h (view_of h snap)))))
+      (by_on_id site (looking site snap e) (λ image. (refl, refl, of_on_header site image (read_by_header site snap e image) (λ h. of_viewing e image h (view_of h snap)))))
       feds steps last walk

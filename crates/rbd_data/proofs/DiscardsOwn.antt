@@ -1,5 +1,5 @@
 -- The operations of a discard are its own.
-use Rattle.std.proofs.Common.{ℕ, Bool, true, false, List, [], ◌∷◌, refl, inl}
+use Rattle.std.proofs.Common.{ℕ, Bool, true, false, List, [], ◌∷◌, refl}
 use Rattle.rbd_kinds.specs.declared.sharing.Sharing.TheVariants as sharing
 use Rattle.rbd_kinds.specs.declared.header.HeaderView.{HeaderView}
 use Rattle.rbd_kinds.specs.declared.header.SnapContext.{SnapContext}
@@ -20,15 +20,15 @@ use Rattle.rbd_data.specs.Discard.{discard, zero, zero_in_turns}
 
 module _ (site : SiteId) (image : ℕ) where
   of_piece : (whole inside : Bool) (context : SnapContext) (p : Piece) (next : Plan) → IsOfImage site image next → IsOfImage site image (zero_by site image context p whole inside next)
-  of_piece false false context p next of = (refl, inl refl, of_on_done site image next of)
-  of_piece false true context p next of = (refl, inl refl, of_on_done site image (zeroing site image context p true next) (refl, inl refl, of_on_done site image next of))
+  of_piece false false context p next of = (refl, refl, of_on_done site image next of)
+  of_piece false true context p next of = (refl, refl, of_on_done site image (zeroing site image context p true next) (refl, refl, of_on_done site image next of))
   of_piece true false context p next of = (
     refl,
-    inl refl,
+    refl,
     of_on_done site image (removing site image context p (setting site image context p 0 next))
-        (refl, inl refl, of_on_done site image (setting site image context p 0 next) (refl, inl refl, of_on_done site image next of)),
+        (refl, refl, of_on_done site image (setting site image context p 0 next) (refl, refl, of_on_done site image next of)),
   )
-  of_piece true true context p next of = (refl, inl refl, of_on_done site image (emptying site image context p next) (refl, inl refl, of_on_done site image next of))
+  of_piece true true context p next of = (refl, refl, of_on_done site image (emptying site image context p next) (refl, refl, of_on_done site image next of))
 
   of_pieces : (pieces : List Piece) (h : HeaderView) → IsOfImage site image (zero_in_turns site image h pieces (applied site image))
   of_pieces [] h = tt

@@ -44,7 +44,7 @@ record PiecesStop (site : SiteId) (image : ℕ) (h : HeaderView) (at : ℕ) (byt
   pub begun : List Answered
   pub last : Answered
   pub pieces : all ≡ written ++ left
-  pub is_begun : IsPieceBegun site image left begun
+  pub is_begun : IsPieceBegun site image h at bytes left begun
   pub written_steps : List Answered
   pub are_written : AreWritten site image h at bytes written written_steps
   pub are : steps ≡ (written_steps ++ begun) ++ last ∷ []
@@ -114,7 +114,7 @@ module _ (x : Refusal) (site : SiteId) (name : List ℕ) (at : ℕ) (bytes : Lis
         begun = state_raised site image p ∷ [];
         last = asked (write_of image h p) a;
         pieces = refl;
-        is_begun = refl;
+        is_begun = record { next = piece_written site image h at bytes p; rest = []; whole = refl };
         written_steps = [];
         are_written = refl;
         are = are ∙ ap (λ s. state_raised site image p ∷ asked (write_of image h p) a ∷ s) (absent_ends a more last Refused w);
@@ -142,7 +142,7 @@ module _ (x : Refusal) (site : SiteId) (name : List ℕ) (at : ℕ) (bytes : Lis
         begun = [];
         last = asked (raise_of image p) a;
         pieces = refl;
-        is_begun = tt;
+        is_begun = record { next = state_raised site image p; rest = piece_written site image h at bytes p ∷ []; whole = refl };
         written_steps = [];
         are_written = refl;
         are = are ∙ ap (λ s. asked (raise_of image p) a ∷ s) (absent_ends a more rest Refused r);

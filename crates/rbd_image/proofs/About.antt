@@ -1,5 +1,5 @@
 -- The operations of requests are their own.
-use Rattle.std.proofs.Common.{ℕ, List, refl, inl}
+use Rattle.std.proofs.Common.{ℕ, List, refl}
 use Rattle.rbd_kinds.specs.declared.answer.Answer.{Answer}
 use Rattle.rbd_kinds.specs.declared.answer.Answer.TheVariants as answer
 use Rattle.rbd_kinds.specs.declared.directory_op.DirectoryOp.TheVariants as directory
@@ -23,7 +23,7 @@ module _ (site : SiteId) where
   -- ---- create
 
   by_drawn : (objects : ℕ) (h : HeaderView) (a : Answer) → GoesByImage site a (on_drawn (mapping site objects h) a)
-  by_drawn objects h (answer.Id image) = (refl, inl refl, of_on_done site image (making site h image) (refl, inl refl, of_on_done site image (Return reply.Done) tt))
+  by_drawn objects h (answer.Id image) = (refl, refl, of_on_done site image (making site h image) (refl, refl, of_on_done site image (Return reply.Done) tt))
   by_drawn objects h answer.Exists = tt
   by_drawn objects h answer.Full = tt
   by_drawn objects h answer.Fenced = tt
@@ -46,7 +46,7 @@ module _ (site : SiteId) where
 
   pub listing_is_own : (name : List ℕ) (shown : HeaderView → Reply) (feds : List Fed) (steps : List Answered) (last : Plan) → IsWalk Goto (show_header site name shown) feds steps last → AreOwn site (look_up name) steps
   listing_is_own name shown feds steps last walk =
-      are_own site (look_up name) (on_id (showing site shown)) (by_on_id site (showing site shown) (λ image. (refl, inl refl, of_on_header site image (λ h. Return (shown h)) (λ h. tt)))) feds steps last walk
+      are_own site (look_up name) (on_id (showing site shown)) (by_on_id site (showing site shown) (λ image. (refl, refl, of_on_header site image (λ h. Return (shown h)) (λ h. tt)))) feds steps last walk
 
   -- ---- du, rename
 
@@ -55,12 +55,12 @@ module _ (site : SiteId) where
   of_on_bits image next of a = of_not_there site image a
 
   of_counting : (image objects : ℕ) → IsOfImage site image (counting site image objects)
-  of_counting image objects = (refl, inl refl, of_on_bits image (λ bits. Return (reply.Used (used_among objects bits) objects)) (λ bits. tt))
+  of_counting image objects = (refl, refl, of_on_bits image (λ bits. Return (reply.Used (used_among objects bits) objects)) (λ bits. tt))
 
   pub used_is_own : (name : List ℕ) (feds : List Fed) (steps : List Answered) (last : Plan) → IsWalk Goto (show_used site name) feds steps last → AreOwn site (look_up name) steps
   used_is_own name feds steps last walk =
       are_own site (look_up name) (on_id (measuring site))
-      (by_on_id site (measuring site) (λ image. (refl, inl refl, of_on_header site image (λ h. counting site image (object_count h.layout h.size)) (λ h. of_counting image (object_count h.layout h.size)))))
+      (by_on_id site (measuring site) (λ image. (refl, refl, of_on_header site image (λ h. counting site image (object_count h.layout h.size)) (λ h. of_counting image (object_count h.layout h.size)))))
       feds steps last walk
 
   by_renamed : (a : Answer) → GoesByImage site a (on_renamed a)

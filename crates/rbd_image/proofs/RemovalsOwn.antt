@@ -1,5 +1,5 @@
 -- The operations of a removal are its image's.
-use Rattle.std.proofs.Common.{◌≡◌, ℕ, Bool, true, false, cond, List, [], ◌∷◌, ◌++◌, map, Option, Some, None, refl, inl}
+use Rattle.std.proofs.Common.{◌≡◌, ℕ, Bool, true, false, cond, List, [], ◌∷◌, ◌++◌, map, Option, Some, None, refl}
 use Rattle.rbd_commands.specs.declared.refusal.Refusal.TheVariants as refusal
 use Rattle.rbd_kinds.specs.declared.answer.Answer.{Answer}
 use Rattle.rbd_kinds.specs.declared.answer.Answer.TheVariants as answer
@@ -75,24 +75,24 @@ module _ (image : ℕ) where
 
     of_each : (ops : List Op) (next : Plan) → AreOf image ops → IsOfImage site image next → IsOfImage site image (remove_each site ops next)
     of_each [] next are of = of
-    of_each (o ∷ ops) next (first, are) of = (refl, inl first, of_on_gone o (remove_each site ops next) (of_each ops next are of))
+    of_each (o ∷ ops) next (first, are) of = (refl, first, of_on_gone o (remove_each site ops next) (of_each ops next are of))
 
     of_remove : (h : HeaderView) (next : Plan) → IsOfImage site image next → IsOfImage site image (removal_plan site image h next)
     of_remove h next of =
-        (refl, inl refl, of_on_bits (λ bits. remove_each site (removal image h bits) next) (λ bits. of_each (removal image h bits) next (removal_of h bits) of))
+        (refl, refl, of_on_bits (λ bits. remove_each site (removal image h bits) next) (λ bits. of_each (removal image h bits) next (removal_of h bits) of))
 
     of_watched : (session : ℕ) (next : Plan) → IsOfImage site image next → IsOfImage site image (unless_watched site session image next)
-    of_watched session next of = (refl, inl refl, of_on_watchers session next of)
+    of_watched session next of = (refl, refl, of_on_watchers session next of)
 
     of_joining : (session : ℕ) → IsOfImage site image (joining_its_line site session image)
     of_joining session = (
       refl,
-      inl refl,
+      refl,
       of_on_header site image (looked_at_it site session image) (λ h.
           of_unless site image (image_removal_refuses h) (unless_watched site session image (holding_it site session image))
           (of_watched session (holding_it site session image) (
             refl,
-            inl refl,
+            refl,
             of_on_header site image (owned image_removal_refuses (remove_owned site session) image) (λ own.
                 of_unless site image (image_removal_refuses own) (remove_owned site session image own)
                 (of_watched session (removal_plan site image own (Return reply.Done)) (of_remove own (Return reply.Done) tt))),

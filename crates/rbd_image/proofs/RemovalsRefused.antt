@@ -19,15 +19,13 @@ use Rattle.rbd_kinds.specs.declared.map_op.MapOp.TheVariants as states
 use Rattle.rbd_kinds.specs.declared.operation.Op.{Op}
 use Rattle.rbd_kinds.specs.declared.operation.Op.TheVariants as op
 use Rattle.rbd_kinds.specs.declared.reply.Reply.TheVariants as reply
-use Rattle.rbd_machine.specs.About.{AreOwn, look_up, owned_after, owned_behind}
-use Rattle.rbd_machine.specs.Knowledge.{ImagePlace}
+use Rattle.rbd_machine.specs.About.{AreOwn, look_up, owned_behind}
 use Rattle.rbd_machine.specs.Path.{Answered, IsWalk, found, looked_at}
 use Rattle.rbd_machine.specs.Plan.{Plan, Goto, Return}
 use Rattle.rbd_machine.specs.Refused.{AreGiven, AreLooks, IsGiven, MayRefuse}
 use Rattle.rbd_machine.specs.Steps.{on_bits, on_header, on_id, owned, under_lock, refused, unless}
 use Rattle.rbd_machine.specs.Wait as wait
 use Rattle.rbd_machine.specs.declared.reason.Reason.TheVariants as reason
-use Rattle.rbd_machine.proofs.Refused.{only_image}
 use Rattle.rbd_machine.proofs.Walked.{asked_to, awaited_to, ended}
 use Rattle.rbd_meaning.specs.Removals.{AllowRemoval, AreRemovals, IsRemovedBy, RefusesRemovalOf, image_removal_refuses, is_watched_beside, link_of, removal, removal_refusal_by, removing_journal, removing_map_of, removing_object, unlinking, used_objects, watchers_refuse, watchers_told}
 use Rattle.rbd_meaning.specs.Snaps.{map_told}
@@ -147,7 +145,7 @@ record CutOff (site : SiteId) (session : ℕ) (ops : List Op) (steps : List Answ
   fenced : x ≡ refusal.Fenced
   last_fenced : last.answer ≡ answer.Fenced
   by : removal_refusal_by session last.op last.answer ≡ Some x
-  allowed : (images : List ImagePlace) → AllowRemoval session images before
+  allowed : AllowRemoval session before
   rest : List Answered
   whole : AreRemovals site ops (before ++ rest)
 
@@ -191,7 +189,7 @@ module _ (x : Refusal) (site : SiteId) (session : ℕ) where
             fenced = r.fenced;
             last_fenced = r.last_fenced;
             by = r.by;
-            allowed = λ images. (λ own. allowed, r.allowed (owned_after images site o a));
+            allowed = (allowed, r.allowed);
             rest = r.rest;
             whole = (refl, refl, removed, r.whole);
           }
@@ -204,7 +202,7 @@ module _ (x : Refusal) (site : SiteId) (session : ℕ) where
             fenced = end.1;
             last_fenced = fenced;
             by = ap (removal_refusal_by session o) fenced ∙ first.fenced ∙ ap Some (sym end.1);
-            allowed = λ images. tt;
+            allowed = tt;
             rest = done_all site (o ∷ ops);
             whole = all_done site (o ∷ ops);
           }
@@ -217,7 +215,7 @@ module _ (x : Refusal) (site : SiteId) (session : ℕ) where
 
     -- it ends behind looks alone
     stops : (before : List Answered) (o : Op) (a : Answer) (y : Refusal) (feds : List Fed) (rest : List Answered) → steps ≡ before ++ asked site o a ∷ rest → IsWalk Goto (Return (reply.Refused y)) feds rest Refused
-        → MayRefuse (owned_behind [] before) (asked site o a) → removal_refusal_by session o a ≡ Some y → AllowRemoval session [] before → AreLooks before → Meant
+        → MayRefuse (owned_behind [] before) (asked site o a) → removal_refusal_by session o a ≡ Some y → AllowRemoval session before → AreLooks before → Meant
     stops before o a y feds rest are walk may by allowed looks =
         let end = is_last y feds rest walk in
         record {
@@ -255,7 +253,7 @@ module _ (x : Refusal) (site : SiteId) (session : ℕ) where
           are = are ∙ ap (λ s. looks (map_told site image bits ∷ s)) cut.are;
           by_own = inl cut.last_fenced;
           refused = cut.by;
-          allowed = (λ own. refl, (λ own. may_wait, (λ own. allowed, (λ own. may, (λ own. still_allowed, (λ own. refl, cut.allowed (only_image site image)))))));
+          allowed = (refl, (may_wait, (allowed, (may, (still_allowed, (refl, cut.allowed))))));
           unchanged = λ late. absurd (late cut.fenced);
           so_far = inr (record {
             rest = cut.rest;
@@ -292,9 +290,9 @@ module _ (x : Refusal) (site : SiteId) (session : ℕ) where
             go : (a : Answer) (more : List Fed) (last : List Answered) → steps ≡ looks (asked site map_get a ∷ last) → IsGiven map_get a → AreGiven last → IsWalk Goto (on_bits removing a) more last Refused → Meant
             go (answer.Bits bits) more last are g gs walk = removing_stops bits last are (cut_off (removal image h bits) (removal_goes session image h bits) more last gs (subst FindJournals are finds).1.1.1.1.1.1 walk)
             go answer.Absent more last are g gs walk =
-                stops (looks []) map_get answer.Absent refusal.NoImage more last are walk (inr (inl refl)) refl (λ own. refl, (λ own. may_wait, (λ own. allowed, (λ own. may, (λ own. still_allowed, tt))))) (refl, (refl, (refl, (refl, (refl, tt)))))
+                stops (looks []) map_get answer.Absent refusal.NoImage more last are walk (inr (inl refl)) refl (refl, (may_wait, (allowed, (may, (still_allowed, tt))))) (refl, (refl, (refl, (refl, (refl, tt)))))
             go answer.Fenced more last are g gs walk =
-                stops (looks []) map_get answer.Fenced refusal.Fenced more last are walk (inr (inl refl)) refl (λ own. refl, (λ own. may_wait, (λ own. allowed, (λ own. may, (λ own. still_allowed, tt))))) (refl, (refl, (refl, (refl, (refl, tt)))))
+                stops (looks []) map_get answer.Fenced refusal.Fenced more last are walk (inr (inl refl)) refl (refl, (may_wait, (allowed, (may, (still_allowed, tt))))) (refl, (refl, (refl, (refl, (refl, tt)))))
             go _ more last are g gs walk = let no = g.can.word in cc
 
       -- ---- the second look at who watches
@@ -315,15 +313,15 @@ module _ (x : Refusal) (site : SiteId) (session : ℕ) where
             told others more last are gs None still walk =
                 states_stop first watchers h others may_wait unused may (unwatched (is_watched_beside session others) still) allowed still finds more last are gs walk
             told others more last are gs (Some y) by walk =
-                stops (front (looked_at site image h ∷ [])) watchers_get (answer.Instances others) y more last are walk (inr (inl refl)) by (λ own. refl, (λ own. may_wait, (λ own. allowed, (λ own. may, tt)))) (refl, (refl, (refl, (refl, tt))))
+                stops (front (looked_at site image h ∷ [])) watchers_get (answer.Instances others) y more last are walk (inr (inl refl)) by (refl, (may_wait, (allowed, (may, tt)))) (refl, (refl, (refl, (refl, tt))))
 
             go : (a : Answer) (more : List Fed) (last : List Answered) → steps ≡ front (looked_at site image h ∷ asked site watchers_get a ∷ last) → IsGiven watchers_get a → AreGiven last
                 → IsWalk Goto (on_watchers session (removal_plan site image h (Return reply.Done)) a) more last Refused → Meant
             go (answer.Instances others) more last are g gs walk = told others more last are gs (watchers_refuse session others) refl walk
             go answer.Absent more last are g gs walk =
-                stops (front (looked_at site image h ∷ [])) watchers_get answer.Absent refusal.NoImage more last are walk (inr (inl refl)) refl (λ own. refl, (λ own. may_wait, (λ own. allowed, (λ own. may, tt)))) (refl, (refl, (refl, (refl, tt))))
+                stops (front (looked_at site image h ∷ [])) watchers_get answer.Absent refusal.NoImage more last are walk (inr (inl refl)) refl (refl, (may_wait, (allowed, (may, tt)))) (refl, (refl, (refl, (refl, tt))))
             go answer.Fenced more last are g gs walk =
-                stops (front (looked_at site image h ∷ [])) watchers_get answer.Fenced refusal.Fenced more last are walk (inr (inl refl)) refl (λ own. refl, (λ own. may_wait, (λ own. allowed, (λ own. may, tt)))) (refl, (refl, (refl, (refl, tt))))
+                stops (front (looked_at site image h ∷ [])) watchers_get answer.Fenced refusal.Fenced more last are walk (inr (inl refl)) refl (refl, (may_wait, (allowed, (may, tt)))) (refl, (refl, (refl, (refl, tt))))
             go _ more last are g gs walk = let no = g.can.word in cc
 
         -- ---- the look under the lock
@@ -338,13 +336,13 @@ module _ (x : Refusal) (site : SiteId) (session : ℕ) where
             told : (h : HeaderView) (more : List Fed) (last : List Answered) → steps ≡ front (looked_at site image h ∷ last) → AreGiven last → (r : Option Refusal) → image_removal_refuses h ≡ r
                 → IsWalk Goto (unless r (remove_owned site session image h)) more last Refused → Meant
             told h more last are gs None may walk = again_stops finds h may more last are gs walk
-            told h more last are gs (Some y) by walk = stops (front []) get (answer.Header h) y more last are walk (inr (inl refl)) by (λ own. refl, (λ own. may_wait, (λ own. allowed, tt))) (refl, (refl, (refl, tt)))
+            told h more last are gs (Some y) by walk = stops (front []) get (answer.Header h) y more last are walk (inr (inl refl)) by (refl, (may_wait, (allowed, tt))) (refl, (refl, (refl, tt)))
 
             go : (a : Answer) (more : List Fed) (last : List Answered) → steps ≡ front (asked site get a ∷ last) → IsGiven get a → AreGiven last
                 → IsWalk Goto (on_header (owned image_removal_refuses (remove_owned site session) image) a) more last Refused → Meant
             go (answer.Header h) more last are g gs walk = told h more last are gs (image_removal_refuses h) refl walk
-            go answer.Absent more last are g gs walk = stops (front []) get answer.Absent refusal.NoImage more last are walk (inr (inl refl)) refl (λ own. refl, (λ own. may_wait, (λ own. allowed, tt))) (refl, (refl, (refl, tt)))
-            go answer.Fenced more last are g gs walk = stops (front []) get answer.Fenced refusal.Fenced more last are walk (inr (inl refl)) refl (λ own. refl, (λ own. may_wait, (λ own. allowed, tt))) (refl, (refl, (refl, tt)))
+            go answer.Absent more last are g gs walk = stops (front []) get answer.Absent refusal.NoImage more last are walk (inr (inl refl)) refl (refl, (may_wait, (allowed, tt))) (refl, (refl, (refl, tt)))
+            go answer.Fenced more last are g gs walk = stops (front []) get answer.Fenced refusal.Fenced more last are walk (inr (inl refl)) refl (refl, (may_wait, (allowed, tt))) (refl, (refl, (refl, tt)))
             go _ more last are g gs walk = let no = g.can.word in cc
 
       -- ---- the first looks
@@ -359,13 +357,13 @@ module _ (x : Refusal) (site : SiteId) (session : ℕ) where
           told : (watchers : List Instance) (more : List Fed) (last : List Answered) → steps ≡ found site name image ∷ looked_at site image first ∷ watchers_told site image watchers ∷ last → AreGiven last
               → (r : Option Refusal) → watchers_refuse session watchers ≡ r → IsWalk Goto (unless r (holding_it site session image)) more last Refused → Meant
           told watchers more last are gs None allowed walk = own_stops first watchers may_wait (unwatched (is_watched_beside session watchers) allowed) allowed finds more last are gs walk
-          told watchers more last are gs (Some y) by walk = stops (found site name image ∷ looked_at site image first ∷ []) watchers_get (answer.Instances watchers) y more last are walk (inr (inl refl)) by (λ own. refl, (λ own. may_wait, tt)) (refl, (refl, tt))
+          told watchers more last are gs (Some y) by walk = stops (found site name image ∷ looked_at site image first ∷ []) watchers_get (answer.Instances watchers) y more last are walk (inr (inl refl)) by (refl, (may_wait, tt)) (refl, (refl, tt))
 
           go : (a : Answer) (more : List Fed) (last : List Answered) → steps ≡ found site name image ∷ looked_at site image first ∷ asked site watchers_get a ∷ last → IsGiven watchers_get a → AreGiven last
               → IsWalk Goto (on_watchers session (holding_it site session image) a) more last Refused → Meant
           go (answer.Instances watchers) more last are g gs walk = told watchers more last are gs (watchers_refuse session watchers) refl walk
-          go answer.Absent more last are g gs walk = stops (found site name image ∷ looked_at site image first ∷ []) watchers_get answer.Absent refusal.NoImage more last are walk (inr (inl refl)) refl (λ own. refl, (λ own. may_wait, tt)) (refl, (refl, tt))
-          go answer.Fenced more last are g gs walk = stops (found site name image ∷ looked_at site image first ∷ []) watchers_get answer.Fenced refusal.Fenced more last are walk (inr (inl refl)) refl (λ own. refl, (λ own. may_wait, tt)) (refl, (refl, tt))
+          go answer.Absent more last are g gs walk = stops (found site name image ∷ looked_at site image first ∷ []) watchers_get answer.Absent refusal.NoImage more last are walk (inr (inl refl)) refl (refl, (may_wait, tt)) (refl, (refl, tt))
+          go answer.Fenced more last are g gs walk = stops (found site name image ∷ looked_at site image first ∷ []) watchers_get answer.Fenced refusal.Fenced more last are walk (inr (inl refl)) refl (refl, (may_wait, tt)) (refl, (refl, tt))
           go _ more last are g gs walk = let no = g.can.word in cc
 
       joining_stops : FindJournals steps → (feds : List Fed) (rest : List Answered) → steps ≡ found site name image ∷ rest → AreGiven rest → IsWalk Goto (joining_its_line site session image) feds rest Refused → Meant
@@ -378,13 +376,13 @@ module _ (x : Refusal) (site : SiteId) (session : ℕ) where
           told : (first : HeaderView) (more : List Fed) (last : List Answered) → steps ≡ found site name image ∷ looked_at site image first ∷ last → AreGiven last → (r : Option Refusal) → image_removal_refuses first ≡ r
               → IsWalk Goto (unless r (unless_watched site session image (holding_it site session image))) more last Refused → Meant
           told first more last are gs None may_wait walk = asking_stops finds first may_wait more last are gs walk
-          told first more last are gs (Some y) by walk = stops (found site name image ∷ []) get (answer.Header first) y more last are walk (inr (inl refl)) by (λ own. refl, tt) (refl, tt)
+          told first more last are gs (Some y) by walk = stops (found site name image ∷ []) get (answer.Header first) y more last are walk (inr (inl refl)) by (refl, tt) (refl, tt)
 
           go : (a : Answer) (more : List Fed) (last : List Answered) → steps ≡ found site name image ∷ asked site get a ∷ last → IsGiven get a → AreGiven last
               → IsWalk Goto (on_header (looked_at_it site session image) a) more last Refused → Meant
           go (answer.Header first) more last are g gs walk = told first more last are gs (image_removal_refuses first) refl walk
-          go answer.Absent more last are g gs walk = stops (found site name image ∷ []) get answer.Absent refusal.NoImage more last are walk (inr (inl refl)) refl (λ own. refl, tt) (refl, tt)
-          go answer.Fenced more last are g gs walk = stops (found site name image ∷ []) get answer.Fenced refusal.Fenced more last are walk (inr (inl refl)) refl (λ own. refl, tt) (refl, tt)
+          go answer.Absent more last are g gs walk = stops (found site name image ∷ []) get answer.Absent refusal.NoImage more last are walk (inr (inl refl)) refl (refl, tt) (refl, tt)
+          go answer.Fenced more last are g gs walk = stops (found site name image ∷ []) get answer.Fenced refusal.Fenced more last are walk (inr (inl refl)) refl (refl, tt) (refl, tt)
           go _ more last are g gs walk = let no = g.can.word in cc
 
     pub refusal_is_meant : AreGiven steps → FindJournals steps → (feds : List Fed) → IsWalk Goto (remove_image site session name) feds steps Refused → Meant

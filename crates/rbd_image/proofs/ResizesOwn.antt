@@ -1,5 +1,5 @@
 -- The operations of a resize are its own.
-use Rattle.std.proofs.Common.{◌≡◌, ℕ, List, Some, refl, inl}
+use Rattle.std.proofs.Common.{◌≡◌, ℕ, List, Some, refl}
 use Rattle.rbd_kinds.specs.declared.sharing.Sharing.TheVariants as sharing
 use Rattle.rbd_kinds.specs.declared.answer.Answer.{Answer}
 use Rattle.rbd_kinds.specs.declared.answer.Answer.TheVariants as answer
@@ -31,9 +31,9 @@ module _ (site : SiteId) (image : ℕ) where
 
   pub of_rules : Rules (λ k p. IsOfImage site image k) (λ k p. IsOfImage site image k) (λ o. image_of o ≡ Some image) (λ inside. Unit {0}) site image
   of_rules = record {
-    done = λ o k p fine of. (refl, inl fine, of_on_done site image k of);
-    read = λ snap piece k p of. (refl, inl refl, of_on_bytes piece.parts k of);
-    bits = λ k p of. (refl, inl refl, of_on_bits k of);
+    done = λ o k p fine of. (refl, fine, of_on_done site image k of);
+    read = λ snap piece k p of. (refl, refl, of_on_bytes piece.parts k of);
+    bits = λ k p of. (refl, refl, of_on_bits k of);
     first = λ k p of. of;
     set = λ number state. refl;
     zero = λ context piece. refl;

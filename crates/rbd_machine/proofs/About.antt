@@ -1,5 +1,5 @@
 -- Plans whose operations are their own, step by step.
-use Rattle.std.proofs.Common.{◌≡◌, ◌⊎◌, inl, ℕ, List, [], ◌∷◌, Option, Some, None, refl, sym, subst}
+use Rattle.std.proofs.Common.{◌≡◌, inl, ℕ, List, [], ◌∷◌, Option, Some, None, refl, sym, subst}
 use Rattle.rbd_kinds.specs.declared.sharing.Sharing.{Sharing}
 use Rattle.rbd_kinds.specs.declared.answer.Answer.{Answer}
 use Rattle.rbd_kinds.specs.declared.answer.Answer.TheVariants as answer
@@ -9,7 +9,8 @@ use Rattle.rbd_kinds.specs.declared.machine.Fed.{Fed}
 use Rattle.rbd_kinds.specs.declared.machine.Fed.TheVariants as fed
 use Rattle.rbd_kinds.specs.declared.operation.Op.{Op}
 use Rattle.rbd_commands.specs.declared.refusal.Refusal.{Refusal}
-use Rattle.rbd_machine.specs.About.{image_of, AreOfImage, AreOwn, IsLookAbove}
+use Rattle.rbd_machine.specs.About.{image_of, AreOfImage, AreOwn}
+use Rattle.rbd_machine.specs.Ancestors.{HeaderSeen, seen_by}
 use Rattle.rbd_machine.specs.Path.{Answered, IsWalk}
 use Rattle.rbd_machine.specs.Plan.{Plan, Ask, Await, Note, Return, Goto, past_label}
 use Rattle.rbd_machine.specs.Steps.{not_there, unless, on_id, on_header, on_done, own, joining, looked, holding, owned}
@@ -17,9 +18,9 @@ use Rattle.rbd_machine.proofs.Settled.{settled_goto}
 use Rattle.rbd_machine.proofs.Walked.{ended}
 
 module _ (site : SiteId) where
-  -- each operation is of the image, or looks above it
+  -- each operation is of the image
   abbrev pub IsOfImage : (image : ℕ) → Plan → Type 0
-  IsOfImage image (Ask s why o next) = (s ≡ site) × ((image_of o ≡ Some image) ⊎ IsLookAbove o) × ((a : Answer) → IsOfImage image (next a))
+  IsOfImage image (Ask s why o next) = (s ≡ site) × (image_of o ≡ Some image) × ((a : Answer) → IsOfImage image (next a))
   IsOfImage image (Await wait next) = IsOfImage image next
   IsOfImage image (Note s i event next) = IsOfImage image next
   IsOfImage image (Return r) = Unit {0}
@@ -47,26 +48,26 @@ module _ (site : SiteId) where
     pub of_joining : (sharing : Sharing) (refuses : HeaderView → Option Refusal) (act : ℕ → HeaderView → Plan) → ((h : HeaderView) → IsOfImage image (act image h)) → IsOfImage image (joining site sharing refuses act image)
     of_joining sharing refuses act acts = (
       refl,
-      inl refl,
+      refl,
       of_on_header (looked site refuses act image) (λ h.
           of_unless (refuses h) (holding site refuses act image)
-          (refl, inl refl, of_on_header (owned refuses act image) (λ own. of_unless (refuses own) (act image own) (acts own)))),
+          (refl, refl, of_on_header (owned refuses act image) (λ own. of_unless (refuses own) (act image own) (acts own)))),
     )
 
     of_settled : (plan : Plan) → IsOfImage image plan → IsOfImage image (past_label Goto plan)
     of_settled plan of = subst (IsOfImage image) (sym (settled_goto plan)) of
 
-    of_image : (feds : List Fed) (plan : Plan) (steps : List Answered) (last : Plan) → IsOfImage image plan → IsWalk Goto plan feds steps last → AreOfImage site image steps
-    of_image [] plan steps last of walk = subst (AreOfImage site image) (sym walk.0) tt
-    of_image (fed.Answer a ∷ more) (Ask s why o next) steps last (at, of, goes_on) (first, walk) =
-        subst (AreOfImage site image) (sym first.is) (at, of, of_image more (past_label Goto (next a)) first.rest last (of_settled (next a) (goes_on a)) walk)
-    of_image (fed.Passed ∷ more) (Ask s why o next) steps last of walk = absurd walk
-    of_image (fed.Passed ∷ more) (Await wait next) steps last of walk = of_image more (past_label Goto next) steps last (of_settled next of) walk
-    of_image (fed.Answer a ∷ more) (Await wait next) steps last of walk = absurd walk
-    of_image (fed.Passed ∷ more) (Note s i event next) steps last of walk = of_image more (past_label Goto next) steps last (of_settled next of) walk
-    of_image (fed.Answer a ∷ more) (Note s i event next) steps last of walk = absurd walk
-    of_image (f ∷ more) (Return r) steps last of walk = absurd walk
-    of_image (f ∷ more) (Goto label) steps last of walk = absurd walk
+    of_image : (seen : List HeaderSeen) (feds : List Fed) (plan : Plan) (steps : List Answered) (last : Plan) → IsOfImage image plan → IsWalk Goto plan feds steps last → AreOfImage seen site image steps
+    of_image seen [] plan steps last of walk = subst (AreOfImage seen site image) (sym walk.0) tt
+    of_image seen (fed.Answer a ∷ more) (Ask s why o next) steps last (at, of, goes_on) (first, walk) =
+        subst (AreOfImage seen site image) (sym first.is) (at, inl of, of_image (seen_by seen s o a) more (past_label Goto (next a)) first.rest last (of_settled (next a) (goes_on a)) walk)
+    of_image seen (fed.Passed ∷ more) (Ask s why o next) steps last of walk = absurd walk
+    of_image seen (fed.Passed ∷ more) (Await wait next) steps last of walk = of_image seen more (past_label Goto next) steps last (of_settled next of) walk
+    of_image seen (fed.Answer a ∷ more) (Await wait next) steps last of walk = absurd walk
+    of_image seen (fed.Passed ∷ more) (Note s i event next) steps last of walk = of_image seen more (past_label Goto next) steps last (of_settled next of) walk
+    of_image seen (fed.Answer a ∷ more) (Note s i event next) steps last of walk = absurd walk
+    of_image seen (f ∷ more) (Return r) steps last of walk = absurd walk
+    of_image seen (f ∷ more) (Goto label) steps last of walk = absurd walk
 
   -- ---- the whole
 
@@ -93,9 +94,9 @@ module _ (site : SiteId) where
 
   first_of : (ask : Op) (a : Answer) (next : Plan) (feds : List Fed) (rest : List Answered) (last : Plan) → GoesByImage a next → IsWalk Goto (past_label Goto next) feds rest last
       → AreOwn site ask (record { site = site; op = ask; answer = a } ∷ rest)
-  first_of ask (answer.Id image) next feds rest last by walk = go rest (of_image image feds (past_label Goto next) rest last (of_settled image next by) walk)
+  first_of ask (answer.Id image) next feds rest last by walk = go rest (of_image image [] feds (past_label Goto next) rest last (of_settled image next by) walk)
     where
-      go : (rest : List Answered) → AreOfImage site image rest → AreOwn site ask (record { site = site; op = ask; answer = answer.Id image } ∷ rest)
+      go : (rest : List Answered) → AreOfImage [] site image rest → AreOwn site ask (record { site = site; op = ask; answer = answer.Id image } ∷ rest)
       go [] are = (refl, refl)
       go (step ∷ rest) are = record { image = image; told = refl; are = are }
   first_of ask a next feds rest last by walk = subst (λ s. AreOwn site ask (record { site = site; op = ask; answer = a } ∷ s)) (sym (ended_is_ended next feds rest last by walk)) (refl, refl)

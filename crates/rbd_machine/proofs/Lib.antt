@@ -10,6 +10,7 @@ pub mod Lawful
 pub mod Fences
 pub mod About
 pub mod Refused
+pub mod Alone
 pub mod Walked
 pub mod Fed
 pub mod Wanted

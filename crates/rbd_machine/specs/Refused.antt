@@ -82,7 +82,7 @@ AreGiven (step ∷ steps) = IsGiven step.op step.answer × AreGiven steps
 abbrev pub MayRefuse : List ImagePlace → Answered → Type 0
 MayRefuse images step = (step.answer ≡ answer.Fenced) ⊎ IsOwnOp images step.site step.op
 
--- no answer refuses, of a request that has these images as its own before the first
+-- no answer refuses a request that has these images as its own before the first
 abbrev pub AreAllowed : (HeaderView → Option Refusal) → List ImagePlace → List Answered → Type 0
 AreAllowed refuses images [] = Unit {0}
 AreAllowed refuses images (step ∷ steps) =

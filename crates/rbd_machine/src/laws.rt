@@ -22,7 +22,7 @@ ghost use Rattle.rbd_commands.specs.declared.refusal.Refusal.{Refusal};
 ghost use Rattle.rbd_kinds.specs.declared.machine.Fed.{Fed};
 ghost use Rattle.rbd_kinds.specs.declared.machine.Want.TheVariants.{Note, Op as WantsOp};
 ghost use Rattle.rbd_kinds.specs.declared.operation_kind.OpKind.{OpKind};
-ghost use Rattle.rbd_machine.specs.About.{image_of, owned_behind};
+ghost use Rattle.rbd_machine.specs.About.{GoByImage, NamesNoParent, image_of, look_up, owned_behind};
 ghost use Rattle.rbd_machine.specs.Ancestors.{IsAmong};
 ghost use Rattle.rbd_machine.specs.AtLeast.{KnowsAtLeast};
 ghost use Rattle.rbd_machine.specs.Label.{Label, IsFit};
@@ -34,7 +34,7 @@ ghost use Rattle.rbd_machine.specs.Plan.{Plan, Ask, IsAsking, IsLive, IsNoting, 
 ghost use Rattle.rbd_machine.specs.declared.reason.Reason.{Reason};
 ghost use Rattle.rbd_machine.specs.Path.{Answered, IsPath, IsPass, IsWalk, IsBounded};
 ghost use Rattle.rbd_machine.specs.Passes.{EndsInPass, jumps};
-ghost use Rattle.rbd_machine.specs.Refused.{IsRefusedBy, IsRefusedWith};
+ghost use Rattle.rbd_machine.specs.Refused.{IsRefused, IsRefusedBy, IsRefusedWith, refusal_by};
 ghost use Rattle.rbd_machine.specs.Standalone.{IsFedStandalone};
 ghost use Rattle.rbd_machine.specs.Steps.{change_plan};
 ghost use Rattle.rbd_machine.specs.Wait.{Wait};
@@ -87,7 +87,8 @@ pub fn changes_look_twice()
 
 /// A request is refused by the fence, by what it was told of a name, or of its own images, which it
 /// found by their names or made. Others' headers, as those of what its own was cloned from, refuse
-/// nothing, be it that one is gone: what refuses it behind such a look does so all the same.
+/// nothing, be it that one is gone: what refuses it behind such a look does so all the same. Where no
+/// header names a parent, no answer but the last refuses.
 pub fn own_images_refuse()
     ensures own { (refuses : HeaderView → Option Refusal) (late : Refusal → Bool) (steps : List Answered)
         (x : Refusal) (by : IsRefusedBy refuses (λ y. late y ≡ true) steps x) (image : ℕ)
@@ -99,6 +100,18 @@ pub fn own_images_refuse()
         → IsRefusedWith images refuses (λ y. late y ≡ true) steps x
         → IsRefusedWith images refuses (λ y. late y ≡ true)
         (record { site = site; op = Header image Get; answer = answer } ∷ steps) x }
+    ensures alone { (refuses : HeaderView → Option Refusal) (late : Refusal → Bool) (site : SiteId) (name : List ℕ)
+        (steps : List Answered) (x : Refusal)
+        (is : IsRefused site (look_up name) refuses (λ y. late y ≡ true) steps x) → NamesNoParent site steps
+        → (step : Answered) → IsAmong step is.by.before → refusal_by refuses step.op step.answer ≡ None }
+{}
+
+/// Behind the operation that told its image, a request asks for operations on that image, and where
+/// no header names a parent, for none on others.
+pub fn who_is_told_no_parent_looks_at_none()
+    ensures { (site : SiteId) (ask : Op) (first : Answered) (others : List Answered)
+        (by : GoByImage site ask first others) → NamesNoParent site others → (step : Answered) → IsAmong step others
+        → (step.site ≡ site) × (image_of step.op ≡ Some by.image) }
 {}
 
 /// A request changes an image only after it read the header under the lock: before, no bytes are

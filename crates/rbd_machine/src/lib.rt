@@ -132,7 +132,8 @@
 //!   whatever it is fed. It goes to a label where it knows at least as much as is known there, and
 //!   who knows more may do more. It changes no image that it doesn't own by its look under the
 //!   lock, and that look decides how it may. It breaks a lock only behind the fence of its owner,
-//!   and lets one go only where it relies on no header.
+//!   and lets one go only where it relies on no header. It is refused by answers of its own images,
+//!   and looks at no others but those that headers name as parents.
 //! - [`course_laws`]: an orderly request stays orderly, whatever it is fed, on the course that it
 //!   has where it goes on.
 //!

@@ -154,10 +154,9 @@ rollback_allowed site name snap steps whole =
 
 -- ---- the removal of an image
 
-last_removal_allowed : (session : ℕ) (images : List ImagePlace) (before : List Answered) (last : Answered) → AllowRemoval session images (before ++ last ∷ []) → MayRefuse (owned_behind images before) last
-    → removal_refusal_by session last.op last.answer ≡ None
-last_removal_allowed session images [] last allowed own = allowed.0 own
-last_removal_allowed session images (s ∷ before) last allowed own = last_removal_allowed session (owned_after images s.site s.op s.answer) before last allowed.1 own
+last_removal_allowed : (session : ℕ) (before : List Answered) (last : Answered) → AllowRemoval session (before ++ last ∷ []) → removal_refusal_by session last.op last.answer ≡ None
+last_removal_allowed session [] last allowed = allowed.0
+last_removal_allowed session (s ∷ before) last allowed = last_removal_allowed session before last allowed.1
 
 unwatched : (session : ℕ) (watchers : List Instance) → is_watched_beside session watchers ≡ false → watchers_refuse session watchers ≡ None
 unwatched session watchers none = ap (λ b. cond b (Some refusal.InUse) None) none
@@ -188,23 +187,21 @@ gone_allowed session o answer.Done gone = refl
 gone_allowed session o answer.Absent gone = refl
 gone_allowed session o _ gone = absurd gone
 
-removals_allowed : (session : ℕ) (site : SiteId) (ops : List Op) (steps : List Answered) → AreRemovals site ops steps → (images : List ImagePlace) → AllowRemoval session images steps
-removals_allowed session site [] [] are images = tt
-removals_allowed session site [] (s ∷ steps) are images = absurd are
-removals_allowed session site (o ∷ ops) [] are images = absurd are
-removals_allowed session site (o ∷ ops) (s ∷ steps) (at, is, gone, are) images =
-    (λ own. subst (λ p. removal_refusal_by session p s.answer ≡ None) (sym is) (gone_allowed session o s.answer gone), removals_allowed session site ops steps are _)
+removals_allowed : (session : ℕ) (site : SiteId) (ops : List Op) (steps : List Answered) → AreRemovals site ops steps → AllowRemoval session steps
+removals_allowed session site [] [] are = tt
+removals_allowed session site [] (s ∷ steps) are = absurd are
+removals_allowed session site (o ∷ ops) [] are = absurd are
+removals_allowed session site (o ∷ ops) (s ∷ steps) (at, is, gone, are) =
+    (subst (λ p. removal_refusal_by session p s.answer ≡ None) (sym is) (gone_allowed session o s.answer gone), removals_allowed session site ops steps are)
 
-removal_allowed : (site : SiteId) (session : ℕ) (name : List ℕ) (steps : List Answered) → RemovesImage site session name steps → AllowRemoval session [] steps
+removal_allowed : (site : SiteId) (session : ℕ) (name : List ℕ) (steps : List Answered) → RemovesImage site session name steps → AllowRemoval session steps
 removal_allowed site session name steps whole =
-    let goes = removals_allowed session site (removal whole.image whole.own whole.bits) whole.removed whole.are_removed (record { site = site; image = whole.image } ∷ []) in
-    let others = unwatched session whole.others whole.unused_still in
-    subst (AllowRemoval session []) (sym whole.are)
-    (λ own. refl, (λ own. whole.may_wait, (λ own. unwatched session whole.watchers whole.unused, (λ own. whole.may, (λ own. others, (λ own. refl, goes))))))
+    subst (AllowRemoval session) (sym whole.are)
+    (refl, (whole.may_wait, (unwatched session whole.watchers whole.unused, (whole.may, (unwatched session whole.others whole.unused_still, (refl, removals_allowed session site (removal whole.image whole.own whole.bits) whole.removed whole.are_removed))))))
 
 -- a removal that was refused isn't a whole one
 pub removal_ends : (site : SiteId) (session : ℕ) (name : List ℕ) (steps : List Answered) (x : Refusal) → RemovesImage site session name steps → RefusesRemovalOf site session name steps x → ⊥
 removal_ends site session name steps x whole refused =
-    let none = last_removal_allowed session [] refused.before refused.last (subst (AllowRemoval session []) refused.are (removal_allowed site session name steps whole)) refused.by_own in
+    let none = last_removal_allowed session refused.before refused.last (subst (AllowRemoval session) refused.are (removal_allowed site session name steps whole)) in
     let some = refused.refused in
     cc

@@ -22,8 +22,7 @@ use Rattle.rbd_commands.specs.declared.refusal.Refusal.TheVariants as refusal
 use Rattle.rbd_kinds.specs.declared.reply.Reply.{Reply}
 use Rattle.rbd_kinds.specs.declared.reply.Reply.TheVariants as reply
 use Rattle.rbd_kinds.specs.States.{state_at}
-use Rattle.rbd_machine.specs.About.{look_up, owned_after, owned_behind, AreOwn}
-use Rattle.rbd_machine.specs.Knowledge.{ImagePlace}
+use Rattle.rbd_machine.specs.About.{look_up, owned_behind, AreOwn}
 use Rattle.rbd_machine.specs.Path.{Answered, found, looked_at}
 use Rattle.rbd_machine.specs.Refused.{by_fence, refusal_by, AreLooks, MayRefuse}
 use Rattle.rbd_machine.specs.Steps.{or_else, non_primary}
@@ -54,12 +53,11 @@ removal_refusal_by session (op.Header image header.WatchersGet) (answer.Instance
     watchers_refuse session watchers
 removal_refusal_by session o a = refusal_by image_removal_refuses o a
 
--- no answer refuses the removal, whose own images are these before the first
-abbrev pub AllowRemoval : (session : ℕ) → List ImagePlace → List Answered → Type 0
-AllowRemoval session images [] = Unit {0}
-AllowRemoval session images (step ∷ steps) =
-    (MayRefuse images step → removal_refusal_by session step.op step.answer ≡ None)
-    × AllowRemoval session (owned_after images step.site step.op step.answer) steps
+-- no answer refuses the removal, which looks at no other image than its own
+abbrev pub AllowRemoval : (session : ℕ) → List Answered → Type 0
+AllowRemoval session [] = Unit {0}
+AllowRemoval session (step ∷ steps) = (removal_refusal_by session step.op step.answer ≡ None)
+    × AllowRemoval session steps
 
 -- ---- what goes
 
@@ -166,7 +164,7 @@ pub record RefusesRemovalOf (site : SiteId) (session : ℕ) (name : List ℕ) (s
   pub are : steps ≡ before ++ last ∷ []
   pub by_own : MayRefuse (owned_behind [] before) last
   pub refused : removal_refusal_by session last.op last.answer ≡ Some x
-  pub allowed : AllowRemoval session [] before
+  pub allowed : AllowRemoval session before
   pub unchanged : (by_fence x → ⊥) → AreLooks before
   pub so_far : AreLooks before ⊎ IsFrontOf (RemovesImage site session name) before
 

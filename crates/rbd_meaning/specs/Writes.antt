@@ -17,6 +17,7 @@ use Rattle.rbd_machine.specs.Objects.{data_write, map_exists}
 use Rattle.rbd_machine.specs.Path.{Answered, found, looked_at}
 use Rattle.rbd_machine.specs.Refused.{by_fence, AreLooks, IsRefused}
 use Rattle.rbd_machine.specs.Steps.{or_else, non_primary}
+use Rattle.rbd_meaning.specs.Partly.{IsBeginningOf}
 use Rattle.rbd_meaning.specs.Range.{extent_at, out_of_range}
 use Rattle.rbd_pieces.specs.Pieces.{ArePieces}
 
@@ -47,11 +48,11 @@ pieces_written site image h at bytes [] = []
 pieces_written site image h at bytes (p ∷ pieces) =
     state_raised site image p ∷ piece_written site image h at bytes p ∷ pieces_written site image h at bytes pieces
 
--- Nothing was done for the pieces that are left, or the state of the first one's object was raised.
-abbrev pub IsPieceBegun : SiteId → (image : ℕ) → (left : List Piece) → (begun : List Answered) → Type 0
-IsPieceBegun site image left [] = Unit {0}
-IsPieceBegun site image (p ∷ left) (step ∷ []) = step ≡ state_raised site image p
-IsPieceBegun site image left begun = ⊥
+-- Nothing was done for the pieces that are left, or the first of them was begun, and not ended.
+abbrev pub IsPieceBegun : SiteId → (image : ℕ) → HeaderView → (at : ℕ) → (bytes : List ℕ) → (left : List Piece)
+    → (begun : List Answered) → Type 0
+IsPieceBegun site image h at bytes [] begun = begun ≡ []
+IsPieceBegun site image h at bytes (p ∷ left) begun = IsBeginningOf (IsWritten site image h at bytes p) begun
 
 -- The request found its image and looked at the header twice, and neither look refused it. Then, by
 -- its look under the lock, it wrote each piece of its extent, and did nothing else.
@@ -79,7 +80,7 @@ pub record WritesSome (site : SiteId) (name : List ℕ) (at : ℕ) (bytes : List
   pub written_steps : List Answered
   pub are_written : AreWritten site image own at bytes written written_steps
   pub begun : List Answered
-  pub is_begun : IsPieceBegun site image left begun
+  pub is_begun : IsPieceBegun site image own at bytes left begun
   pub are : steps ≡ found site name image ∷ looked_at site image first ∷ looked_at site image own
       ∷ (written_steps ++ begun)
 

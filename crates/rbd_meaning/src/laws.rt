@@ -1,6 +1,6 @@
 //! What holds of every reply that is meant: laws, each the contract of a function that does
 //! nothing.
-ghost use Rattle.std.specs.Prelude.{◌≡◌, ◌↔◌, ℕ, List, [], ◌∷◌, ◌++◌, map, false, true, Option, Some, None};
+ghost use Rattle.std.specs.Prelude.{◌≡◌, ◌↔◌, ◌⊎◌, ℕ, List, [], ◌∷◌, ◌++◌, map, false, true, Option, Some, None};
 ghost use Rattle.rbd_kinds.specs.declared.answer.Answer.TheVariants.{Absent};
 ghost use Rattle.rbd_commands.specs.declared.command.Command.{Command};
 ghost use Rattle.rbd_commands.specs.declared.command.Command.TheVariants.{Write, Fill, Discard, Resize, Remove, SnapCreate, SnapRemove, SnapRollback};
@@ -30,7 +30,7 @@ ghost use Rattle.rbd_meaning.specs.Replies.{may_answer};
 ghost use Rattle.rbd_meaning.specs.Resizes.{has_few_objects};
 ghost use Rattle.rbd_meaning.specs.Snaps.{TakesOne, RemovesOne};
 ghost use Rattle.rbd_meaning.specs.Undone.{lets_go, ChangeNothing, ComesLate};
-ghost use Rattle.rbd_meaning.specs.Writes.{AreWritten, pieces_written};
+ghost use Rattle.rbd_meaning.specs.Writes.{AreWritten, IsPieceBegun, pieces_written, state_raised};
 
 /// A size has as many pieces as objects. It has few objects exactly where its bytes lie in the
 /// first 2^20 of them.
@@ -126,11 +126,15 @@ pub fn the_look_under_lock_allowed()
 {}
 
 /// One list of operations is that of pieces. A piece that was written has had its object's state
-/// raised, and then its bytes written. One that was read has had one operation, which read it.
+/// raised, and then its bytes written; one that was begun has had the state raised at most. One that
+/// was read has had one operation, which read it.
 pub fn pieces_have_their_operations()
     ensures written { (site : SiteId) (image : ℕ) (h : HeaderView) (at : ℕ) (bytes : List ℕ) (pieces : List Piece)
         (steps : List Answered) → AreWritten site image h at bytes pieces steps
         ↔ (steps ≡ pieces_written site image h at bytes pieces) }
+    ensures begun { (site : SiteId) (image : ℕ) (h : HeaderView) (at : ℕ) (bytes : List ℕ) (piece : Piece)
+        (left : List Piece) (steps : List Answered) → IsPieceBegun site image h at bytes (piece ∷ left) steps
+        ↔ ((steps ≡ []) ⊎ (steps ≡ state_raised site image piece ∷ [])) }
     ensures read { (site : SiteId) (image : ℕ) (snap : Option ℕ) (pieces : List Piece) (steps : List Answered)
         → AreRead site image snap pieces steps
         → (map (λ (s : Answered). s.op) steps ≡ map (data_read image snap) pieces)

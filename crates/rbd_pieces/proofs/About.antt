@@ -1,5 +1,5 @@
 -- The operations of pieces are of their image.
-use Rattle.std.proofs.Common.{ℕ, List, [], ◌∷◌, ◌++◌, replicate, Option, refl, inl}
+use Rattle.std.proofs.Common.{ℕ, List, [], ◌∷◌, ◌++◌, replicate, Option, refl}
 use Rattle.rbd_kinds.specs.declared.answer.Answer.{Answer}
 use Rattle.rbd_kinds.specs.declared.answer.Answer.TheVariants as answer
 use Rattle.rbd_kinds.specs.declared.header.HeaderView.{HeaderView}
@@ -16,7 +16,7 @@ use Rattle.rbd_pieces.specs.Write.{write_piece, writing}
 module _ (site : SiteId) (image : ℕ) where
   pub of_write : (h : HeaderView) (piece : Piece) (bytes : List ℕ) (next : Plan) → IsOfImage site image next → IsOfImage site image (write_piece site image h piece bytes next)
   of_write h piece bytes next of =
-      (refl, inl refl, of_on_done site image (writing site image (context_of h) piece bytes next) (refl, inl refl, of_on_done site image next of))
+      (refl, refl, of_on_done site image (writing site image (context_of h) piece bytes next) (refl, refl, of_on_done site image next of))
 
   of_on_bytes : (parts : List Part) (next : List ℕ → Plan) → ((bytes : List ℕ) → IsOfImage site image (next bytes)) → (a : Answer) → IsOfImage site image (on_bytes parts next a)
   of_on_bytes parts next of (answer.Bytes bytes) = of bytes
@@ -27,4 +27,4 @@ module _ (site : SiteId) (image : ℕ) where
       → ((bytes : List ℕ) → IsOfImage site image (next bytes)) → IsOfImage site image (gather site image snap pieces read next)
   of_gather [] snap read next of = of read
   of_gather (p ∷ pieces) snap read next of =
-      (refl, inl refl, of_on_bytes p.parts (λ bytes. gather site image snap pieces (read ++ bytes) next) (λ bytes. of_gather pieces snap (read ++ bytes) next of))
+      (refl, refl, of_on_bytes p.parts (λ bytes. gather site image snap pieces (read ++ bytes) next) (λ bytes. of_gather pieces snap (read ++ bytes) next of))

@@ -16,6 +16,7 @@ use Rattle.rbd_kinds.specs.declared.reply.Reply.TheVariants as reply
 use Rattle.rbd_layout.specs.Pieces.{pieces_of}
 use Rattle.rbd_layout.specs.declared.types.Piece.{Piece}
 use Rattle.rbd_machine.specs.About.{AreOfImage, AreOwn}
+use Rattle.rbd_machine.specs.Ancestors.{HeaderSeen, seen_by}
 use Rattle.rbd_machine.specs.Passes.{steps_of_passes}
 use Rattle.rbd_machine.specs.Path.{Answered}
 use Rattle.rbd_machine.specs.declared.seat.Seat.{Seat}
@@ -46,14 +47,14 @@ module _ (site : SiteId) where
   at_both (step ∷ one) two (first, at_one) at_two = (first, at_both one two at_one at_two)
 
   -- a request's own operations
-  of_image_at : (image : ℕ) (steps : List Answered) → AreOfImage site image steps → AreAt site steps
-  of_image_at image [] are = tt
-  of_image_at image (step ∷ steps) (first, is, are) = (first, of_image_at image steps are)
+  of_image_at : (seen : List HeaderSeen) (image : ℕ) (steps : List Answered) → AreOfImage seen site image steps → AreAt site steps
+  of_image_at seen image [] are = tt
+  of_image_at seen image (step ∷ steps) (first, is, are) = (first, of_image_at (seen_by seen step.site step.op step.answer) image steps are)
 
   own_at : (ask : Op) (steps : List Answered) → AreOwn site ask steps → AreAt site steps
   own_at ask [] own = tt
   own_at ask (first ∷ []) own = (own.0, tt)
-  own_at ask (first ∷ next ∷ others) own = (ap (λ (s : Answered). s.site) own.told, of_image_at own.image (next ∷ others) own.are)
+  own_at ask (first ∷ next ∷ others) own = (ap (λ (s : Answered). s.site) own.told, of_image_at [] own.image (next ∷ others) own.are)
 
   -- pieces
   each_at : {P : Type 0} → (IsPiece : P → List Answered → Type 0) → ((p : P) (steps : List Answered) → IsPiece p steps → AreAt site steps)

@@ -1,5 +1,5 @@
 -- The operations of each request are its own.
-use Rattle.std.proofs.Common.{ℕ, List, Option, Some, None, refl, inl}
+use Rattle.std.proofs.Common.{ℕ, List, Option, Some, None, refl}
 use Rattle.rbd_kinds.specs.declared.sharing.Sharing.TheVariants as sharing
 use Rattle.rbd_kinds.specs.declared.answer.Answer.{Answer}
 use Rattle.rbd_kinds.specs.declared.answer.Answer.TheVariants as answer
@@ -16,16 +16,16 @@ use Rattle.rbd_session.specs.Close.{replies_done, unwatching, on_dropped, joinin
 
 module _ (site : SiteId) where
   of_unwatching : (image : ℕ) → IsOfImage site image (unwatching site image)
-  of_unwatching image = (refl, inl refl, of_on_done site image replies_done tt)
+  of_unwatching image = (refl, refl, of_on_done site image replies_done tt)
 
   of_on_dropped : (image : ℕ) (a : Answer) → IsOfImage site image (on_dropped site image a)
-  of_on_dropped image answer.Done = (refl, inl refl, of_on_done site image (unwatching site image) (of_unwatching image))
+  of_on_dropped image answer.Done = (refl, refl, of_on_done site image (unwatching site image) (of_unwatching image))
   of_on_dropped image answer.Changed = of_unwatching image
   of_on_dropped image a = of_not_there site image a
 
   pub close_is_own : (name : List ℕ) (feds : List Fed) (steps : List Answered) (last : Plan) → IsWalk Goto (close site name) feds steps last → AreOwn site (look_up name) steps
   close_is_own name feds steps last walk =
-      are_own site (look_up name) (on_id (joining site)) (by_on_id site (joining site) (λ image. (refl, inl refl, of_on_dropped image))) feds steps last walk
+      are_own site (look_up name) (on_id (joining site)) (by_on_id site (joining site) (λ image. (refl, refl, of_on_dropped image))) feds steps last walk
 
   pub quiesce_is_own : (name : List ℕ) (feds : List Fed) (steps : List Answered) (last : Plan) → IsWalk Goto (quiesce site name) feds steps last → AreOwn site (look_up name) steps
   quiesce_is_own name feds steps last walk =
@@ -34,7 +34,7 @@ module _ (site : SiteId) where
 
   of_telling : (o : Option (List ℕ)) (image : ℕ) → IsOfImage site image (telling site o image)
   of_telling None image = tt
-  of_telling (Some bytes) image = (refl, inl refl, of_on_done site image replies_done tt)
+  of_telling (Some bytes) image = (refl, refl, of_on_done site image replies_done tt)
 
   pub straight_is_own : (s : Straight) (feds : List Fed) (steps : List Answered) (last : Plan) → IsWalk Goto (straight site s) feds steps last → AreOwn site (look_up s.name) steps
   straight_is_own s feds steps last walk = are_own site (look_up s.name) (on_id (telling site s.tells)) (by_on_id site (telling site s.tells) (of_telling s.tells)) feds steps last walk

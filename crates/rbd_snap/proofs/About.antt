@@ -1,5 +1,5 @@
 -- The operations of requests are their own.
-use Rattle.std.proofs.Common.{ℕ, ◌+◌, List, Option, Some, None, refl, inl}
+use Rattle.std.proofs.Common.{ℕ, ◌+◌, List, Option, Some, None, refl}
 use Rattle.rbd_kinds.specs.declared.sharing.Sharing.TheVariants as sharing
 use Rattle.rbd_kinds.specs.declared.answer.Answer.{Answer}
 use Rattle.rbd_kinds.specs.declared.answer.Answer.TheVariants as answer
@@ -30,10 +30,10 @@ module _ (site : SiteId) where
 
   of_copying : (snap : List ℕ) (image id : ℕ) (next : Plan) → IsOfImage site image next → IsOfImage site image (copying site snap image id next)
   of_copying snap image id next of =
-      (refl, inl refl, of_on_bits site image (putting site snap image id next) (λ bits. (refl, inl refl, of_on_done site image (taking_snap site snap image next) (refl, inl refl, of_on_snap image next of))))
+      (refl, refl, of_on_bits site image (putting site snap image id next) (λ bits. (refl, refl, of_on_done site image (taking_snap site snap image next) (refl, refl, of_on_snap image next of))))
 
   of_removing : (image snap : ℕ) (next : Plan) → IsOfImage site image next → IsOfImage site image (removing site image snap next)
-  of_removing image snap next of = (refl, inl refl, of_on_done site image (unmapping site image snap next) (refl, inl refl, of_on_gone image next of))
+  of_removing image snap next of = (refl, refl, of_on_done site image (unmapping site image snap next) (refl, refl, of_on_gone image next of))
 
   of_take : (snap : List ℕ) (image : ℕ) (h : HeaderView) → IsOfImage site image (take site snap image h)
   of_take snap image h = of_copying snap image (h.snap_seq + 1) (applied site image) tt
