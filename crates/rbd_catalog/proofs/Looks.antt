@@ -24,7 +24,7 @@ use Rattle.rbd_data.specs.Discard.{discard_plan}
 use Rattle.rbd_image.specs.Remove.{remove_plan}
 use Rattle.rbd_image.specs.Resize.{resize_plan}
 use Rattle.rbd_snap.specs.Rollback.{rollback_plan}
-use Rattle.rbd_catalog.specs.Looking.{HoldsNoMore, LooksOnce}
+use Rattle.rbd_catalog.specs.Looking.{HoldsNoMore, LooksAtItNoMore, LooksOnce}
 use Rattle.rbd_catalog.proofs.LooksWell.{LooksWell, once_of, well_behind}
 use Rattle.rbd_catalog.proofs.LooksOf.{at_close_plan, at_create, at_discard_plan, at_listing, at_remove_plan, at_resize_plan, at_rollback_plan, at_snap_plan, at_write_plan}
 use Rattle.rbd_catalog.specs.EachRequest.{HoldsOfEach, is_one_read, of_command}
@@ -75,7 +75,8 @@ pub looks_refuse : (seat : Seat) (c : Command) (s : Standing) (feds : List Fed) 
     → EndsIt a → next a ≡ not_there a
 looks_refuse seat c s feds steps site why image next a is other walk ends = (looks_well seat feds steps (Ask site why (op.Header image header.Get) next) c s is other walk).0 a ends
 
--- behind its look it waits for the lock, or looks at none and waits for none any more
+-- behind its look it waits for the lock, or waits for none any more and looks at that header no
+-- more
 pub looks_once : (seat : Seat) (c : Command) (s : Standing) (feds : List Fed) (steps : List Answered) (last : Plan)
     → IsPlanFor seat c s → is_read c ≡ false → IsWalk s.labels s.plan feds steps last → LooksOnce last
 looks_once seat c s feds steps last is other walk = once_of last (looks_well seat feds steps last c s is other walk)
@@ -83,24 +84,29 @@ looks_once seat c s feds steps last is other walk = once_of last (looks_well sea
 -- ---- from its labels
 
 module _ (seat : Seat) where
-  abbrev HoldsNoMoreFrom : Command → Standing → Type 0
-  HoldsNoMoreFrom c s = is_read c ≡ false → (site : SiteId) (image : ℕ) (h : HeaderView) (bits : List ℕ) (number : ℕ) → HoldsNoMore (s.labels (label.Piece site image h bits number))
+  abbrev IsPastItsLook : Command → Standing → Type 0
+  IsPastItsLook c s = is_read c ≡ false → (site : SiteId) (image : ℕ) (h : HeaderView) (bits : List ℕ) (number : ℕ)
+      → HoldsNoMore (s.labels (label.Piece site image h bits number)) × LooksAtItNoMore site image (s.labels (label.Piece site image h bits number))
 
-  each_holds_no_more : HoldsOfEach seat HoldsNoMoreFrom
-  each_holds_no_more = record {
-    writes = λ c is other site image h bits number. tt;
-    discards = λ c is other site image h bits number. tt;
+  each_is_past : HoldsOfEach seat IsPastItsLook
+  each_is_past = record {
+    writes = λ c is other site image h bits number. (tt, tt);
+    discards = λ c is other site image h bits number. (tt, tt);
     reads = λ c s is other. let no : false ≡ true = sym other ∙ is_one_read seat.home c s is in cc;
-    creates = λ c plan is other site image h bits number. tt;
-    lists = λ c is other site image h bits number. tt;
-    snaps = λ c is other site image h bits number. tt;
-    resizes = λ c is other site image h bits number. tt;
-    rollbacks = λ c is other site image h bits number. tt;
-    removes = λ c is other site image h bits number. tt;
-    closes = λ c is other site image h bits number. tt;
+    creates = λ c plan is other site image h bits number. (tt, tt);
+    lists = λ c is other site image h bits number. (tt, tt);
+    snaps = λ c is other site image h bits number. (tt, tt);
+    resizes = λ c is other site image h bits number. (tt, tt);
+    rollbacks = λ c is other site image h bits number. (tt, tt);
+    removes = λ c is other site image h bits number. (tt, tt);
+    closes = λ c is other site image h bits number. (tt, tt);
   }
 
--- a piece that begins again waits for no lock
+-- a piece that begins again waits for no lock, and looks at the header of its image no more
+pub pieces_are_past : (seat : Seat) (c : Command) (s : Standing) (site : SiteId) (image : ℕ) (h : HeaderView) (bits : List ℕ) (number : ℕ) → IsPlanFor seat c s → is_read c ≡ false
+    → HoldsNoMore (s.labels (label.Piece site image h bits number)) × LooksAtItNoMore site image (s.labels (label.Piece site image h bits number))
+pieces_are_past seat c s site image h bits number is other = of_command seat (IsPastItsLook seat) (each_is_past seat) c s is other site image h bits number
+
 pub pieces_hold_no_more : (seat : Seat) (c : Command) (s : Standing) (site : SiteId) (image : ℕ) (h : HeaderView) (bits : List ℕ) (number : ℕ) → IsPlanFor seat c s → is_read c ≡ false
     → HoldsNoMore (s.labels (label.Piece site image h bits number))
-pieces_hold_no_more seat c s site image h bits number is other = of_command seat (HoldsNoMoreFrom seat) (each_holds_no_more seat) c s is other site image h bits number
+pieces_hold_no_more seat c s site image h bits number is other = (pieces_are_past seat c s site image h bits number is other).0

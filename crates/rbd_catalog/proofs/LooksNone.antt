@@ -6,7 +6,9 @@ use Rattle.rbd_kinds.specs.declared.header.HeaderView.{HeaderView}
 use Rattle.rbd_kinds.specs.declared.header.SnapContext.{SnapContext}
 use Rattle.rbd_kinds.specs.declared.header.SnapView.{SnapView}
 use Rattle.rbd_kinds.specs.declared.id.SiteId.{SiteId}
+use Rattle.rbd_kinds.specs.declared.header_op.HeaderOp.TheVariants as header
 use Rattle.rbd_kinds.specs.declared.operation.Op.{Op}
+use Rattle.rbd_kinds.specs.declared.operation.Op.TheVariants as op
 use Rattle.rbd_kinds.specs.declared.reply.Reply.TheVariants as reply
 use Rattle.rbd_kinds.specs.declared.reply.Reply.{Reply}
 use Rattle.rbd_layout.specs.Pieces.{pieces_of}
@@ -30,7 +32,7 @@ use Rattle.rbd_data.specs.Discard.{zero_in_turns}
 use Rattle.rbd_image.specs.Remove.{remove_each}
 use Rattle.rbd_snap.specs.Rollback.{restore_all, restore_pieces, roll_back_listed}
 use Rattle.rbd_catalog.specs.NoLooks.{AreNoLooks, IsNoLook}
-use Rattle.rbd_catalog.specs.Looking.{HoldsNoMore, IsLast, Looked, LooksNoMore}
+use Rattle.rbd_catalog.specs.Looking.{HoldsNoMore, IsLast, IsLookElsewhere, Looked, LooksAtItNoMore, LooksNoMore}
 use Rattle.rbd_catalog.proofs.PlanSteps.{at_done, at_bits, at_bytes, at_removed}
 
 -- Whatever it is answered, it looks at no header any more, and waits for no lock.
@@ -64,9 +66,21 @@ holds_none (Note site image event next) acts = holds_none next acts
 holds_none (Return r) acts = tt
 holds_none (Goto label) acts = absurd acts
 
+elsewhere : (site : SiteId) (image : ℕ) (s : SiteId) (o : Op) → IsNoLook o → IsLookElsewhere site image s o
+elsewhere site image s (op.Header i header.Get) no_look = absurd no_look
+elsewhere site image s (op.Header i o) no_look = tt
+elsewhere site image s o no_look = tt
+
+looks_at_it_no_more : (site : SiteId) (image : ℕ) (p : Plan) → LooksNoMore p → LooksAtItNoMore site image p
+looks_at_it_no_more site image (Ask s why o next) none = (elsewhere site image s o none.0, λ a. looks_at_it_no_more site image (next a) (none.1 a))
+looks_at_it_no_more site image (Await w next) none = looks_at_it_no_more site image next none
+looks_at_it_no_more site image (Note s i event next) none = looks_at_it_no_more site image next none
+looks_at_it_no_more site image (Return r) none = tt
+looks_at_it_no_more site image (Goto label) none = absurd none
+
 -- so a look that it stands behind was its last
-pub looked_last : (p : Plan) → ActsOnly p → Looked p
-looked_last p acts = IsLast (holds_none p acts)
+pub looked_last : (site : SiteId) (image : ℕ) (p : Plan) → ActsOnly p → Looked site image p
+looked_last site image p acts = IsLast (holds_none p acts) (looks_at_it_no_more site image p (looks_none p acts))
 
 -- ---- steps
 

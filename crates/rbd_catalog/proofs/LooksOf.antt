@@ -65,21 +65,21 @@ module _ (site : SiteId) (refuses : HeaderView → Option Refusal) (act : ℕ �
   none_owned = at_header ActsOnly acts_end (owned refuses act image) (λ h. at_unless ActsOnly acts_end (refuses h) (act image h) (acts image h))
 
   well_held : LooksWell (holding site refuses act image)
-  well_held = ((refl, refl), (header_ends (owned refuses act image), λ a. (looked_last (on_header (owned refuses act image) a) (none_owned a), at_acts (on_header (owned refuses act image) a) (none_owned a))))
+  well_held = ((refl, refl), (header_ends (owned refuses act image), λ a. (looked_last site image (on_header (owned refuses act image) a) (none_owned a), at_acts (on_header (owned refuses act image) a) (none_owned a))))
 
-  looked_so : (r : Option Refusal) → Looked (unless r (holding site refuses act image))
+  looked_so : (r : Option Refusal) → Looked site image (unless r (holding site refuses act image))
   looked_so None = Holds tt
-  looked_so (Some r) = looked_last (unless (Some r) (holding site refuses act image)) tt
+  looked_so (Some r) = looked_last site image (unless (Some r) (holding site refuses act image)) tt
 
-  looked_then : (a : Answer) → Looked (on_header (looked site refuses act image) a)
+  looked_then : (a : Answer) → Looked site image (on_header (looked site refuses act image) a)
   looked_then (answer.Header h) = looked_so (refuses h)
-  looked_then a = looked_last (not_there a) (at_not_there ActsOnly acts_end a)
+  looked_then a = looked_last site image (not_there a) (at_not_there ActsOnly acts_end a)
 
   well_so : (r : Option Refusal) → LooksWell (unless r (holding site refuses act image))
   well_so None = well_held
   well_so (Some r) = tt
 
-  well_joining : (a : Answer) → LookedIf (op.Header image header.Get) (on_header (looked site refuses act image) a) × LooksWell (on_header (looked site refuses act image) a)
+  well_joining : (a : Answer) → LookedIf site (op.Header image header.Get) (on_header (looked site refuses act image) a) × LooksWell (on_header (looked site refuses act image) a)
   well_joining a = (looked_then a, at_header LooksWell well_ends (looked site refuses act image) (λ h. well_so (refuses h)) a)
 
 at_change : (site : SiteId) (name : List ℕ) (sharing : _) (refuses : HeaderView → Option Refusal) (act : ℕ → HeaderView → Plan)
@@ -137,13 +137,13 @@ at_show_header site name shows = (
     tt,
     at_id LooksWell well_ends (showing site shows) (λ image. (
       header_ends (λ h. Return (shows h)),
-      λ b. let none = at_header ActsOnly acts_end (λ h. Return (shows h)) (λ h. tt) b in (looked_last (on_header (λ h. Return (shows h)) b) none, at_acts (on_header (λ h. Return (shows h)) b) none),
+      λ b. let none = at_header ActsOnly acts_end (λ h. Return (shows h)) (λ h. tt) b in (looked_last site image (on_header (λ h. Return (shows h)) b) none, at_acts (on_header (λ h. Return (shows h)) b) none),
     )) a,
   ),
 )
 
 at_show_used : (site : SiteId) (name : List ℕ) → LooksWell (show_used site name)
-at_show_used site name = (tt, λ a. (tt, at_id LooksWell well_ends (measuring site) (λ i. (header_ends (counted i), λ b. (looked_last (on_header (counted i) b) (none_counted i b), at_acts (on_header (counted i) b) (none_counted i b)))) a))
+at_show_used site name = (tt, λ a. (tt, at_id LooksWell well_ends (measuring site) (λ i. (header_ends (counted i), λ b. (looked_last site i (on_header (counted i) b) (none_counted i b), at_acts (on_header (counted i) b) (none_counted i b)))) a))
   where
     counted : (i : ℕ) → HeaderView → Plan
     counted i h = counting site i (object_count h.layout h.size)
@@ -203,7 +203,7 @@ module _ (site : SiteId) (session image : ℕ) where
   well_removing : LooksWell (holding_it site session image)
   well_removing =
       let own = owned image_removal_refuses (remove_owned site session) image in
-      ((refl, refl), (header_ends own, λ a. (looked_last (on_header own a) (none_removed_owned a), at_acts (on_header own a) (none_removed_owned a))))
+      ((refl, refl), (header_ends own, λ a. (looked_last site image (on_header own a) (none_removed_owned a), at_acts (on_header own a) (none_removed_owned a))))
 
   -- whoever watches, it isn't refused where nobody does
   holds_unwatched : HoldsNext (unless_watched site session image (holding_it site session image))
@@ -220,13 +220,13 @@ module _ (site : SiteId) (session image : ℕ) where
       on (answer.Instances watchers) = of (watchers_refuse session watchers)
       on a = at_not_there LooksWell well_ends a
 
-  removal_looked : (a : Answer) → Looked (on_header (looked_at_it site session image) a)
+  removal_looked : (a : Answer) → Looked site image (on_header (looked_at_it site session image) a)
   removal_looked (answer.Header h) = by (image_removal_refuses h)
     where
-      by : (r : Option Refusal) → Looked (unless r (unless_watched site session image (holding_it site session image)))
+      by : (r : Option Refusal) → Looked site image (unless r (unless_watched site session image (holding_it site session image)))
       by None = Holds holds_unwatched
-      by (Some r) = looked_last (unless (Some r) (unless_watched site session image (holding_it site session image))) tt
-  removal_looked a = looked_last (not_there a) (at_not_there ActsOnly acts_end a)
+      by (Some r) = looked_last site image (unless (Some r) (unless_watched site session image (holding_it site session image))) tt
+  removal_looked a = looked_last site image (not_there a) (at_not_there ActsOnly acts_end a)
 
   well_joined : LooksWell (joining_its_line site session image)
   well_joined = (header_ends (looked_at_it site session image), λ a. (removal_looked a, at_header LooksWell well_ends (looked_at_it site session image) (λ h. by (image_removal_refuses h)) a))

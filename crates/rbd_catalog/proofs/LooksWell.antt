@@ -22,11 +22,11 @@ abbrev pub EndsAt : Op → (Answer → Plan) → Type 0
 EndsAt (op.Header image header.Get) next = (a : Answer) → EndsIt a → next a ≡ not_there a
 EndsAt _ next = Unit {0}
 
--- So does each look at a header, and behind it the plan waits for the lock, or looks at none and
--- waits for none any more. Where it has waited for the lock of an image, it looks at its header
--- first.
+-- So does each look at a header, and behind it the plan waits for the lock, or waits for none any
+-- more and looks at that header no more. Where it has waited for the lock of an image, it looks at
+-- its header first.
 abbrev pub LooksWell : Plan → Type 0
-LooksWell (Ask site why o next) = EndsAt o next × ((a : Answer) → LookedIf o (next a) × LooksWell (next a))
+LooksWell (Ask site why o next) = EndsAt o next × ((a : Answer) → LookedIf site o (next a) × LooksWell (next a))
 LooksWell (Await (wait.Hold site image) next) = LooksAtItFirst site image next × LooksWell next
 LooksWell (Await w next) = LooksWell next
 LooksWell (Note site image event next) = LooksWell next
@@ -59,10 +59,10 @@ pub no_look_ends : (o : Op) (next : Answer → Plan) → IsNoLook o → EndsAt o
 no_look_ends (op.Header image header.Get) next no_look = absurd no_look
 no_look_ends o next no_look = tt
 
-if_none : (o : Op) (p : Plan) → IsNoLook o → LookedIf o p
-if_none (op.Header image header.Get) p none = absurd none
-if_none (op.Header image o) p none = tt
-if_none o p none = tt
+if_none : (site : SiteId) (o : Op) (p : Plan) → IsNoLook o → LookedIf site o p
+if_none site (op.Header image header.Get) p none = absurd none
+if_none site (op.Header image o) p none = tt
+if_none site o p none = tt
 
 -- it looks at no other header first
 none_first : (site : SiteId) (image : ℕ) (p : Plan) → LooksNoMore p → LooksAtItFirst site image p
@@ -75,7 +75,7 @@ none_first site image (Return r) none = tt
 none_first site image (Goto label) none = absurd none
 
 pub at_none : (p : Plan) → LooksNoMore p → LooksWell p
-at_none (Ask site why o next) none = (no_look_ends o next none.0, λ a. (if_none o (next a) none.0, at_none (next a) (none.1 a)))
+at_none (Ask site why o next) none = (no_look_ends o next none.0, λ a. (if_none site o (next a) none.0, at_none (next a) (none.1 a)))
 at_none (Await (wait.Hold site image) next) none = (none_first site image next none, at_none next none)
 at_none (Await (wait.Join site image sharing) next) none = at_none next none
 at_none (Await (wait.Turn object) next) none = at_none next none

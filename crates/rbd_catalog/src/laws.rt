@@ -28,7 +28,7 @@ ghost use Rattle.rbd_machine.specs.Orderly.{IsOrderlyFrom};
 ghost use Rattle.rbd_meaning.specs.Meant.{IsMeantBy};
 ghost use Rattle.rbd_data.specs.Read.{is_read};
 ghost use Rattle.rbd_catalog.specs.InLine.{ChangesInLine, KeepsTo, LabelsKeepTo, turn_along};
-ghost use Rattle.rbd_catalog.specs.Looking.{HoldsNoMore, LooksOnce};
+ghost use Rattle.rbd_catalog.specs.Looking.{HoldsNoMore, LooksAtItNoMore, LooksOnce};
 ghost use Rattle.rbd_catalog.specs.Plans.{IsPlanFor};
 ghost use Rattle.rbd_catalog.specs.Profile.{extent_beside, is_nothing, more_by, most_operations, profile};
 ghost use Rattle.rbd_catalog.specs.Touched.{AsksAtMost, HasAtMost, TakesTurns};
@@ -94,9 +94,10 @@ pub fn looks_refuse_what_isnt_there()
         → EndsIt a → next a ≡ not_there a }
 {}
 
-/// Where a request that isn't a read looks at a header, it either waits for the lock of its image
-/// next, and then looks at the header of that image first, or it waits for no lock any more. Nor does
-/// a piece that begins again wait for one. So it goes one way to a lock at most.
+/// A request that isn't a read goes one way to a lock at most, and behind its look under the lock it
+/// looks at that header no more. Where it looks at a header, it either waits for the lock of its
+/// image next, and then looks at the header of that image first, or it waits for no lock any more,
+/// and what it still looks at are headers of other images. So it is with a piece that begins again.
 pub fn commands_look_once()
     ensures walk { (seat : Seat) (command : Command) (s : Standing) (feds : List Fed) (steps : List Answered)
         (last : Plan)
@@ -104,7 +105,8 @@ pub fn commands_look_once()
     ensures piece { (seat : Seat) (command : Command) (s : Standing) (site : SiteId) (image : ℕ) (h : HeaderView)
         (bits : List ℕ) (number : ℕ)
         → IsPlanFor seat command s → is_read command ≡ false
-        → HoldsNoMore (s.labels (Piece site image h bits number)) }
+        → HoldsNoMore (s.labels (Piece site image h bits number))
+        × LooksAtItNoMore site image (s.labels (Piece site image h bits number)) }
 {}
 
 /// The request of a command that changes an extent goes beside others: it looks its image up first,

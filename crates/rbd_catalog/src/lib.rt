@@ -69,7 +69,7 @@
 //!   lawful, and each reply meant.
 //! - [`laws`] says these and more of all commands at once: their labels stand at operations, the
 //!   turns are those of the extent, how many operations there are, and that but for a `read` each
-//!   request looks at no header behind its look under the lock.
+//!   request looks at its image's header no more behind its look under the lock.
 //! - [`rows`] says that each request follows its command's row, what of the definitions below a row
 //!   says, and what follows from a row alone. So a crate above reads what is asked of a command off
 //!   its row.

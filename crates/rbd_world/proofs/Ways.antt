@@ -384,8 +384,8 @@ module _ {R : Type 0} (stands : R → Standing) (slot : ℕ) (c : ClientView R) 
         orderly : IsOrderly r.extent on.orderly.at true (course_of slot (track_of r c.session.lines)) (Ask site look.why (op.Header look.image header.Get) look.next)
         orderly = subst (IsOrderly r.extent on.orderly.at true (course_of slot (track_of r c.session.lines))) look.is on.orderly.orderly
 
-        by : Looked (look.next a) → HoldsNoMore (look.next a)
-        by (IsLast holds) = holds
+        by : Looked site look.image (look.next a) → HoldsNoMore (look.next a)
+        by (IsLast holds elsewhere) = holds
         by (Holds holds) =
             absurd
             (holds_no_more r.extent on.orderly.at (answered r.extent (course_of slot (track_of r c.session.lines)) site (op.Header look.image header.Get) a) (look.next a)

@@ -122,8 +122,8 @@
 //! A step costs its operation, and look-ups by number: of a session, of a slot, of a notice, and of
 //! a line on its page. History, logs and mail grow at their end, and are never copied or read. Of
 //! the calls only the number is kept: the list is for contracts alone, and takes no memory
-//! (`src/ghost_log.rt`). A poll whose operation is done looks once more at the header of its image,
-//! whose list of snapshots is shared. A stop costs its session's 65 slots.
+//! (`src/ghost_log.rt`). A poll whose operation may have an effect looks once more at the header of
+//! its image, whose list of snapshots is shared. A stop costs its session's 65 slots.
 //!
 //! # How it works
 //!
