@@ -120,14 +120,14 @@ module _ (at : Label → Knowledge) where
 
   -- ---- du, rename
 
-  pub lawful_on_bits : (known : Answer → Knowledge) (image : ℕ) (next : List ℕ → Plan) → ((bits : List ℕ) → HoldStates bits → IsLawful at (known (answer.Bits bits)) (next bits))
-      → (a : Answer) → CanTell (op.Map image (states.Get None)) a → IsLawful at (known a) (on_bits next a)
-  lawful_on_bits known image next lawful (answer.Bits bits) can = lawful bits can.form
-  lawful_on_bits known image next lawful a can = lawful_not_there at (known a) a
+  pub lawful_on_bits : (k : Knowledge) (site : SiteId) (known : Answer → Knowledge) (image : ℕ) (next : List ℕ → Plan) → ((bits : List ℕ) → HoldStates bits → IsLawful at (known (answer.Bits bits)) (next bits))
+      → (a : Answer) → CanTell k site (op.Map image (states.Get None)) a → IsLawful at (known a) (on_bits next a)
+  lawful_on_bits k site known image next lawful (answer.Bits bits) can = lawful bits can.form
+  lawful_on_bits k site known image next lawful a can = lawful_not_there at (known a) a
 
   lawful_counting : (site : SiteId) (image : ℕ) (k : Knowledge) (objects : ℕ) → IsLawful at k (counting site image objects)
   lawful_counting site image k objects =
-      (tt, lawful_on_bits (learned k site (op.Map image (states.Get None))) image (λ bits. Return (reply.Used (used_among objects bits) objects)) (λ bits hold. tt))
+      (tt, lawful_on_bits k site (learned k site (op.Map image (states.Get None))) image (λ bits. Return (reply.Used (used_among objects bits) objects)) (λ bits hold. tt))
 
   lawful_show_used : (site : SiteId) (name : List ℕ) → IsLawful at nothing_known (show_used site name)
   lawful_show_used site name = (

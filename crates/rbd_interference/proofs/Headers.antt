@@ -9,9 +9,10 @@ use Rattle.rbd_kinds.specs.declared.sharing.Sharing.{Sharing}
 use Rattle.rbd_kinds.specs.Striping.{IsLayout}
 use Rattle.rbd_machine.specs.Knowledge.{Knowledge, own_of}
 use Rattle.rbd_machine.specs.Permits.{OwnsBy}
+use Rattle.rbd_machine.specs.Possible.{IsStillAs}
 use Rattle.rbd_site.specs.Records.{Records}
 use Rattle.rbd_site.specs.Step.{is_fenced}
-use Rattle.rbd_interference.specs.Truth.{IsTrueAt, IsStill, IsStillAs, header_of_own, known_header, sharing_on, IsStillOwn}
+use Rattle.rbd_interference.specs.Truth.{IsTrueAt, IsStill, header_of_own, known_header, sharing_on, IsStillOwn}
 
 -- the header that is there, where one is known
 pub record IsThere (sharing : Sharing) (known : HeaderView) (there : Option HeaderView) : Type 0 where

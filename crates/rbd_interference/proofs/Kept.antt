@@ -21,6 +21,7 @@ use Rattle.rbd_object.specs.Mapped.{Mapped, mapped_blank, mapped_trim}
 use Rattle.rbd_machine.specs.Ancestors.{HeaderSeen}
 use Rattle.rbd_machine.specs.Knowledge.{Knowledge, is_drawn, is_gone, maps_of, objects_known_of, own_of}
 use Rattle.rbd_machine.specs.Permits.{Permits, PermitsOnHeader, PermitsOnMap, PermitsOnObject, OwnsBy}
+use Rattle.rbd_machine.specs.Possible.{IsStillAs}
 use Rattle.rbd_site.specs.HeaderStep.{header_after, is_owner}
 use Rattle.rbd_site.specs.Laws.{is_look}
 use Rattle.rbd_site.specs.Log.{expired, live_in, trimmed}
@@ -36,7 +37,7 @@ use Rattle.rbd_stands.proofs.StoreSteps.{blank_trimmed}
 use Rattle.rbd_flat.specs.Flat.{no_images}
 use Rattle.rbd_interference.specs.Ancestors.{AreSeenTrue, DrewNoneOf}
 use Rattle.rbd_interference.specs.Beside.{AreBeside, GoTogether, MayAct}
-use Rattle.rbd_interference.specs.Truth.{AreMapsTrue, AreObjectsTrue, HasNoStates, is_alone_on, IsCountTrue, IsGoneAt, IsStill, IsTrueAt, IsWaiting, known_header, IsStillAs, sharing_of_own, sharing_on, IsStillOwn}
+use Rattle.rbd_interference.specs.Truth.{AreMapsTrue, AreObjectsTrue, HasNoStates, is_alone_on, IsCountTrue, IsGoneAt, IsStill, IsTrueAt, IsWaiting, known_header, sharing_of_own, sharing_on, IsStillOwn}
 use Rattle.rbd_interference.proofs.Each.{alike_true, objects_alike}
 use Rattle.rbd_interference.proofs.Fenced.{after_free, was_free}
 use Rattle.rbd_interference.proofs.Headers.{not_waiting, own_known, unknown_of_none}

@@ -12,6 +12,7 @@ pub mod MapsLearned
 pub mod States
 pub mod Together
 pub mod Standalone
+pub mod Possible
 pub mod NoStates
 pub mod Nothing
 pub mod Each

@@ -17,6 +17,7 @@ use Rattle.rbd_flat.specs.Flat.{Flat, after}
 use Rattle.rbd_flat.specs.declared.effect.Effect.{Effect}
 use Rattle.rbd_machine.specs.Knowledge.{Knowledge, MapsKnown, ObjectsKnown, Own, own_of, is_absent, is_drawn, is_fenced_by, is_gone, is_raised, maps_of, objects_known_of}
 use Rattle.rbd_machine.specs.Permits.{HasRoomFor}
+use Rattle.rbd_machine.specs.Possible.{IsStillAs}
 use Rattle.rbd_machine.specs.Standalone.{IsStandalone}
 use Rattle.rbd_site.specs.Records.{Records, object_at}
 use Rattle.rbd_site.specs.Step.{is_fenced}
@@ -45,14 +46,7 @@ sharing_of_own (Some o) = o.sharing
 abbrev pub sharing_on : Knowledge → SiteId → (image : ℕ) → Sharing
 sharing_on k site image = sharing_of_own (own_of k.owns site image)
 
--- The header that is there is the one that is known, but for the owner of its lock, which may have
--- changed. Of an image on which a request goes beside all that aren't alone, so beside a flatten too,
--- the parent may have gone, and with it the generation changed.
-pub record IsStillAs (sharing : Sharing) (known there : HeaderView) : Type 0 where
-  pub same : there ≡ record known { owner = there.owner; generation = there.generation; parent = there.parent }
-  pub parent : (there.parent ≡ known.parent) ⊎ (there.parent ≡ None)
-  pub exact : sharing ≢ Shared → there ≡ record known { owner = there.owner }
-
+-- the header that is known is still there
 abbrev pub IsStill : Sharing → (known there : Option HeaderView) → Type 0
 IsStill sharing None there = Unit {0}
 IsStill sharing (Some known) None = ⊥

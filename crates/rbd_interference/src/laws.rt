@@ -17,6 +17,7 @@ ghost use Rattle.rbd_flat.specs.Laws.{snap_at};
 ghost use Rattle.rbd_machine.specs.Ancestors.{HeaderSeen, KnowsByte, KnowsInherited, ObjectTold, seen_by, told_by};
 ghost use Rattle.rbd_machine.specs.Knowledge.{Knowledge, nothing_known, is_drawn, is_gone, learned, known_after_wait, same_site};
 ghost use Rattle.rbd_machine.specs.Permits.{Permits};
+ghost use Rattle.rbd_machine.specs.Possible.{IsPossible};
 ghost use Rattle.rbd_machine.specs.Refused.{IsGiven};
 ghost use Rattle.rbd_machine.specs.Standalone.{TellsStandalone};
 ghost use Rattle.rbd_machine.specs.Wait.{Wait};
@@ -69,6 +70,15 @@ pub fn answers_teach_what_is_true()
     ensures { (site : Site) (r : Records) (f : Flat) (k : Knowledge) (me : Instance) (op : Op) (most : ℕ)
         → StandsFor [] r f → AreInForm r most → AreMapped r → IsTrueAt site r me k → Permits k site op
         → IsTrueAt site (after r me op) me (learned k site op (answer_to r me op)) }
+{}
+
+/// What a site answers is possible by what its asker truly knows, whatever the others did
+/// meanwhile: a header that is told is later than each one that the asker was told of the image, and
+/// of an image whose lock it waited for it is the one that it knows, but for the owner; beside a
+/// flatten the parent may have gone.
+pub fn answers_are_possible()
+    ensures { (site : Site) (r : Records) (me : Instance) (k : Knowledge) (op : Op) → IsTrueAt site r me k
+        → IsPossible k site op (answer_to r me op) }
 {}
 
 /// A request of a fenced instance learns nothing.

@@ -65,6 +65,8 @@
 //!   and may do it beside the first, and under the store's trims and ends of watches.
 //! - What an answer and a wait teach is true, and says nothing of the other site. A fenced instance
 //!   learns nothing, and changes nothing.
+//! - What is answered was possible by what was known (`IsPossible` of `rbd_machine`): a later look
+//!   at a header agrees with the earlier ones, and with an own header.
 //! - What was told of other images stays true: a header stays an earlier one, and what was read of
 //!   a snapshot is so as long as the snapshot is listed. So a byte that follows from several such
 //!   reads, through one layer after another (Ceph: RBD layering), is the flat snapshot's.

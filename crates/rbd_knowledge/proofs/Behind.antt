@@ -12,6 +12,7 @@ use Rattle.rbd_machine.specs.Label.{Label}
 use Rattle.rbd_machine.specs.Lawful.{IsLawful}
 use Rattle.rbd_machine.specs.Path.{at_operation}
 use Rattle.rbd_machine.specs.Plan.{Plan, Ask, Await, Note, Return, Goto, Standing, IsAsking, plan_after}
+use Rattle.rbd_machine.specs.Possible.{IsFedPossible}
 use Rattle.rbd_machine.specs.Standalone.{IsFedStandalone}
 use Rattle.rbd_kinds.specs.declared.image_at.ImageAt.{ImageAt}
 use Rattle.rbd_slots.specs.declared.running.Occupant.{Occupant}
@@ -59,15 +60,15 @@ module _ {R : Type 0} (stands : R → Standing) where
     learns = known_behind k (stands r.request).plan f
 
     further_knows : (q : Running R) → IsOnTrack slot r.extent true (stands r.request) (track_of r lines) → AreFair (lines_of lines) → IsAsking (stands r.request).plan
-        → CanBeFed (stands r.request).plan f → IsFedStandalone f → waits slot (track_of r lines) ≡ false
+        → CanBeFed (stands r.request).plan f → IsFedStandalone f → IsFedPossible k (stands r.request).plan f → waits slot (track_of r lines) ≡ false
         → GoesFurther stands slot (record { labels = (stands r.request).labels; plan = at_operation (stands r.request).labels (plan_after (stands r.request).plan f) })
         (run slot (plan_after (stands r.request).plan f) (fed_by slot r.extent (track_of r lines) (stands r.request).plan f)) None r q after
         → KnowsBy stands slot q after learns
-    further_knows q on fair asks can alone may_go goes = record {
+    further_knows q on fair asks can alone possible may_go goes = record {
       known_at = knows.known_at;
       lawful =
           subst (λ (s : Standing). IsLawful knows.known_at learns s.plan) (sym goes.request)
-          (behind_lawful (stands r.request).labels knows.known_at knows.labels k (stands r.request).plan f can alone knows.lawful);
+          (behind_lawful (stands r.request).labels knows.known_at knows.labels k (stands r.request).plan f can alone possible knows.lawful);
       labels = λ label fit. subst (λ (s : Standing). IsLawful knows.known_at (knows.known_at label) (s.labels label)) (sym goes.request) (knows.labels label fit);
       tied =
           subst (λ t. IsTied learns (course_of slot t)) (sym goes.track)
@@ -79,15 +80,15 @@ module _ {R : Type 0} (stands : R → Standing) where
     }
 
     comes_knows : IsOnTrack slot r.extent true (stands r.request) (track_of r lines) → AreFair (lines_of lines) → IsAsking (stands r.request).plan → CanBeFed (stands r.request).plan f → IsFedStandalone f
-        → waits slot (track_of r lines) ≡ false → (result : Option Reply) (o : Option (Occupant R)) → ComesToIn stands slot lines f result r o after → KnowsIn stands slot (running_in o) after (unless_ended result learns)
-    comes_knows on fair asks can alone may_go None (Some (occupant.Running q)) comes =
-        further_knows q on fair asks can alone may_go
+        → IsFedPossible k (stands r.request).plan f → waits slot (track_of r lines) ≡ false → (result : Option Reply) (o : Option (Occupant R)) → ComesToIn stands slot lines f result r o after → KnowsIn stands slot (running_in o) after (unless_ended result learns)
+    comes_knows on fair asks can alone possible may_go None (Some (occupant.Running q)) comes =
+        further_knows q on fair asks can alone possible may_go
         (goes_further slot (stands r.request).labels (at_operation (stands r.request).labels (plan_after (stands r.request).plan f))
         (run slot (plan_after (stands r.request).plan f) (fed_by slot r.extent (track_of r lines) (stands r.request).plan f)) r q after comes.1)
-    comes_knows on fair asks can alone may_go (Some reply) (Some (occupant.Running q)) comes = absurd (none-some reply (sym comes.0))
-    comes_knows on fair asks can alone may_go (Some reply) None comes = refl
-    comes_knows on fair asks can alone may_go None None comes = absurd (true≢false (sym comes.0))
-    comes_knows on fair asks can alone may_go result (Some (occupant.Refused line refusal)) comes = elim comes [ ]
+    comes_knows on fair asks can alone possible may_go (Some reply) (Some (occupant.Running q)) comes = absurd (none-some reply (sym comes.0))
+    comes_knows on fair asks can alone possible may_go (Some reply) None comes = refl
+    comes_knows on fair asks can alone possible may_go None None comes = absurd (true≢false (sym comes.0))
+    comes_knows on fair asks can alone possible may_go result (Some (occupant.Refused line refusal)) comes = elim comes [ ]
 
   -- ---- the others
 
@@ -141,16 +142,17 @@ module _ {R : Type 0} (stands : R → Standing) where
   runs_held None r is = absurd (none-some r is)
 
   pub fed_know : (s t : SessionView R) (slot : ℕ) (r : Running R) (f : Fed) (result : Option Reply) (knows : ℕ → Knowledge) → IsSoundSession stands s → running_at slot s ≡ Some r
-      → waits slot (track_of r s.lines) ≡ false → CanBeFed (stands r.request).plan f → IsFedStandalone f → IsFed stands slot f result s t → ((other : ℕ) → other ≢ slot → held_in other t.slots ≡ held_in other s.slots)
+      → waits slot (track_of r s.lines) ≡ false → CanBeFed (stands r.request).plan f → IsFedStandalone f → IsFedPossible (knows slot) (stands r.request).plan f
+      → IsFed stands slot f result s t → ((other : ℕ) → other ≢ slot → held_in other t.slots ≡ held_in other s.slots)
       → LeavesOthers slot (lines_of s.lines) (lines_of t.lines) → AllKnow stands knows s → AllKnow stands (knows_after knows slot result (stands r.request).plan f) t
-  fed_know s t slot r f result knows sound runs may_go can alone is_fed slots leaves all other = by (other == slot) refl
+  fed_know s t slot r f result knows sound runs may_go can alone possible is_fed slots leaves all other = by (other == slot) refl
     where
       learned_there : Knowledge
       learned_there = unless_ended result (known_behind (knows slot) (stands r.request).plan f)
 
       own : KnowsIn stands slot (running_at slot t) t.lines learned_there
       own =
-          comes_knows slot r s.lines t.lines f (knows slot) (knows_there s knows slot r runs all) (sound.runs slot r runs) sound.fair (sound.asks slot r runs) can alone may_go result (held_in slot t.slots)
+          comes_knows slot r s.lines t.lines f (knows slot) (knows_there s knows slot r runs all) (sound.runs slot r runs) sound.fair (sound.asks slot r runs) can alone possible may_go result (held_in slot t.slots)
           (of_running (λ q. ComesToIn stands slot s.lines f result q (held_in slot t.slots) t.lines) (held_in slot s.slots) r runs is_fed)
 
       keeps : KeepsTurns slot (lines_of s.lines) (lines_of t.lines)

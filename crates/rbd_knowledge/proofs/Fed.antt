@@ -20,6 +20,7 @@ use Rattle.rbd_knowledge.proofs.Turning.{ended_keeps_turns}
 use Rattle.rbd_knowledge.proofs.Wanting.{wants}
 use Rattle.rbd_machine.specs.Answers.{CanBeFed}
 use Rattle.rbd_machine.specs.Knowledge.{Knowledge, nothing_known}
+use Rattle.rbd_machine.specs.Possible.{IsFedPossible}
 use Rattle.rbd_machine.specs.Standalone.{IsFedStandalone}
 use Rattle.rbd_machine.specs.Plan.{Plan, Standing}
 use Rattle.rbd_lock.specs.declared.acquire.Acquire.{Acquire}
@@ -51,19 +52,21 @@ same_on_way knows slot x = by (x == slot)
     by false = refl
 
 module _ {R : Type 0} (stands : R → Standing) (c d : ClientView R) (knows : ℕ → Knowledge) (slot : ℕ) (site : SiteId) (o : Op) (f : Fed) (result : Option Reply)
-    (standalone : IsFedStandalone f) (sound : IsSoundClient stands c) (session : IsSoundSession stands d.session) (all : AllKnow stands knows c.session)
+    (standalone : IsFedStandalone f) (possible : actor_at stands slot c ≡ actor.Request → IsFedPossible (knows slot) (plan_in_slot stands (running_at slot c.session)) f)
+    (sound : IsSoundClient stands c) (session : IsSoundSession stands d.session) (all : AllKnow stands knows c.session)
     (slots : (other : ℕ) → other ≢ slot → held_in other d.session.slots ≡ held_in other c.session.slots)
     (leaves : LeavesOthers slot (lines_of c.session.lines) (lines_of d.session.lines)) where
   abbrev plan : Plan
   plan = plan_in_slot stands (running_at slot c.session)
 
-  by_request : op_by stands slot c.session actor.Request ≡ Some (site, o) → CanGet stands slot c.session f actor.Request → IsFedBy stands slot site o f result c d actor.Request
-      → AllKnow stands (knows_after knows slot result plan f) d.session
-  by_request is can fed =
+  by_request : actor_at stands slot c ≡ actor.Request → op_by stands slot c.session actor.Request ≡ Some (site, o) → CanGet stands slot c.session f actor.Request
+      → IsFedBy stands slot site o f result c d actor.Request → AllKnow stands (knows_after knows slot result plan f) d.session
+  by_request acts is can fed =
       let w = wants stands slot c.session.lines site o (held_in slot c.session.slots) is in
       let runs = ap running_in w.is in
       subst (λ p. AllKnow stands (knows_after knows slot result p f) d.session) (sym (ap (plan_in_slot stands) runs))
-      (fed_know stands c.session d.session slot w.request f result knows sound.session runs w.goes (can_of (subst (OfRunning (IsAnswered stands slot c.session.lines f)) w.is can)) standalone fed.fed slots leaves all)
+      (fed_know stands c.session d.session slot w.request f result knows sound.session runs w.goes (can_of (subst (OfRunning (IsAnswered stands slot c.session.lines f)) w.is can)) standalone
+      (subst (λ p. IsFedPossible (knows slot) p f) (ap (plan_in_slot stands) runs) (possible acts)) fed.fed slots leaves all)
     where
       can_of : {r : _} → IsAnswered stands slot c.session.lines f r → CanBeFed (stands r.request).plan f
       can_of answered = answered.can
@@ -96,6 +99,6 @@ module _ {R : Type 0} (stands : R → Standing) (c d : ClientView R) (knows : �
       by : (who : Actor) → actor_at stands slot c ≡ who → op_by stands slot c.session who ≡ Some (site, o) → CanGet stands slot c.session f who → IsFedBy stands slot site o f result c d who
           → AllKnow stands (knows_fed knows slot result plan f who) d.session
       by actor.Nobody acts is can fed = absurd fed
-      by actor.Request acts is can fed = by_request is can fed
+      by actor.Request acts is can fed = by_request acts is can fed
       by (actor.Way a) acts is can fed = by_way a acts result fed.session
       by (actor.Release x) acts is can fed = subst (AllKnow stands knows) (sym fed.session) all

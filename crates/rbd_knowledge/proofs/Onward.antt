@@ -16,6 +16,7 @@ use Rattle.rbd_machine.specs.Label.{Label, IsFit}
 use Rattle.rbd_machine.specs.Lawful.{IsLawful}
 use Rattle.rbd_machine.specs.Path.{at_operation}
 use Rattle.rbd_machine.specs.Plan.{Plan, Ask, Await, Note, Return, Goto, Standing, IsAsking, plan_after, past_label}
+use Rattle.rbd_machine.specs.Possible.{IsFedPossible}
 use Rattle.rbd_machine.specs.Standalone.{IsFedStandalone}
 use Rattle.rbd_machine.specs.Wait.{Wait}
 use Rattle.rbd_machine.specs.Wait as wait
@@ -47,15 +48,15 @@ module _ (labels : Label → Plan) (at : Label → Knowledge) (lawful_there : (l
   way_lawful (Return reply) k lawful = lawful
   way_lawful (Goto label) k knows = lawful_by_more at (labels label) k (at label) knows.1 (lawful_there label knows.0)
 
-  pub behind_lawful : (k : Knowledge) (plan : Plan) (f : Fed) → CanBeFed plan f → IsFedStandalone f → IsLawful at k plan → IsLawful at (known_behind k plan f) (at_operation labels (plan_after plan f))
-  behind_lawful k (Ask site why op next) (fed.Answer a) can alone lawful = way_lawful (next a) (learned k site op a) (lawful.1 a (told_alone can alone))
-  behind_lawful k (Ask site why op next) fed.Passed can alone lawful = absurd can
-  behind_lawful k (Await w next) (fed.Answer a) can alone lawful = absurd can
-  behind_lawful k (Await w next) fed.Passed can alone lawful = way_lawful next (known_after_wait k w) lawful
-  behind_lawful k (Note site image event next) (fed.Answer a) can alone lawful = absurd can
-  behind_lawful k (Note site image event next) fed.Passed can alone lawful = way_lawful next k lawful
-  behind_lawful k (Return reply) f can alone lawful = absurd can
-  behind_lawful k (Goto label) f can alone lawful = absurd can
+  pub behind_lawful : (k : Knowledge) (plan : Plan) (f : Fed) → CanBeFed plan f → IsFedStandalone f → IsFedPossible k plan f → IsLawful at k plan → IsLawful at (known_behind k plan f) (at_operation labels (plan_after plan f))
+  behind_lawful k (Ask site why op next) (fed.Answer a) can alone possible lawful = way_lawful (next a) (learned k site op a) (lawful.1 a (told_alone k site can alone possible))
+  behind_lawful k (Ask site why op next) fed.Passed can alone possible lawful = absurd can
+  behind_lawful k (Await w next) (fed.Answer a) can alone possible lawful = absurd can
+  behind_lawful k (Await w next) fed.Passed can alone possible lawful = way_lawful next (known_after_wait k w) lawful
+  behind_lawful k (Note site image event next) (fed.Answer a) can alone possible lawful = absurd can
+  behind_lawful k (Note site image event next) fed.Passed can alone possible lawful = way_lawful next k lawful
+  behind_lawful k (Return reply) f can alone possible lawful = absurd can
+  behind_lawful k (Goto label) f can alone possible lawful = absurd can
 
 -- ---- where it is
 

@@ -1,5 +1,6 @@
 //! What clients may count on: each law is the contract of a function that does nothing.
 ghost use Rattle.std.specs.Prelude.{◌≡◌, ◌≢◌, ℕ, Some, None, IsFalse, Option, []};
+ghost use Rattle.rbd_client.specs.declared.actor.Actor.TheVariants as actor;
 ghost use Rattle.rbd_client.specs.Actor.{actor_at, op_wanted};
 ghost use Rattle.rbd_client.specs.Client.{ClientView, newcomer, slot_state};
 ghost use Rattle.rbd_client.specs.Feeding.{AreStatesAlike, CanGet, DropsAtRest, IsFedBy};
@@ -20,6 +21,7 @@ ghost use Rattle.rbd_lock.specs.Locks.{heard, lock_state_at};
 ghost use Rattle.rbd_lock.specs.States.{blank_state as unknown};
 ghost use Rattle.rbd_machine.specs.Knowledge.{Knowledge, nothing_known, same_site};
 ghost use Rattle.rbd_machine.specs.Permits.{Permits};
+ghost use Rattle.rbd_machine.specs.Possible.{IsFedPossible};
 ghost use Rattle.rbd_machine.specs.Standalone.{IsFedStandalone};
 ghost use Rattle.rbd_lock.specs.Acquire.{op_of};
 ghost use Rattle.rbd_lock.specs.declared.acquire.Acquire.{Acquire};
@@ -85,7 +87,8 @@ pub fn locks_are_dropped_at_rest<R: Request>()
 
 /// Behind an answer at a slot, the request that acted knows what the answer taught it, one that was
 /// refused on its way to the lock knows nothing, and all others know what they knew. So it is where
-/// the answer tells no header with a parent or a journal.
+/// the answer tells no header with a parent or a journal and, of a request itself, was possible by
+/// what it knew.
 pub fn answers_are_known<R: Request>()
     ensures { (c d : ClientView R) (knows : ℕ → Knowledge) (slot : ℕ) (site : Site) (op : Op) (f : Fed)
         (result : Option Reply)
@@ -94,6 +97,8 @@ pub fn answers_are_known<R: Request>()
         → LeavesOthers slot (lines_of c.session.lines) (lines_of d.session.lines)
         → op_wanted R.stands slot c ≡ Some (site, op) → CanGet R.stands slot c.session f (actor_at R.stands slot c)
         → IsFedStandalone f
+        → (actor_at R.stands slot c ≡ actor.Request
+        → IsFedPossible (knows slot) (plan_in_slot R.stands (running_at slot c.session)) f)
         → IsFedBy R.stands slot site op f result c d (actor_at R.stands slot c)
         → AllKnow R.stands (knows_fed knows slot result (plan_in_slot R.stands (running_at slot c.session)) f
         (actor_at R.stands slot c)) d.session }

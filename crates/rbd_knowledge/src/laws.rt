@@ -15,6 +15,7 @@ ghost use Rattle.rbd_machine.specs.Label.{Label, IsFit};
 ghost use Rattle.rbd_machine.specs.Lawful.{IsLawful};
 ghost use Rattle.rbd_machine.specs.Path.{at_operation};
 ghost use Rattle.rbd_machine.specs.Plan.{Plan, Ask, Standing, plan_after};
+ghost use Rattle.rbd_machine.specs.Possible.{IsFedPossible};
 ghost use Rattle.rbd_machine.specs.Standalone.{IsFedStandalone};
 ghost use Rattle.rbd_machine.specs.declared.reason.Reason.{Reason};
 ghost use Rattle.rbd_machine.specs.declared.seat.Seat.{Seat};
@@ -43,13 +44,14 @@ pub fn newcomers_know_nothing<R: Request>()
 {}
 
 /// A request that may go on and is fed knows then what the answer taught it and what it waited for;
-/// each other request of the session knows what it knew. So it is where the answer tells no header
-/// with a parent or a journal.
+/// each other request of the session knows what it knew. So it is where the answer was possible by
+/// what the request knew, and tells no header with a parent or a journal.
 pub fn knowledge_goes_with_the_line<R: Request>()
     ensures { (s t : SessionView R) (slot : ℕ) (r : Running R) (f : Fed) (result : Option Reply) (knows : ℕ → Knowledge)
         → IsSoundSession R.stands s → IsSoundSession R.stands t → running_at slot s ≡ Some r
         → waits slot (track_of r s.lines) ≡ false
         → CanBeFed (R.stands r.request).plan f → IsFedStandalone f
+        → IsFedPossible (knows slot) (R.stands r.request).plan f
         → IsFed R.stands slot f result s t
         → ((other : ℕ) → other ≢ slot → held_in other t.slots ≡ held_in other s.slots)
         → LeavesOthers slot (lines_of s.lines) (lines_of t.lines)

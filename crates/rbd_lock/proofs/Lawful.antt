@@ -25,7 +25,7 @@ module _ (at : Label → Knowledge) (site : SiteId) (image : ℕ) (k : Knowledge
       once_more : IsLawful at (without_fence site owner (with_fence site owner k)) again
       once_more = (tt, subst (λ known. KnowsAtLeast known (at label.Lock)) (sym (fence_is_forgotten k site owner)) at_lock)
 
-      on : (a : Answer) → CanTell (lock_break image owner) a → IsLawful at (learned (with_fence site owner k) site (lock_break image owner) a) (on_broken a)
+      on : (a : Answer) → CanTell (with_fence site owner k) site (lock_break image owner) a → IsLawful at (learned (with_fence site owner k) site (lock_break image owner) a) (on_broken a)
       on answer.Done can = once_more
       on answer.Changed can = once_more
       on a can = lawful_not_there at (with_fence site owner k) a
@@ -43,14 +43,14 @@ module _ (at : Label → Knowledge) (site : SiteId) (image : ℕ) (k : Knowledge
   lawful_looking : (owner : Instance) → IsLawful at k (looking site image owner)
   lawful_looking owner = (tt, on)
     where
-      on : (a : Answer) → CanTell (watchers_get image) a → IsLawful at k (on_watchers site image owner a)
+      on : (a : Answer) → CanTell k site (watchers_get image) a → IsLawful at k (on_watchers site image owner a)
       on (answer.Instances watchers) can = lawful_by_look owner (is_instance_among watchers owner)
       on a can = lawful_not_there at k a
 
   pub lawful_taking : (next : Plan) → IsLawful at k next → IsLawful at k (taking site image next)
   lawful_taking next lawful = (tt, on)
     where
-      on : (a : Answer) → CanTell (lock_take image) a → IsLawful at k (on_taken site image next a)
+      on : (a : Answer) → CanTell k site (lock_take image) a → IsLawful at k (on_taken site image next a)
       on answer.Done can = lawful
       on (answer.Held owner) can = lawful_looking owner
       on a can = lawful_not_there at k a

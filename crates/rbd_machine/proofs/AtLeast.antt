@@ -29,9 +29,10 @@ use Rattle.rbd_machine.specs.Ancestors.{HeaderSeen, IsAmong, ObjectTold, is_date
 use Rattle.rbd_machine.specs.AtLeast.{AreMapsAtLeast, AreObjectsAtLeast, IsToldToo, KnowsAtLeast}
 use Rattle.rbd_machine.specs.Knowledge.{Blank, Fence, ImageMaps, ImagePlace, Knowledge, MapsKnown, Mark, ObjectsKnown, Own, afresh, blanked, first_told, forgotten, header_told, is_absent, is_at, is_drawn, is_fenced_by, is_mark, is_raised, is_view, known_after_wait, learned, learned_of_directory, learned_of_header, learned_of_listing, learned_of_map, learned_of_object, learned_own, looked_behind, looked_by, looked_under_lock, maps_of, maps_told, marks_after, marks_apart, objects_known_of, only_there, own_of, owns_when_held, owns_without, removed, removed_header, same_site, states_set, unfenced, unmapped, unmarked, with_maps, with_objects, without_drawn, without_fence}
 use Rattle.rbd_machine.specs.Label.{Label, IsFit}
-use Rattle.rbd_machine.specs.Lawful.{IsLawful}
+use Rattle.rbd_machine.specs.Lawful.{CanTell, IsLawful}
 use Rattle.rbd_machine.specs.Permits.{HasTurn, IsInParts, IsLeftOver, IsMappedFor, IsZeroByChange, IsZeroByState, MayMake, MaySize, MayTakeSnap, OwnsAlone, OwnsBy, Permits, PermitsOnDirectory, PermitsOnHeader, PermitsOnMap, PermitsOnObject}
 use Rattle.rbd_machine.specs.Plan.{Plan, Ask, Await, Note, Return, Goto}
+use Rattle.rbd_machine.specs.Possible.{IsOwnAgain, IsPossible}
 use Rattle.rbd_machine.specs.Wait.{Wait}
 use Rattle.rbd_machine.specs.Wait as wait
 
@@ -1003,12 +1004,26 @@ learned_at_least k site o a =
     (seen_by k.seen site o a) (learned_own k site o a).seen (λ s among. seen_stays k.seen site o a s (subst (IsAmong s) before.0 among))
     (told_by k.seen k.told site o a) (learned_own k site o a).told (λ t among. told_stays k.seen k.told site o a t (subst (IsAmong t) before.1 among))
 
+-- ---- what it may be told
+
+-- who knows less may be told all that the other may
+module _ (more less : Knowledge) (l : KnowsAtLeast more less) (site : SiteId) where
+  pub possible_less : (o : Op) (a : Answer) → IsPossible more site o a → IsPossible less site o a
+  possible_less (op.Header image header.Get) (answer.Header h) possible = (
+    λ was among. possible.0 was (l.seen (record { site = site; image = image; header = was }) among),
+    subst (λ owns. IsOwnAgain (own_of owns site image) h) l.owns possible.1,
+  )
+  possible_less _ _ possible = tt
+
+  can_less : (o : Op) (a : Answer) → CanTell more site o a → CanTell less site o a
+  can_less o a can = record { word = can.word; form = can.form; standalone = can.standalone; possible = possible_less o a can.possible }
+
 -- ---- plans
 
 pub lawful_by_more : (at : Label → Knowledge) (plan : Plan) (more less : Knowledge) → KnowsAtLeast more less → IsLawful at less plan → IsLawful at more plan
 lawful_by_more at (Ask site why o next) more less l lawful = (
   permits_more more less l site o lawful.0,
-  λ a can. lawful_by_more at (next a) (learned more site o a) (learned less site o a) (learned_more more less l site o a) (lawful.1 a can),
+  λ a can. lawful_by_more at (next a) (learned more site o a) (learned less site o a) (learned_more more less l site o a) (lawful.1 a (can_less more less l site o a can)),
 )
 lawful_by_more at (Await w next) more less l lawful = lawful_by_more at next (known_after_wait more w) (known_after_wait less w) (waited_more more less l w) lawful
 lawful_by_more at (Note site image event next) more less l lawful = lawful_by_more at next more less l lawful

@@ -22,6 +22,7 @@ use Rattle.rbd_machine.specs.Knowledge.{Knowledge, Own, nothing_known, is_at, is
 use Rattle.rbd_machine.specs.Label.{Label, IsFit}
 use Rattle.rbd_machine.specs.Lawful.{CanTell, IsLawful, known_after}
 use Rattle.rbd_machine.specs.Permits.{IsLeftOver, OwnsBy}
+use Rattle.rbd_machine.specs.Possible.{IsFedPossible, IsPossible}
 use Rattle.rbd_machine.specs.Plan.{Plan, Ask, Await, Note, Return, Goto, past_label, plan_after}
 use Rattle.rbd_machine.specs.Standalone.{IsFedStandalone, IsStandalone, TellsStandalone}
 use Rattle.rbd_machine.specs.Steps.{or_else, unless, not_there, on_id, on_header, on_done, change_plan, looked, holding, owned, joining}
@@ -92,19 +93,19 @@ module _ (at : Label → Knowledge) where
   lawful_on_id known next lawful (answer.Id image) = lawful image
   lawful_on_id known next lawful a = lawful_not_there (known a) a
 
-  pub lawful_on_header : (s : SiteId) (image : ℕ) (known : Answer → Knowledge) (next : HeaderView → Plan)
+  pub lawful_on_header : (k : Knowledge) (s : SiteId) (image : ℕ) (known : Answer → Knowledge) (next : HeaderView → Plan)
       → ((h : HeaderView) → IsHeaderInForm h → IsStandalone h → IsLawful at (known (answer.Header h)) (next h))
-      → (a : Answer) → CanTell (op.Header image header.Get) a → IsLawful at (known a) (on_header next a)
-  lawful_on_header s image known next lawful (answer.Header h) can = lawful h can.form can.standalone
-  lawful_on_header s image known next lawful a can = lawful_not_there (known a) a
+      → (a : Answer) → CanTell k s (op.Header image header.Get) a → IsLawful at (known a) (on_header next a)
+  lawful_on_header k s image known next lawful (answer.Header h) can = lawful h can.form can.standalone
+  lawful_on_header k s image known next lawful a can = lawful_not_there (known a) a
 
   -- a look of which nothing is needed but what it tells of an own image
   pub lawful_look : (s : SiteId) (image : ℕ) (k : Knowledge) (next : HeaderView → Plan)
       → ((h : HeaderView) → IsHeaderInForm h → IsStandalone h → IsLawful at (learned_own k s (op.Header image header.Get) (answer.Header h)) (next h))
-      → (a : Answer) → CanTell (op.Header image header.Get) a → IsLawful at (learned k s (op.Header image header.Get) a) (on_header next a)
+      → (a : Answer) → CanTell k s (op.Header image header.Get) a → IsLawful at (learned k s (op.Header image header.Get) a) (on_header next a)
   lawful_look s image k next lawful a can =
       lawful_by_more at (on_header next a) (learned k s (op.Header image header.Get) a) (learned_own k s (op.Header image header.Get) a) (learned_at_least k s (op.Header image header.Get) a)
-      (lawful_on_header s image (learned_own k s (op.Header image header.Get)) next lawful a can)
+      (lawful_on_header k s image (learned_own k s (op.Header image header.Get)) next lawful a can)
 
   pub lawful_on_done : (known : Answer → Knowledge) (next : Plan) → IsLawful at (known answer.Done) next → (a : Answer) → IsLawful at (known a) (on_done next a)
   lawful_on_done known next lawful answer.Done = lawful
@@ -154,8 +155,8 @@ one_header k s image sharing h condition is owns = ap (λ o. header_of o h) (sym
 
 -- ---- a lawful request that is fed stays lawful
 
-pub told_alone : {o : Op} {a : Answer} → CanGive o a → TellsStandalone a → CanTell o a
-told_alone can alone = record { word = can.word; form = can.form; standalone = alone }
+pub told_alone : (k : Knowledge) (s : SiteId) {o : Op} {a : Answer} → CanGive o a → TellsStandalone a → IsPossible k s o a → CanTell k s o a
+told_alone k s can alone possible = record { word = can.word; form = can.form; standalone = alone; possible = possible }
 
 module _ (labels : Label → Plan) (at : Label → Knowledge) (lawful_there : (label : Label) → IsFit label → IsLawful at (at label) (labels label)) where
   pub lawful_settled : (k : Knowledge) (plan : Plan) → IsLawful at k plan → IsLawful at k (past_label labels plan)
@@ -165,12 +166,12 @@ module _ (labels : Label → Plan) (at : Label → Knowledge) (lawful_there : (l
   lawful_settled k (Return reply) lawful = lawful
   lawful_settled k (Goto label) knows = lawful_by_more at (labels label) k (at label) knows.1 (lawful_there label knows.0)
 
-  pub stays_lawful : (k : Knowledge) (plan : Plan) (f : Fed) → CanBeFed plan f → IsFedStandalone f → IsLawful at k plan → IsLawful at (known_after k plan f) (past_label labels (plan_after plan f))
-  stays_lawful k (Ask site why op next) (fed.Answer a) can alone lawful = lawful_settled (learned k site op a) (next a) (lawful.1 a (told_alone can alone))
-  stays_lawful k (Ask site why op next) fed.Passed can alone lawful = absurd can
-  stays_lawful k (Await wait next) (fed.Answer a) can alone lawful = absurd can
-  stays_lawful k (Await wait next) fed.Passed can alone lawful = lawful_settled (known_after_wait k wait) next lawful
-  stays_lawful k (Note site image event next) (fed.Answer a) can alone lawful = absurd can
-  stays_lawful k (Note site image event next) fed.Passed can alone lawful = lawful_settled k next lawful
-  stays_lawful k (Return reply) f can alone lawful = absurd can
-  stays_lawful k (Goto label) f can alone lawful = absurd can
+  pub stays_lawful : (k : Knowledge) (plan : Plan) (f : Fed) → CanBeFed plan f → IsFedStandalone f → IsFedPossible k plan f → IsLawful at k plan → IsLawful at (known_after k plan f) (past_label labels (plan_after plan f))
+  stays_lawful k (Ask site why op next) (fed.Answer a) can alone possible lawful = lawful_settled (learned k site op a) (next a) (lawful.1 a (told_alone k site can alone possible))
+  stays_lawful k (Ask site why op next) fed.Passed can alone possible lawful = absurd can
+  stays_lawful k (Await wait next) (fed.Answer a) can alone possible lawful = absurd can
+  stays_lawful k (Await wait next) fed.Passed can alone possible lawful = lawful_settled (known_after_wait k wait) next lawful
+  stays_lawful k (Note site image event next) (fed.Answer a) can alone possible lawful = absurd can
+  stays_lawful k (Note site image event next) fed.Passed can alone possible lawful = lawful_settled k next lawful
+  stays_lawful k (Return reply) f can alone possible lawful = absurd can
+  stays_lawful k (Goto label) f can alone possible lawful = absurd can

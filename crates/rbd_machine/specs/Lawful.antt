@@ -4,6 +4,7 @@ use Rattle.rbd_kinds.specs.declared.answer.Answer.{Answer}
 use Rattle.rbd_kinds.specs.declared.machine.Fed.{Fed}
 use Rattle.rbd_kinds.specs.declared.machine.Fed.TheVariants as fed
 use Rattle.rbd_kinds.specs.AnswerForm.{IsInForm}
+use Rattle.rbd_kinds.specs.declared.id.SiteId.{SiteId}
 use Rattle.rbd_kinds.specs.declared.operation.Op.{Op}
 use Rattle.rbd_machine.specs.Answers.{gives}
 use Rattle.rbd_machine.specs.AtLeast.{KnowsAtLeast}
@@ -11,20 +12,23 @@ use Rattle.rbd_machine.specs.Knowledge.{Knowledge, nothing_known, learned, known
 use Rattle.rbd_machine.specs.Label.{Label, IsFit}
 use Rattle.rbd_machine.specs.Permits.{Permits}
 use Rattle.rbd_machine.specs.Plan.{Plan, Ask, Await, Note, Return, Goto, Standing}
+use Rattle.rbd_machine.specs.Possible.{IsPossible}
 use Rattle.rbd_machine.specs.Standalone.{TellsStandalone}
 
--- What an operation can give as long as no image has a parent or a journal.
-pub record CanTell (o : Op) (a : Answer) : Type 0 where
+-- What an operation can give to who knows this, as long as no image has a parent or a journal.
+pub record CanTell (k : Knowledge) (site : SiteId) (o : Op) (a : Answer) : Type 0 where
   pub word : gives o a ≡ true
   pub form : IsInForm o a
   pub standalone : TellsStandalone a
+  pub possible : IsPossible k site o a
 
 -- Each operation is permitted by what is known where it is asked for, whatever the operations
--- before it were answered of what they can tell. A request goes to a label only where at least so
--- much is known as at that label.
+-- before it were answered of what they can tell, and of what was possible by what was known before
+-- each. A request goes to a label only where at least so much is known as at that label.
 abbrev pub IsLawful : (at : Label → Knowledge) → Knowledge → Plan → Type 0
 IsLawful at k (Ask site why op next) =
-    Permits k site op × ((answer : Answer) → CanTell op answer → IsLawful at (learned k site op answer) (next answer))
+    Permits k site op
+    × ((answer : Answer) → CanTell k site op answer → IsLawful at (learned k site op answer) (next answer))
 IsLawful at k (Await wait next) = IsLawful at (known_after_wait k wait) next
 IsLawful at k (Note site image event next) = IsLawful at k next
 IsLawful at k (Return reply) = Unit {0}

@@ -14,6 +14,7 @@ pub mod Ancestors
 pub mod Knowledge
 pub mod Permits
 pub mod AtLeast
+pub mod Possible
 pub mod Lawful
 pub mod About
 pub mod Refused

@@ -17,6 +17,7 @@ ghost use Rattle.rbd_kinds.specs.declared.header.HeaderView.{HeaderView};
 ghost use Rattle.rbd_kinds.specs.declared.id.Instance.{Instance};
 ghost use Rattle.rbd_kinds.specs.declared.id.SiteId.{SiteId};
 ghost use Rattle.rbd_kinds.specs.declared.sharing.Sharing.{Sharing};
+ghost use Rattle.rbd_kinds.specs.declared.sharing.Sharing.TheVariants.{Shared};
 ghost use Rattle.rbd_kinds.specs.Sharing.{is_alone};
 ghost use Rattle.rbd_commands.specs.declared.refusal.Refusal.{Refusal};
 ghost use Rattle.rbd_kinds.specs.declared.machine.Fed.{Fed};
@@ -27,13 +28,14 @@ ghost use Rattle.rbd_machine.specs.Ancestors.{IsAmong};
 ghost use Rattle.rbd_machine.specs.AtLeast.{KnowsAtLeast};
 ghost use Rattle.rbd_machine.specs.Label.{Label, IsFit};
 ghost use Rattle.rbd_kinds.specs.declared.answer.Answer.{Answer};
-ghost use Rattle.rbd_kinds.specs.declared.answer.Answer.TheVariants.{Changed, Done, Fenced};
+ghost use Rattle.rbd_kinds.specs.declared.answer.Answer.TheVariants.{Changed, Done, Fenced, Header as Told};
 ghost use Rattle.rbd_machine.specs.Answers.{CanBeFed};
 ghost use Rattle.rbd_machine.specs.Lawful.{IsLawful, known_after};
 ghost use Rattle.rbd_machine.specs.Plan.{Plan, Ask, IsAsking, IsLive, IsNoting, Wants, past_label, plan_after};
 ghost use Rattle.rbd_machine.specs.declared.reason.Reason.{Reason};
 ghost use Rattle.rbd_machine.specs.Path.{Answered, IsPath, IsPass, IsWalk, IsBounded};
 ghost use Rattle.rbd_machine.specs.Passes.{EndsInPass, jumps};
+ghost use Rattle.rbd_machine.specs.Possible.{IsFedPossible, IsPossible};
 ghost use Rattle.rbd_machine.specs.Refused.{IsRefused, IsRefusedBy, IsRefusedWith, refusal_by};
 ghost use Rattle.rbd_machine.specs.Standalone.{IsFedStandalone};
 ghost use Rattle.rbd_machine.specs.Steps.{change_plan};
@@ -228,11 +230,33 @@ pub fn fences_serve_once()
         → learned (learned k site (BlockAdd i) Done) site (Header image (LockBreak i)) Changed ≡ k }
 {}
 
-/// Who knows at least as much may do as much, and goes on to know as much, whatever both are
-/// answered. So a plan that is lawful by what is known at a label is so by more.
+/// A later look at a header agrees with each earlier one: a parent that was gone doesn't come back,
+/// and a snapshot that is listed still has its size. Who waited for the lock of an image, and knows
+/// its header, is told that one again, but for the owner of the lock; beside a flatten the parent
+/// may have gone.
+pub fn later_looks_agree()
+    ensures parent { (k : Knowledge) (site : SiteId) (image : ℕ) (was now : HeaderView)
+        → IsPossible (learned k site (Header image Get) (Told was)) site (Header image Get) (Told now)
+        → was.parent ≡ None → now.parent ≡ None }
+    ensures snapshot { (k : Knowledge) (site : SiteId) (image : ℕ) (was now : HeaderView)
+        → IsPossible (learned k site (Header image Get) (Told was)) site (Header image Get) (Told now)
+        → (snap : ℕ) (old new : SnapView) → snap ≤ was.snap_seq → snap_in was.snaps snap ≡ Some old
+        → snap_in now.snaps snap ≡ Some new → new.size ≡ old.size }
+    ensures own { (k : Knowledge) (site : SiteId) (image : ℕ) (sharing : Sharing) (known now : HeaderView)
+        → sharing ≢ Shared
+        → own_of k.owns site image ≡ Some
+        (record { site = site; image = image; sharing = sharing; header = Some known })
+        → IsPossible k site (Header image Get) (Told now) → now ≡ record known { owner = now.owner } }
+{}
+
+/// Who knows at least as much may do as much, is told nothing that the other couldn't be told, and
+/// goes on to know as much, whatever both are answered. So a plan that is lawful by what is known
+/// at a label is so by more.
 pub fn who_knows_more_may_do_more()
     ensures permits { (more less : Knowledge) (site : SiteId) (op : Op)
         → KnowsAtLeast more less → Permits less site op → Permits more site op }
+    ensures told { (more less : Knowledge) (site : SiteId) (op : Op) (answer : Answer)
+        → KnowsAtLeast more less → IsPossible more site op answer → IsPossible less site op answer }
     ensures learned { (more less : Knowledge) (site : SiteId) (op : Op) (answer : Answer)
         → KnowsAtLeast more less → KnowsAtLeast (learned more site op answer) (learned less site op answer) }
     ensures waited { (more less : Knowledge) (wait : Wait)
@@ -242,7 +266,8 @@ pub fn who_knows_more_may_do_more()
 {}
 
 /// A lawful request asks only for what it may by what it knows. It stays lawful by what it knows
-/// then, whatever it is fed, as long as no header that it is told has a parent or a journal.
+/// then, whatever it is fed that was possible by what it knew, as long as no header that it is told
+/// has a parent or a journal.
 pub fn lawful_requests_stay_lawful()
     ensures asks { (at : Label → Knowledge) (k : Knowledge) (site : SiteId) (why : Reason) (op : Op)
         (next : Answer → Plan)
@@ -250,6 +275,6 @@ pub fn lawful_requests_stay_lawful()
     ensures stays { (labels : Label → Plan) (at : Label → Knowledge)
         → ((label : Label) → IsFit label → IsLawful at (at label) (labels label))
         → (k : Knowledge) (plan : Plan) (f : Fed)
-        → CanBeFed plan f → IsFedStandalone f → IsLawful at k plan
+        → CanBeFed plan f → IsFedStandalone f → IsFedPossible k plan f → IsLawful at k plan
         → IsLawful at (known_after k plan f) (past_label labels (plan_after plan f)) }
 {}

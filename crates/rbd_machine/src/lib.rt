@@ -129,11 +129,12 @@
 //! - [`laws`]: what a request asks for, with the answers that it is fed, is a path of its plan,
 //!   which bounds how many operations there are. One that begins again ends in a pass that doesn't.
 //!   A change has three operations up to its look under the lock. A lawful request stays so,
-//!   whatever it is fed. It goes to a label where it knows at least as much as is known there, and
-//!   who knows more may do more. It changes no image that it doesn't own by its look under the
-//!   lock, and that look decides how it may. It breaks a lock only behind the fence of its owner,
-//!   and lets one go only where it relies on no header. It is refused by answers of its own images,
-//!   and looks at no others but those that headers name as parents.
+//!   whatever it is fed that was possible by what it knew: later looks agree with earlier ones. It
+//!   goes to a label where it knows at least as much as is known there, and who knows more may do
+//!   more. It changes no image that it doesn't own by its look under the lock, and that look
+//!   decides how it may. It breaks a lock only behind the fence of its owner, and lets one go only
+//!   where it relies on no header. It is refused by answers of its own images, and looks at no
+//!   others but those that headers name as parents.
 //! - [`course_laws`]: an orderly request stays orderly, whatever it is fed, on the course that it
 //!   has where it goes on.
 //!
@@ -156,6 +157,7 @@
 //! | `specs/Knowledge.antt` | what a request knows, by its answers (`learned`) and its waits |
 //! | `specs/Permits.antt` | what is permitted by that |
 //! | `specs/AtLeast.antt` | who knows at least as much (`KnowsAtLeast`) |
+//! | `specs/Possible.antt` | what may be told, by what is known (`IsPossible`) |
 //! | `specs/Lawful.antt` | a plan does only what it may by what is known there (`IsLawful`) |
 //! | `specs/About.antt` | which images are a request's own (`owned_behind`), and which operations are of them |
 //! | `specs/Refused.antt` | what an answer refuses, and what a refusal rests on (`IsRefusedBy`) |

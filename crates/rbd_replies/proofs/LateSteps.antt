@@ -1,75 +1,37 @@
 -- What comes behind a stop and changes an image is what a lost line's command wanted there, by what
 -- it had learned, which is still true: so it drew the id of an image whose map it makes before
 -- there is a header, and removed the header of one of which it removes what is left.
-use Rattle.std.proofs.Common.{◌≡◌, ◌⊎◌, inl, inr, ℕ, ◌==◌, true, List, [], ◌∷◌, Option, Some, None, sym, ap, ◌∙◌, subst}
+use Rattle.std.proofs.Common.{◌≡◌, ◌⊎◌, inl, inr, ℕ, ◌==◌, true, List, ◌∷◌, Option, Some, None, sym, ap, ◌∙◌, subst}
 use Rattle.std.specs.Prelude.{IsFalse}
 use Rattle.std.proofs.lemmas.Bool.{true≢false, eqb-true}
 use Rattle.rbd_kinds.specs.declared.data_op.DataOp.TheVariants as object
 use Rattle.rbd_kinds.specs.declared.header.HeaderView.{HeaderView}
 use Rattle.rbd_kinds.specs.declared.id.Instance.{Instance}
 use Rattle.rbd_kinds.specs.declared.id.SiteId.{SiteId}
-use Rattle.rbd_kinds.specs.declared.machine.Fed.{Fed}
-use Rattle.rbd_kinds.specs.declared.machine.Fed.TheVariants as fed
 use Rattle.rbd_kinds.specs.declared.map_op.MapOp.TheVariants as states
 use Rattle.rbd_kinds.specs.declared.operation.Op.{Op}
 use Rattle.rbd_kinds.specs.declared.operation.Op.TheVariants as op
 use Rattle.rbd_kinds.specs.declared.reply.Reply.{Reply}
 use Rattle.rbd_kinds.specs.declared.sharing.Sharing.{Sharing}
-use Rattle.rbd_machine.proofs.Lawful.{stays_lawful}
-use Rattle.rbd_machine.specs.Knowledge.{Knowledge, is_gone, learned, nothing_known, known_after_wait}
-use Rattle.rbd_machine.specs.Label.{Label, IsFit}
-use Rattle.rbd_machine.specs.Lawful.{IsLawful, IsLawfulRequest}
-use Rattle.rbd_machine.specs.Path.{Answered, IsWalk}
+use Rattle.rbd_machine.specs.Knowledge.{Knowledge, is_gone}
+use Rattle.rbd_machine.specs.Path.{Answered}
 use Rattle.rbd_machine.specs.Permits.{IsLeftOver, MayLengthen, OwnsBy, Permits}
-use Rattle.rbd_machine.specs.Plan.{Plan, Ask, Await, Note, Return, Goto, past_label}
-use Rattle.rbd_machine.specs.Refused.{AreGiven}
-use Rattle.rbd_machine.specs.Standalone.{TellAllStandalone}
 use Rattle.rbd_interference.proofs.Headers.{not_waiting}
 use Rattle.rbd_interference.specs.Truth.{IsTrueAt}
-use Rattle.rbd_catalog.specs.CommandsLawful.{command_is_lawful}
 use Rattle.rbd_site.specs.Records.{Records}
 use Rattle.rbd_site.specs.Step.{is_fenced}
 use Rattle.rbd_stands.specs.Owned.{changes_image}
 use Rattle.rbd_world.proofs.LetGo.{of_next}
-use Rattle.rbd_world.specs.Past.{known_along}
 use Rattle.rbd_world.specs.Run.{Doer, Itself, OnWay, House, AfterStop, Happening, Did, Operation, records_after, steps_of, way_of}
-use Rattle.rbd_world.specs.Sound.{AsksFor, EndsItsLine, EndsNoLine, IsDue, IsRight, IsStillSent, KnewTruly, Recalls, RecallsBy}
+use Rattle.rbd_world.specs.Sound.{EndsItsLine, EndsNoLine, IsDue, IsRight, IsStillSent, KnewTruly, Recalls, RecallsBy}
 use Rattle.rbd_world.specs.LetGo.{release_of}
 use Rattle.rbd_replies.specs.Fenced.{DidBeforeStop, DrewId, RemovedHeader, SomeStep, removes_part}
 use Rattle.rbd_replies.proofs.OnWaysOnly.{release_leaves_images, way_leaves_images}
 use Rattle.rbd_replies.proofs.Taught.{drew_by, removed_by}
 
--- ---- a walk of a lawful plan
+-- ---- where a line's command stood at an operation, by what it had learned: that permits it
 
-module _ (labels : Label → Plan) (at : Label → Knowledge) (lawful_there : (label : Label) → IsFit label → IsLawful at (at label) (labels label)) where
-  walk_lawful : (feds : List Fed) (k : Knowledge) (plan : Plan) (steps : List Answered) (last : Plan) → IsLawful at k plan → AreGiven steps → TellAllStandalone steps
-      → IsWalk labels plan feds steps last → IsLawful at (known_along labels k plan feds) last
-  walk_lawful [] k plan steps last lawful given told (none, same) = subst (IsLawful at k) (sym same) lawful
-  walk_lawful (fed.Answer a ∷ more) k (Ask s why o next) steps last lawful given told (first, walk) =
-      let all = subst AreGiven first.is given in
-      let tells = subst TellAllStandalone first.is told in
-      walk_lawful more (learned k s o a) (past_label labels (next a)) first.rest last
-      (stays_lawful labels at lawful_there k (Ask s why o next) (fed.Answer a) all.0.can tells.0 lawful) all.1 tells.1 walk
-  walk_lawful (fed.Passed ∷ more) k (Await w next) steps last lawful given told walk =
-      walk_lawful more (known_after_wait k w) (past_label labels next) steps last (stays_lawful labels at lawful_there k (Await w next) fed.Passed tt tt lawful) given told walk
-  walk_lawful (fed.Passed ∷ more) k (Note s image event next) steps last lawful given told walk =
-      walk_lawful more k (past_label labels next) steps last (stays_lawful labels at lawful_there k (Note s image event next) fed.Passed tt tt lawful) given told walk
-  walk_lawful (fed.Passed ∷ more) k (Ask s why o next) steps last lawful given told walk = absurd walk
-  walk_lawful (fed.Answer a ∷ more) k (Await w next) steps last lawful given told walk = absurd walk
-  walk_lawful (fed.Answer a ∷ more) k (Note s image event next) steps last lawful given told walk = absurd walk
-  walk_lawful (f ∷ more) k (Return r) steps last lawful given told walk = absurd walk
-  walk_lawful (f ∷ more) k (Goto label) steps last lawful given told walk = absurd walk
-
--- ---- where a line's command stood at an operation, by what it had learned
-
-module _ (homes : ℕ → SiteId) (line : ℕ) (s : SiteId) (o : Op) (k : Knowledge) (until : List Happening) (stands : AsksFor homes line s o until) (recalls : Recalls line s o k until) where
-  -- that permitted the operation
-  permitted : Permits k s o
-  permitted =
-      let request : IsLawfulRequest recalls.start = command_is_lawful recalls.seat recalls.begun.asked.command recalls.start recalls.plan in
-      subst (λ j. Permits j s o) (sym recalls.known)
-      (walk_lawful recalls.start.labels request.known_at request.labels recalls.feds nothing_known recalls.start.plan (steps_of line until) _ request.plan stands.led.given stands.led.standalone recalls.walk).0
-
+module _ (line : ℕ) (s : SiteId) (o : Op) (k : Knowledge) (until : List Happening) (recalls : Recalls line s o k until) (permitted : Permits k s o) where
   -- where it is still true, and the image has no header
   module _ (r : Records) (me : Instance) (truth : IsTrueAt s r me k) (free : IsFalse (is_fenced r me)) (image : ℕ) (headless : r.headers image ≡ None) where
     drew : (count : ℕ) → MayLengthen k s image count → SomeStep (DrewId s image) (steps_of line until)
@@ -110,7 +72,7 @@ module _ (homes : ℕ → SiteId) (run : List Happening) (o : Operation) (reply 
 
   -- it was wanted for a line, since a way and a house change no image
   by_line : (P : Answered → Type 0)
-      → ((line : ℕ) → AsksFor homes line o.site o.op truly.left.until → Recalls line o.site o.op truly.knew truly.left.until → SomeStep P (steps_of line truly.left.until))
+      → ((line : ℕ) → Recalls line o.site o.op truly.knew truly.left.until → SomeStep P (steps_of line truly.left.until))
       → DidBeforeStop homes P o run
   by_line P shown = of truly.left.by truly.left.left truly.left.recalls
     where
@@ -127,7 +89,7 @@ module _ (homes : ℕ → SiteId) (run : List Happening) (o : Operation) (reply 
         among = left.wanted.0;
         stands = left.wanted.1;
         mine = sym (left.whose left.wanted.1.begun.asked left.wanted.1.begun.is);
-        did = shown line left.wanted.1 recalls;
+        did = shown line recalls;
       }
       of (OnWay line) left recalls = absurd (true≢false (sym changes ∙ way_leaves_images o.site o.op (way_of line truly.left.until) left.next.0 image))
       of House left recalls = absurd (true≢false (sym changes ∙ release_leaves_images o.op (of_next (release_of o.instance truly.left.until) o.site o.op left.next) image))
@@ -136,11 +98,11 @@ module _ (homes : ℕ → SiteId) (run : List Happening) (o : Operation) (reply 
   pub drew_before_stop : (count : ℕ) → o.op ≡ op.Map image (states.Resize count) → DidBeforeStop homes (DrewId o.site image) o run
   drew_before_stop count is =
       by_line (DrewId o.site image)
-      (λ line stands recalls.
-      drew_id homes line o.site o.op truly.knew truly.left.until stands recalls (records_after o.site run) o.instance truly.truth free image headless count is)
+      (λ line recalls.
+      drew_id line o.site o.op truly.knew truly.left.until recalls truly.permits (records_after o.site run) o.instance truly.truth free image headless count is)
 
   pub let_go_before_stop : removes_part image o.op ≡ true → DidBeforeStop homes (RemovedHeader o.site image) o run
   let_go_before_stop part =
       by_line (RemovedHeader o.site image)
-      (λ line stands recalls.
-      let_it_go homes line o.site o.op truly.knew truly.left.until stands recalls (records_after o.site run) o.instance truly.truth free image headless part)
+      (λ line recalls.
+      let_it_go line o.site o.op truly.knew truly.left.until recalls truly.permits (records_after o.site run) o.instance truly.truth free image headless part)

@@ -128,7 +128,7 @@ module _ (at : Label → Knowledge) where
       → IsLawful at (under_lock_known sharing.Alone None site image h) (copying site snap image (h.snap_seq + 1) next)
   lawful_copying site snap image h next may lawful = (
     tt,
-    lawful_on_bits at (learned (under_lock_known sharing.Alone None site image h) site (op.Map image (states.Get None))) image (putting site snap image (h.snap_seq + 1) next)
+    lawful_on_bits at (under_lock_known sharing.Alone None site image h) site (learned (under_lock_known sharing.Alone None site image h) site (op.Map image (states.Get None))) image (putting site snap image (h.snap_seq + 1) next)
         (λ bits hold. lawful_putting site snap image h bits next may hold (lawful bits)),
   )
 

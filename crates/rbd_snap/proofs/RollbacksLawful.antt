@@ -61,7 +61,7 @@ module _ (at : Label → Knowledge) (site : SiteId) (image : ℕ) (snap : ℕ) (
         (learned_at_least k site (data_read image (Some snap) p) a) (on a can),
   )
     where
-      on : (a : Answer) → CanTell (data_read image (Some snap) p) a → IsLawful at k (on_bytes p.parts (λ bytes. gather site image (Some snap) [] bytes (λ read. full_piece site image seen p read next)) a)
+      on : (a : Answer) → CanTell k site (data_read image (Some snap) p) a → IsLawful at k (on_bytes p.parts (λ bytes. gather site image (Some snap) [] bytes (λ read. full_piece site image seen p read next)) a)
       on (answer.Bytes bytes) can = lawful bytes (let long : length bytes ≡ parts_len p.parts = can.form in omega (arith, long))
       on answer.Absent can =
           let zeros : List ℕ = replicate (parts_len p.parts) 0 in

@@ -31,6 +31,7 @@ use Rattle.rbd_knowledge.proofs.Wanting.{wants, Wants}
 use Rattle.rbd_machine.specs.Knowledge.{Knowledge, learned, nothing_known, same_site, is_drawn}
 use Rattle.rbd_machine.specs.Permits.{Permits}
 use Rattle.rbd_machine.specs.Plan.{Ask, Standing}
+use Rattle.rbd_machine.specs.Possible.{IsFedPossible, IsPossible}
 use Rattle.rbd_machine.specs.Refused.{IsGiven}
 use Rattle.rbd_machine.specs.Standalone.{TellsStandalone}
 use Rattle.rbd_interference.specs.Ancestors.{DrewNoneOf, HasReadTruly}
@@ -39,6 +40,7 @@ use Rattle.rbd_interference.specs.Locks.{KnowsByLock}
 use Rattle.rbd_interference.specs.Truth.{IsTrueAt, known_header}
 use Rattle.rbd_interference.proofs.Elsewhere.{beside_elsewhere}
 use Rattle.rbd_interference.proofs.Nothing.{nothing_is_beside, nothing_is_read}
+use Rattle.rbd_interference.proofs.Possible.{answer_possible}
 use Rattle.rbd_interference.proofs.Together.{beside_mutual, learned_beside}
 use Rattle.rbd_slots.specs.Session.{held_in, running_at, running_in}
 use Rattle.rbd_site.specs.Records.{Records}
@@ -208,8 +210,20 @@ module _ {R : Type 0} (stands : R → Standing) (old new : WorldView R) (w : IsS
     pub done_so : RecallsBy doer s o goes_by w.told.run → IsOf doer me s o w.told.run → IsNextOf doer me s o w.told.run → IsRightlyDone (operation_at (site_in s old.sites) me doer s o) w.told.run
     done_so recalls whose next = is_done stands old new w me doer s o result goes_by known permits (locked s) at_sites (λ image drawn. w.new (InSlot session slot) s image (acted_drawn (knew slot) acts s image drawn)) recalls whose next
 
+    -- the answer is possible by what who acts knew
+    possible : IsPossible goes_by s o a
+    possible = answer_possible s (records_in s old.sites) me goes_by (known s) o
+
+    -- and so is what the request is fed, where that is who acts
+    possible_to_it : acts ≡ actor.Request → IsFedPossible (knew slot) (plan_in_slot stands (running_at slot c.session)) (fed.Answer a)
+    possible_to_it requests =
+        let asks = wants stands slot c.session.lines s o (held_in slot c.session.slots) (subst (λ m. op_by stands slot c.session m ≡ Some (s, o)) requests wanted) in
+        let plan_is : plan_in_slot stands (running_at slot c.session) ≡ Ask s asks.why o asks.next = ap (λ h. plan_in_slot stands (running_in h)) asks.is ∙ asks.plan in
+        subst (λ p. IsFedPossible (knew slot) p (fed.Answer a)) (sym plan_is) (subst (λ m. IsPossible (known_to (knew slot) m) s o a) requests possible)
+
     pub all_know : AllKnow stands knows_now d.session
-    all_know = feeding_is_known stands c d knew slot s o (fed.Answer a) result alone living.sound sound.session living.know became.slots became.others wanted (can_get stands slot c s o a wanted can.can) became.fed
+    all_know =
+        feeding_is_known stands c d knew slot s o (fed.Answer a) result alone possible_to_it living.sound sound.session living.know became.slots became.others wanted (can_get stands slot c s o a wanted can.can) became.fed
 
     pub truth_now : (t : SiteId) → IsTrueOf t (records_in t new.sites) d.session.instance knows_now d
     truth_now t = subst (λ i. IsTrueOf t (records_in t new.sites) i knows_now d) (sym became.client.instance) (at_either s (λ q. IsTrueOf q (records_in q new.sites) me knows_now d) here elsewhere t)

@@ -220,9 +220,14 @@ module _ {R : Type 0} (stands : R → Standing) (old new : WorldView R) (w : IsS
       (λ image drawn. w.new (Sending session slot) x.site image (less_drawn x.op k x.site image drawn)) tt
       (ap (λ i. sent_after i slot w.told.run) may.whose ∙ sym (w.late session slot) ∙ sent) tt
 
-  -- what its slot knew at the stop is true here
+  -- what its slot knew at the stop permits it, and is true here
   truly : KnewTruly w.told.homes slot (operation_at (site_in x.site old.sites) x.instance (AfterStop slot) x.site x.op) w.told.run
-  truly = record { knew = k; left = w.was_left session slot x sent; truth = subst (λ r. IsTrueAt x.site r x.instance k) (w.told.records x.site) (may.truth x.site) }
+  truly = record {
+    knew = k;
+    left = w.was_left session slot x sent;
+    permits = may.permits;
+    truth = subst (λ r. IsTrueAt x.site r x.instance k) (w.told.records x.site) (may.truth x.site);
+  }
 
   -- ---- who is where
 

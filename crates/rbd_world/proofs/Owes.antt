@@ -157,7 +157,7 @@ set_owes k owed s o a image number state permits given free sets some = absurd (
 -- Who removes objects with all of their image removed its header.
 clears_gone : (at : Label → Knowledge) (site : SiteId) (image : ℕ) (plan : Plan) (k : Knowledge) → IsClearing site image plan → IsLawful at k plan → is_gone k.gone site image ≡ true
 clears_gone at site image (Ask s why (op.Data i n (object.Remove context)) next) k clears lawful =
-    clears_gone at site image (next answer.Done) (learned k s (op.Data i n (object.Remove context)) answer.Done) clears.2 (lawful.1 answer.Done (record { word = refl; form = tt; standalone = tt }))
+    clears_gone at site image (next answer.Done) (learned k s (op.Data i n (object.Remove context)) answer.Done) clears.2 (lawful.1 answer.Done (record { word = refl; form = tt; standalone = tt; possible = tt }))
 clears_gone at site image (Ask s why (op.Map i (states.Remove None)) next) k clears lawful =
     subst (λ t. is_gone k.gone t image ≡ true) clears.0 (subst (λ j. is_gone k.gone s j ≡ true) clears.1 lawful.0.0.gone)
 clears_gone at site image (Ask s why o next) k clears lawful = absurd clears
@@ -179,7 +179,7 @@ removal_owes at k None s why (op.Data i n (object.Remove context)) next a image 
     let both = and_parts (i == image) (n == number) removes in
     inl
     (subst (λ j. is_gone k.gone s j ≡ true) (eqb-true i image both.0)
-    (clears_gone at s i (next answer.Done) (learned k s (op.Data i n (object.Remove context)) answer.Done) pays.0 (lawful.1 answer.Done (record { word = refl; form = tt; standalone = tt }))))
+    (clears_gone at s i (next answer.Done) (learned k s (op.Data i n (object.Remove context)) answer.Done) pays.0 (lawful.1 answer.Done (record { word = refl; form = tt; standalone = tt; possible = tt }))))
 removal_owes at k (Some p) s why (op.Data i n (object.Remove context)) next a image number pays lawful given free removes =
     let both = and_parts (i == image) (n == number) removes in
     inr

@@ -293,10 +293,11 @@ pub record WasLeft (homes : ℕ → SiteId) (slot : ℕ) (who : Instance) (s : S
   pub left : IsStillSent homes who lost slot s o by until
   pub recalls : RecallsBy by s o k until
 
--- What was known where a slot wanted the operation is still true where the operation comes.
+-- What was known where a slot wanted the operation permits it, and is still true where it comes.
 pub record KnewTruly (homes : ℕ → SiteId) (slot : ℕ) (o : Operation) (before : List Happening) : Type 0 where
   pub knew : Knowledge
   pub left : WasLeft homes slot o.instance o.site o.op knew before
+  pub permits : Permits knew o.site o.op
   pub truth : IsTrueAt o.site (records_after o.site before) o.instance knew
 
 -- A session that doesn't run begins the life behind its latest.
