@@ -9,6 +9,7 @@ pub mod AtLeast
 pub mod Lawful
 pub mod Fences
 pub mod About
+pub mod OwnSteps
 pub mod Refused
 pub mod Walked
 pub mod Fed

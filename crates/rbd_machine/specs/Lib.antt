@@ -16,6 +16,7 @@ pub mod Permits
 pub mod AtLeast
 pub mod Lawful
 pub mod About
+pub mod OwnSteps
 pub mod Refused
 pub mod Begun
 pub mod Course
