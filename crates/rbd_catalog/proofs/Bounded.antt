@@ -1,5 +1,5 @@
 -- How many operations commands have.
-use Rattle.std.proofs.Common.{◌≡◌, ℕ, ◌+◌, ◌*◌, ◌≤◌, suc, List, [], length, replicate, Bool, true, false, Option, Some, None, refl, sym, subst, add-mul, arith}
+use Rattle.std.proofs.Common.{◌≡◌, ℕ, ◌+◌, ◌*◌, ◌≤◌, suc, List, [], ◌∷◌, length, replicate, Bool, true, false, Option, Some, None, refl, sym, ap, subst, add-mul, arith}
 use Rattle.std.proofs.lemmas.List.{length-replicate}
 use Rattle.rbd_kinds.specs.declared.sharing.Sharing.TheVariants as sharing
 use Rattle.rbd_commands.specs.declared.command.Command.{Command}
@@ -15,11 +15,13 @@ use Rattle.rbd_layout.specs.Pieces.{pieces_of}
 use Rattle.rbd_header.specs.Header.{view_of}
 use Rattle.rbd_header.specs.declared.view.View.{View}
 use Rattle.rbd_machine.specs.Label.{Label}
+use Rattle.rbd_machine.specs.OwnSteps.{AsksOwnAtMost, own_steps, owned_at}
 use Rattle.rbd_machine.specs.Passes.{jumps}
 use Rattle.rbd_machine.specs.Path.{Answered, IsBounded, IsWalk}
 use Rattle.rbd_machine.specs.Plan.{Plan, Goto, Standing, without_labels}
 use Rattle.rbd_machine.specs.Refused.{AreGiven}
 use Rattle.rbd_machine.specs.declared.seat.Seat.{Seat}
+use Rattle.rbd_machine.proofs.OwnSteps.{own_are_fewer, pass_keeps_own}
 use Rattle.rbd_meaning.specs.Listings.{shown_snaps}
 use Rattle.rbd_meaning.specs.Range.{extent_at, out_of_range}
 use Rattle.rbd_meaning.specs.Straight.{operations_of, Straight, straight_of}
@@ -38,7 +40,7 @@ use Rattle.rbd_image.proofs.RemovalsBounded.{request_is_short}
 use Rattle.rbd_image.specs.Remove.{remove_image}
 use Rattle.rbd_image.specs.Resize.{size_change}
 use Rattle.rbd_snap.specs.Rollback.{rollback}
-use Rattle.rbd_catalog.proofs.Given.{asks_on_id, asks_on_header, asks_unless, asks_change, asks_within, walk_asks}
+use Rattle.rbd_catalog.proofs.Given.{asks_on_id, asks_on_header, asks_own, asks_unless, asks_change, asks_within, walk_asks}
 use Rattle.rbd_catalog.proofs.Told.{resize_within, rollback_within}
 use Rattle.rbd_catalog.specs.EachRequest.{of_create, of_plan, same_some, stands_at}
 use Rattle.rbd_catalog.specs.Plans.{IsPlanFor, planned, planned_straight, read_from}
@@ -141,6 +143,10 @@ pub command_is_bounded : (seat : Seat) (c : Command) (s : Standing) (most : ℕ)
     → AsksAtMost s.plan (most_operations (profile c) most)
 command_is_bounded seat c s most is bounded few = (ask_few seat s most c is bounded few).0
 
+pub command_asks_own : (seat : Seat) (c : Command) (s : Standing) (most : ℕ) → IsPlanFor seat c s → is_nothing (profile c).told ≡ true → HasAtMost most (profile c).extent
+    → AsksOwnAtMost [] s.plan (most_operations (profile c) most)
+command_asks_own seat c s most is bounded few = asks_own s.plan [] (most_operations (profile c) most) (command_is_bounded seat c s most is bounded few)
+
 -- ---- walks
 
 walk_is_bounded : (seat : Seat) (c : Command) (s : Standing) (most : ℕ) (feds : List Fed) (steps : List Answered) (last : Plan)
@@ -183,3 +189,45 @@ walk_of_command_is_bounded seat c s most feds steps last plan few given walk = g
     go : (b : Bool) → is_nothing (profile c).told ≡ b → length steps ≤ (1 + jumps s.labels s.plan feds) * most_operations (profile c) most + more_by (profile c).told steps
     go true is = let less = walk_is_bounded seat c s most feds steps last plan is few given walk in omega arith
     go false is = once_at_least (jumps s.labels s.plan feds) (most_operations (profile c) most) (more_by (profile c).told steps) (length steps) (bounded_by_told seat s feds steps last walk c most is plan)
+
+-- ---- but for looks above, pass by pass
+
+-- who is bounded by what it is told goes to no label
+begins_nothing_again : (seat : Seat) (c : Command) (s : Standing) → is_nothing (profile c).told ≡ false → IsPlanFor seat c s → s.labels ≡ Goto
+begins_nothing_again seat (command.Resize name size) s unbounded is = ap (λ (at : Standing). at.labels) (stands_at (size_change seat.home name size) s is)
+begins_nothing_again seat (command.SnapRollback name snap) s unbounded is = ap (λ (at : Standing). at.labels) (stands_at (rollback seat.home name snap) s is)
+begins_nothing_again seat (command.Remove name) s unbounded is = ap (λ (at : Standing). at.labels) (stands_at (remove_image seat.home seat.session name) s is)
+begins_nothing_again seat _ s unbounded is = cc
+
+stays_at_label : (label : Label) (feds : List Fed) (steps : List Answered) (last : Plan) → IsWalk Goto (Goto label) feds steps last → steps ≡ []
+stays_at_label label [] steps last walk = walk.0
+stays_at_label label (f ∷ more) steps last walk = absurd walk
+
+module _ (seat : Seat) (c : Command) (s : Standing) (most : ℕ) (feds : List Fed) (steps : List Answered) (last : Plan)
+    (plan : IsPlanFor seat c s) (few : HasAtMost most (profile c).extent) (given : AreGiven steps) where
+  pub first_pass_is_bounded : IsWalk Goto s.plan feds steps last → length (own_steps [] steps) ≤ most_operations (profile c) most + more_by (profile c).told steps
+  first_pass_is_bounded walk = go (is_nothing (profile c).told) refl
+    where
+      go : (b : Bool) → is_nothing (profile c).told ≡ b → length (own_steps [] steps) ≤ most_operations (profile c) most + more_by (profile c).told steps
+      go true nothing =
+          let own : length (own_steps [] steps) ≤ most_operations (profile c) most = pass_keeps_own feds [] s.plan (most_operations (profile c) most) steps last (command_asks_own seat c s most plan nothing few) given walk in
+          omega arith
+      go false told =
+          let fewer : length (own_steps [] steps) ≤ length steps = own_are_fewer [] steps in
+          let all : length steps ≤ most_operations (profile c) most + more_by (profile c).told steps =
+          bounded_by_told seat s feds steps last (subst (λ l. IsWalk l s.plan feds steps last) (sym (begins_nothing_again seat c s told plan)) walk) c most told plan in
+          omega arith
+
+  pub later_pass_is_bounded : (label : Label) → IsWalk Goto (s.labels label) feds steps last → length (own_steps (owned_at label) steps) ≤ most_operations (profile c) most + more_by (profile c).told steps
+  later_pass_is_bounded label walk = go (is_nothing (profile c).told) refl
+    where
+      go : (b : Bool) → is_nothing (profile c).told ≡ b → length (own_steps (owned_at label) steps) ≤ most_operations (profile c) most + more_by (profile c).told steps
+      go true nothing =
+          let n = most_operations (profile c) most in
+          let own : length (own_steps (owned_at label) steps) ≤ most_operations (profile c) most =
+          pass_keeps_own feds (owned_at label) (s.labels label) n steps last (asks_own (s.labels label) (owned_at label) n ((ask_few seat s most c plan nothing few).1 label)) given walk in
+          omega arith
+      go false told =
+          let fewer : length (own_steps (owned_at label) steps) ≤ length steps = own_are_fewer (owned_at label) steps in
+          let none : length steps ≡ 0 = ap length (stays_at_label label feds steps last (subst (λ l. IsWalk Goto (l label) feds steps last) (begins_nothing_again seat c s told plan) walk)) in
+          omega arith

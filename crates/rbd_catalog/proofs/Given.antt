@@ -1,6 +1,6 @@
 -- How many operations a plan has, whatever they are answered of what they can give: step by step,
--- and along a walk.
-use Rattle.std.proofs.Common.{◌≡◌, ℕ, ◌+◌, ◌*◌, ◌≤◌, zero, suc, List, [], ◌∷◌, length, Option, Some, None, ap, subst, add-mul, arith}
+-- but for looks above, and along a walk.
+use Rattle.std.proofs.Common.{◌≡◌, inl, ℕ, ◌+◌, ◌*◌, ◌≤◌, zero, suc, List, [], ◌∷◌, length, Option, Some, None, ap, subst, add-mul, arith}
 use Rattle.rbd_kinds.specs.declared.sharing.Sharing.{Sharing}
 use Rattle.rbd_kinds.specs.declared.answer.Answer.{Answer}
 use Rattle.rbd_kinds.specs.declared.answer.Answer.TheVariants as answer
@@ -12,8 +12,11 @@ use Rattle.rbd_kinds.specs.declared.machine.Fed.TheVariants as fed
 use Rattle.rbd_kinds.specs.declared.operation.Op.TheVariants as op
 use Rattle.rbd_commands.specs.declared.refusal.Refusal.{Refusal}
 use Rattle.rbd_kinds.specs.Form.{IsHeaderInForm}
+use Rattle.rbd_machine.specs.About.{owned_after}
 use Rattle.rbd_machine.specs.Answers.{CanGive}
+use Rattle.rbd_machine.specs.Knowledge.{ImagePlace}
 use Rattle.rbd_machine.specs.Label.{Label}
+use Rattle.rbd_machine.specs.OwnSteps.{AsksOwnAtMost}
 use Rattle.rbd_machine.specs.Passes.{jumps, jumps_at}
 use Rattle.rbd_machine.specs.Path.{Answered, IsBounded, IsWalk}
 use Rattle.rbd_machine.specs.Plan.{Plan, Ask, Await, Note, Return, Goto, past_label}
@@ -58,6 +61,16 @@ asks_within (Await wait next) n m most bounded = asks_within next n m most bound
 asks_within (Note site image event next) n m most bounded = asks_within next n m most bounded
 asks_within (Return reply) n m most bounded = tt
 asks_within (Goto label) n m most bounded = tt
+
+-- ---- so many in all are so many but for looks above, whichever images are own
+
+pub asks_own : (plan : Plan) (images : List ImagePlace) (n : ℕ) → AsksAtMost plan n → AsksOwnAtMost images plan n
+asks_own (Ask site why op next) images zero few = absurd few
+asks_own (Ask site why op next) images (suc n) few = inl (λ a can. asks_own (next a) (owned_after images site op a) n (few a can))
+asks_own (Await wait next) images n few = asks_own next images n few
+asks_own (Note site image event next) images n few = asks_own next images n few
+asks_own (Return reply) images n few = tt
+asks_own (Goto label) images n few = tt
 
 -- ---- along a walk that goes to labels
 

@@ -1,6 +1,6 @@
 //! What the requests of all commands keep to: laws, each the contract of a function that does
 //! nothing.
-ghost use Rattle.std.specs.Prelude.{◌≡◌, ℕ, ◌+◌, ◌*◌, ◌≤◌, List, length, Option, IsSome, Some, false, true};
+ghost use Rattle.std.specs.Prelude.{◌≡◌, ℕ, ◌+◌, ◌*◌, ◌≤◌, List, [], length, Option, IsSome, Some, false, true};
 ghost use Rattle.rbd_commands.specs.declared.command.Command.{Command};
 ghost use Rattle.rbd_commands.specs.declared.refusal.Refusal.{Refusal};
 ghost use Rattle.rbd_kinds.specs.declared.answer.Answer.{Answer};
@@ -15,9 +15,10 @@ ghost use Rattle.rbd_kinds.specs.declared.sharing.Sharing.{Sharing};
 ghost use Rattle.rbd_kinds.specs.Sharing.{is_alone};
 ghost use Rattle.rbd_machine.specs.Label.{Label, Piece};
 ghost use Rattle.rbd_machine.specs.Lawful.{IsLawfulRequest};
+ghost use Rattle.rbd_machine.specs.OwnSteps.{AsksOwnAtMost, own_steps, owned_at};
 ghost use Rattle.rbd_machine.specs.Passes.{jumps};
 ghost use Rattle.rbd_machine.specs.Path.{Answered, IsWalk};
-ghost use Rattle.rbd_machine.specs.Plan.{Plan, Ask, Return, Standing, IsClosed};
+ghost use Rattle.rbd_machine.specs.Plan.{Plan, Ask, Goto, Return, Standing, IsClosed};
 ghost use Rattle.rbd_machine.specs.Refused.{AreGiven};
 ghost use Rattle.rbd_machine.specs.Standalone.{TellAllStandalone};
 ghost use Rattle.rbd_machine.specs.Steps.{EndsIt, change_plan, not_there};
@@ -72,16 +73,32 @@ pub fn turns_are_those_of_the_extent()
 /// touches, as the row of its command says. Each time that it begins again, as a read does, it has
 /// as many once more. A resize, a rollback and an `rm` have beside these what they were told: a
 /// resize three for each object with bytes from the new size on, a rollback those too and four for
-/// each object of the snapshot, and an `rm` one for each object in use.
+/// each object of the snapshot, and an `rm` one for each object in use. Pass by pass, so many are
+/// all but its looks above (`own_steps` of `rbd_machine`): a clone costs what any image does, and
+/// beside that looks at the images that it was cloned from, as far as their headers lead.
 pub fn commands_are_bounded()
     ensures pass { (seat : Seat) (command : Command) (s : Standing) (most : ℕ)
         → IsPlanFor seat command s → is_nothing (profile command).told ≡ true → HasAtMost most (profile command).extent
         → AsksAtMost s.plan (most_operations (profile command) most) }
+    ensures own { (seat : Seat) (command : Command) (s : Standing) (most : ℕ)
+        → IsPlanFor seat command s → is_nothing (profile command).told ≡ true → HasAtMost most (profile command).extent
+        → AsksOwnAtMost [] s.plan (most_operations (profile command) most) }
     ensures all { (seat : Seat) (command : Command) (s : Standing) (most : ℕ) (feds : List Fed) (steps : List Answered)
         (last : Plan)
         → IsPlanFor seat command s → HasAtMost most (profile command).extent → AreGiven steps
         → IsWalk s.labels s.plan feds steps last
         → length steps ≤ (1 + jumps s.labels s.plan feds) * most_operations (profile command) most + more_by
+        (profile command).told steps }
+    ensures first { (seat : Seat) (command : Command) (s : Standing) (most : ℕ) (feds : List Fed)
+        (steps : List Answered) (last : Plan)
+        → IsPlanFor seat command s → HasAtMost most (profile command).extent → AreGiven steps
+        → IsWalk Goto s.plan feds steps last
+        → length (own_steps [] steps) ≤ most_operations (profile command) most + more_by (profile command).told steps }
+    ensures again { (seat : Seat) (command : Command) (s : Standing) (most : ℕ) (feds : List Fed)
+        (steps : List Answered) (last : Plan) (label : Label)
+        → IsPlanFor seat command s → HasAtMost most (profile command).extent → AreGiven steps
+        → IsWalk Goto (s.labels label) feds steps last
+        → length (own_steps (owned_at label) steps) ≤ most_operations (profile command) most + more_by
         (profile command).told steps }
 {}
 

@@ -10,6 +10,7 @@ pub mod Lawful
 pub mod Possible
 pub mod Fences
 pub mod About
+pub mod OwnSteps
 pub mod Refused
 pub mod Alone
 pub mod Walked

@@ -17,6 +17,7 @@ pub mod AtLeast
 pub mod Possible
 pub mod Lawful
 pub mod About
+pub mod OwnSteps
 pub mod Refused
 pub mod Begun
 pub mod Course

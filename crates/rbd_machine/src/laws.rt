@@ -1,5 +1,5 @@
 //! What plans mean: laws, each the contract of a function that does nothing.
-ghost use Rattle.std.specs.Prelude.{◌≡◌, ◌≢◌, ℕ, ◌<◌, ◌≤◌, ◌+◌, ◌*◌, List, [], ◌∷◌, length, Bool, true, false, IsFalse, Option, Some, None};
+ghost use Rattle.std.specs.Prelude.{◌≡◌, ◌≢◌, ◌⊎◌, ℕ, ◌<◌, ◌≤◌, ◌+◌, ◌*◌, List, [], ◌∷◌, length, Bool, true, false, IsFalse, Option, Some, None};
 ghost use Rattle.rbd_kinds.specs.declared.data_op.DataOp.TheVariants.{Empty, Remove, Write, WriteFull, Zero};
 ghost use Rattle.rbd_kinds.specs.declared.directory_op.DirectoryOp.TheVariants.{Remove as FreeName};
 ghost use Rattle.rbd_kinds.specs.declared.header.SnapContext.{SnapContext};
@@ -23,7 +23,7 @@ ghost use Rattle.rbd_commands.specs.declared.refusal.Refusal.{Refusal};
 ghost use Rattle.rbd_kinds.specs.declared.machine.Fed.{Fed};
 ghost use Rattle.rbd_kinds.specs.declared.machine.Want.TheVariants.{Note, Op as WantsOp};
 ghost use Rattle.rbd_kinds.specs.declared.operation_kind.OpKind.{OpKind};
-ghost use Rattle.rbd_machine.specs.About.{GoByImage, NamesNoParent, image_of, look_up, owned_behind};
+ghost use Rattle.rbd_machine.specs.About.{GoByImage, IsLookAbove, IsOwnOp, NamesNoParent, image_of, look_up, owned_after, owned_behind};
 ghost use Rattle.rbd_machine.specs.Ancestors.{IsAmong};
 ghost use Rattle.rbd_machine.specs.AtLeast.{KnowsAtLeast};
 ghost use Rattle.rbd_machine.specs.Label.{Label, IsFit};
@@ -31,12 +31,13 @@ ghost use Rattle.rbd_kinds.specs.declared.answer.Answer.{Answer};
 ghost use Rattle.rbd_kinds.specs.declared.answer.Answer.TheVariants.{Changed, Done, Fenced, Header as Told};
 ghost use Rattle.rbd_machine.specs.Answers.{CanBeFed};
 ghost use Rattle.rbd_machine.specs.Lawful.{IsLawful, known_after};
-ghost use Rattle.rbd_machine.specs.Plan.{Plan, Ask, IsAsking, IsLive, IsNoting, Wants, past_label, plan_after};
+ghost use Rattle.rbd_machine.specs.Plan.{Plan, Ask, Goto, IsAsking, IsLive, IsNoting, Wants, past_label, plan_after};
 ghost use Rattle.rbd_machine.specs.declared.reason.Reason.{Reason};
 ghost use Rattle.rbd_machine.specs.Path.{Answered, IsPath, IsPass, IsWalk, IsBounded};
 ghost use Rattle.rbd_machine.specs.Passes.{EndsInPass, jumps};
+ghost use Rattle.rbd_machine.specs.OwnSteps.{AsksOwnAtMost, own_steps};
 ghost use Rattle.rbd_machine.specs.Possible.{IsFedPossible, IsPossible};
-ghost use Rattle.rbd_machine.specs.Refused.{IsRefused, IsRefusedBy, IsRefusedWith, refusal_by};
+ghost use Rattle.rbd_machine.specs.Refused.{AreGiven, IsRefused, IsRefusedBy, IsRefusedWith, refusal_by};
 ghost use Rattle.rbd_machine.specs.Standalone.{IsFedStandalone};
 ghost use Rattle.rbd_machine.specs.Steps.{change_plan};
 ghost use Rattle.rbd_machine.specs.Wait.{Wait};
@@ -77,6 +78,23 @@ pub fn walks_keep_bounds()
     ensures { (labels : Label → Plan) (plan : Plan) (feds : List Fed) (steps : List Answered) (last : Plan) (n each : ℕ)
         → IsBounded plan n → ((label : Label) → IsBounded (labels label) each) → IsWalk labels plan feds steps last
         → length steps ≤ n + jumps labels plan feds * each }
+{}
+
+/// A pass has at most as many operations as its plan, but for looks above, at headers and snapshots
+/// of images that the request neither found by their names nor made. These are left out of the
+/// count, and nothing else is. So what a request does for its own image has a bound that doesn't go
+/// by how many images that one was cloned from.
+pub fn looks_above_are_apart()
+    ensures bound { (images : List ImagePlace) (plan : Plan) (n : ℕ) (feds : List Fed) (steps : List Answered)
+        (last : Plan)
+        → AsksOwnAtMost images plan n → AreGiven steps → IsWalk Goto plan feds steps last
+        → length (own_steps images steps) ≤ n }
+    ensures others { (images : List ImagePlace) (step : Answered) (steps : List Answered)
+        → IsLookAbove step.op → (IsOwnOp images step.site step.op → ⊥)
+        → own_steps images (step ∷ steps) ≡ own_steps images steps }
+    ensures own { (images : List ImagePlace) (step : Answered) (steps : List Answered)
+        → IsOwnOp images step.site step.op ⊎ (IsLookAbove step.op → ⊥)
+        → own_steps images (step ∷ steps) ≡ step ∷ own_steps (owned_after images step.site step.op step.answer) steps }
 {}
 
 /// A change has three operations up to its look under the lock, and then those of what it does.

@@ -160,6 +160,7 @@
 //! | `specs/Possible.antt` | what may be told, by what is known (`IsPossible`) |
 //! | `specs/Lawful.antt` | a plan does only what it may by what is known there (`IsLawful`) |
 //! | `specs/About.antt` | which images are a request's own (`owned_behind`), and which operations are of them |
+//! | `specs/OwnSteps.antt` | how many operations there are but for looks above (`own_steps`) |
 //! | `specs/Refused.antt` | what an answer refuses, and what a refusal rests on (`IsRefusedBy`) |
 //! | `specs/Begun.antt` | what comes of making a request (`IsBegun`) |
 //! | `specs/Course.antt` | `Course`, and what each step makes of it |
