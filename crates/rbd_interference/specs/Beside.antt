@@ -12,7 +12,7 @@ use Rattle.rbd_kinds.specs.declared.operation.Op.TheVariants as op
 use Rattle.rbd_machine.specs.Knowledge.{Knowledge, own_of, is_drawn, is_gone}
 use Rattle.rbd_interference.specs.Ancestors.{DrewNoneOf}
 use Rattle.rbd_interference.specs.Truth.{known_header, sharing_on}
-use Rattle.rbd_interference.specs.Turns.{KnowsAbsent, KnowsOf, KnowsRaised, KnowsThere}
+use Rattle.rbd_interference.specs.Turns.{KnowsAbsent, KnowsRaised, KnowsThere}
 use Rattle.rbd_site.specs.Records.{Records}
 use Rattle.rbd_site.specs.Step.{is_fenced}
 use Rattle.rbd_stands.specs.Owned.{HasLock}
@@ -65,10 +65,6 @@ abbrev pub BreaksNothing : SiteId → (image : ℕ) → Records → (me you : In
     → (broken : Type 0) → Type 0
 BreaksNothing site image r me you k j broken = AreUnfenced r me you → IsSome (known_header k site image)
     → IsSome (known_header j site image) → broken → ⊥
-
--- and nothing of an object at all
-abbrev pub LeavesObject : SiteId → (image object : ℕ) → Records → (me you : Instance) → (k j : Knowledge) → Type 0
-LeavesObject site image object r me you k j = BreaksNothing site image r me you k j (KnowsOf j site image object)
 
 -- What one request may do beside another. It may look at the header of an image whose lock it
 -- waited for only where the other knows no header there, or the two go together. So it is with the

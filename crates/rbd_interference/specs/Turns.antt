@@ -25,10 +25,17 @@ KnowsOf k site image object =
     KnowsRaised k site image object ⊎ (KnowsAbsent k site image object ⊎ KnowsThere k site image object)
 
 -- A request that isn't alone on an image knows of an object only in its turn there: the others keep
--- out of that object, and may change any other. A flatten takes no turns. It goes beside none that
--- makes zeros, or removes an object.
-pub record KnowsInTurn (k : Knowledge) : Type 0 where
-  pub turn : (site : SiteId) (image : ℕ) → IsSome (known_header k site image) → is_alone_on k site image ≡ false
-      → sharing_on k site image ≢ Flatten → (object : ℕ) → KnowsOf k site image object → k.turn ≡ Some object
-  pub zeros : (site : SiteId) (image : ℕ) → IsSome (known_header k site image) → (object : ℕ)
-      → KnowsAbsent k site image object → makes_zeros (sharing_on k site image) ≡ true
+-- out of that object, and may change any other. A flatten takes no turns.
+abbrev pub KnowsByTurns : Knowledge → Type 0
+KnowsByTurns k = (site : SiteId) (image : ℕ) → IsSome (known_header k site image)
+    → is_alone_on k site image ≡ false → sharing_on k site image ≢ Flatten
+    → (object : ℕ) → KnowsOf k site image object → k.turn ≡ Some object
+
+-- Who knows of an object that it isn't there, or of places that they are zeros, is one that makes
+-- zeros, and so beside no flatten.
+abbrev pub KnowsByZeros : Knowledge → Type 0
+KnowsByZeros k = (site : SiteId) (image : ℕ) → IsSome (known_header k site image)
+    → (object : ℕ) → KnowsAbsent k site image object → makes_zeros (sharing_on k site image) ≡ true
+
+abbrev pub KnowsInTurn : Knowledge → Type 0
+KnowsInTurn k = KnowsByTurns k × KnowsByZeros k

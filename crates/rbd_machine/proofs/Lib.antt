@@ -7,6 +7,7 @@ pub mod Passed
 pub mod Closed
 pub mod AtLeast
 pub mod Lawful
+pub mod Objects
 pub mod Fences
 pub mod About
 pub mod Refused

@@ -288,6 +288,12 @@ with_objects site image change k =
           ∷ k.objects;
     }
 
+-- the same where it counts
+abbrev pub with_objects_where : (counts : Bool) → SiteId → (image : ℕ) → (ObjectsKnown → ObjectsKnown) → Knowledge
+    → Knowledge
+with_objects_where counts site image change k =
+    record k { objects = if counts then (with_objects site image change k).objects else k.objects }
+
 abbrev pub without_object : (object : ℕ) → List ℕ → List ℕ
 without_object object objects = filter (λ x. not (x == object)) objects
 
@@ -326,20 +332,20 @@ keeps_object None turn object = false
 keeps_object (Some o) turn object = if is_alone o.sharing then true else is_turn turn object
 
 -- whether an answer shows bytes of the head
-abbrev pub shows_head : (snap : Option ℕ) → Answer → Bool
-shows_head None (answer.Bytes bytes) = true
+abbrev pub shows_head : Answer → (snap : Option ℕ) → Bool
+shows_head (answer.Bytes bytes) None = true
 shows_head _ _ = false
 
 -- whether the request knows by it that the object is there, as long as no other may remove it
 abbrev pub knows_head : Knowledge → SiteId → (image number : ℕ) → (snap : Option ℕ) → Answer → Bool
 knows_head k site image number snap a =
-    shows_head snap a && keeps_object (own_of k.owns site image) k.turn number
+    shows_head a snap && keeps_object (own_of k.owns site image) k.turn number
 
 -- A change of an object tells what it is then, and a read that shows bytes of its head that it is
 -- there. One that must be there, or that a copy-up met, is there.
 abbrev pub learned_of_object : Knowledge → SiteId → (image number : ℕ) → DataOp → Answer → Knowledge
 learned_of_object k site image number (object.Read snap parts) a =
-    with_objects site image (found_where (knows_head k site image number snap a) number) k
+    with_objects_where (knows_head k site image number snap a) site image (found number) k
 learned_of_object k site image number (object.Write context must parts bytes) answer.Done =
     with_objects site image (made number) k
 learned_of_object k site image number (object.WriteFull context bytes) answer.Done =
