@@ -203,6 +203,33 @@ module _ {R : Type 0} (stands : R → Standing) (s : SessionView R) (knows : ℕ
     zeros_by : (condition : Sharing → HeaderView → Type 0) (owns : OwnsBy (knows slot) site image condition) → makes_zeros owns.sharing ≡ true → makes_zeros (sharing_on (knows slot) site image) ≡ true
     zeros_by condition owns zeros = ap (λ o. makes_zeros (sharing_of_own o)) owns.is ∙ zeros
 
+  module _ (slot other : ℕ) (differ : slot ≢ other) (r : Running R) (runs : running_at slot s ≡ Some r) (goes : waits slot (track_of r s.lines) ≡ false) (site : SiteId) (image number : ℕ)
+      (records : Records) (me you : Instance) where
+    at_turn : (condition : Sharing → HeaderView → Type 0) → ((sharing : Sharing) (h : HeaderView) → condition sharing h → HasTurn (is_alone sharing) (knows slot).turn number) → OwnsBy (knows slot) site image condition
+        → HasItsTurn slot other differ r runs goes site image number
+    at_turn condition wants owns some shared = turn_by slot site image number condition wants owns shared
+
+    -- what makes an object, or writes it, breaks what is absent
+    making : (condition : Sharing → HeaderView → Type 0) → ((sharing : Sharing) (h : HeaderView) → condition sharing h → HasTurn (is_alone sharing) (knows slot).turn number) → OwnsBy (knows slot) site image condition
+        → BreaksNothing site image records me you (knows slot) (knows other) (KnowsAbsent (knows other) site image number)
+    making condition wants owns = leaves_absent slot other differ r runs goes site image number records me you (at_turn condition wants owns)
+
+    -- a removal breaks what is there
+    removing : (context : SnapContext) → PermitsOnObject (knows slot) site image number (object.Remove context)
+        → BreaksNothing site image records me you (knows slot) (knows other) (KnowsThere (knows other) site image number)
+    removing context (inl over) free mine others is = true≢false (sym mine ∙ ap (λ o. is_some (header_of_own o)) over.unowned)
+    removing context (inr owns) =
+        leaves_known slot other differ r runs goes site image number records me you (at_turn _ (λ sharing h may. may.at_turn) owns)
+        (λ some. zeros_by slot site image number _ owns owns.meets.zeros) (KnowsThere (knows other) site image number) (λ is. inr (inr is))
+
+    -- and a state of 0 what is raised
+    lowering : (state : ℕ) → OwnsBy (knows slot) site image (MaySet (objects_known_of (knows slot).objects site image) (knows slot).turn number state)
+        → BreaksNothing site image records me you (knows slot) (knows other) (Lowers state (knows other) site image number)
+    lowering zero owns =
+        leaves_known slot other differ r runs goes site image number records me you (at_turn _ (λ sharing h may. may.at_turn) owns)
+        (λ some. zeros_by slot site image number _ owns (owns.meets.zeros refl)) (KnowsRaised (knows other) site image number) (λ raised. inl raised)
+    lowering (suc state) owns free mine others broken = broken
+
   pub may_act : (slot other : ℕ) (r : Running R) (site : SiteId) (why : Reason) (o : Op) (next : Answer → Plan) → slot ≢ other → running_at slot s ≡ Some r → waits slot (track_of r s.lines) ≡ false
       → (stands r.request).plan ≡ Ask site why o next → (records : Records) (me you : Instance) → MayAct site records me you (knows slot) (knows other) o
   may_act slot other r site why o next differ runs goes asks records me you = by o permits
@@ -213,44 +240,18 @@ module _ {R : Type 0} (stands : R → Standing) (s : SessionView R) (knows : ℕ
       permits : Permits (knows slot) site o
       permits = (subst (IsLawful knows_by.known_at (knows slot)) asks knows_by.lawful).0
 
-      module _ (image number : ℕ) where
-        at_turn : (condition : Sharing → HeaderView → Type 0) → ((sharing : Sharing) (h : HeaderView) → condition sharing h → HasTurn (is_alone sharing) (knows slot).turn number) → OwnsBy (knows slot) site image condition
-            → HasItsTurn slot other differ r runs goes site image number
-        at_turn condition wants owns some shared = turn_by slot site image number condition wants owns shared
-
-        -- what makes an object, or writes it, breaks what is absent
-        making : (condition : Sharing → HeaderView → Type 0) → ((sharing : Sharing) (h : HeaderView) → condition sharing h → HasTurn (is_alone sharing) (knows slot).turn number) → OwnsBy (knows slot) site image condition
-            → BreaksNothing site image records me you (knows slot) (knows other) (KnowsAbsent (knows other) site image number)
-        making condition wants owns = leaves_absent slot other differ r runs goes site image number records me you (at_turn condition wants owns)
-
-        -- a removal breaks what is there
-        removing : (context : SnapContext) → PermitsOnObject (knows slot) site image number (object.Remove context)
-            → BreaksNothing site image records me you (knows slot) (knows other) (KnowsThere (knows other) site image number)
-        removing context (inl over) free mine others is = true≢false (sym mine ∙ ap (λ o. is_some (header_of_own o)) over.unowned)
-        removing context (inr owns) =
-            leaves_known slot other differ r runs goes site image number records me you (at_turn _ (λ sharing h may. may.at_turn) owns)
-            (λ some. zeros_by slot site image number _ owns owns.meets.zeros) (KnowsThere (knows other) site image number) (λ is. inr (inr is))
-
-        -- and a state of 0 what is raised
-        lowering : (state : ℕ) → OwnsBy (knows slot) site image (MaySet (objects_known_of (knows slot).objects site image) (knows slot).turn number state)
-            → BreaksNothing site image records me you (knows slot) (knows other) (Lowers state (knows other) site image number)
-        lowering zero owns =
-            leaves_known slot other differ r runs goes site image number records me you (at_turn _ (λ sharing h may. may.at_turn) owns)
-            (λ some. zeros_by slot site image number _ owns (owns.meets.zeros refl)) (KnowsRaised (knows other) site image number) (λ raised. inl raised)
-        lowering (suc state) owns free mine others broken = broken
-
       by : (o : Op) → Permits (knows slot) site o → MayAct site records me you (knows slot) (knows other) o
       by (op.Header image header.Get) may = lock_shared slot other differ r runs goes site image records me you
       by (op.Header image header.LockDrop) may = λ lock. lock_shared slot other differ r runs goes site image records me you
       by (op.Header image o) may = tt
       by (op.Data image number (object.Read snap parts)) may = λ free mine others broken. broken
-      by (op.Data image number (object.Write context must parts bytes)) may = making image number _ (λ sharing h may. may.at_turn) may
+      by (op.Data image number (object.Write context must parts bytes)) may = making slot other differ r runs goes site image number records me you _ (λ sharing h may. may.at_turn) may
       by (op.Data image number (object.Zero context must parts)) may = λ free mine others broken. broken
-      by (op.Data image number (object.Empty context)) may = making image number _ (λ sharing h may. may.at_turn) may
-      by (op.Data image number (object.Remove context)) may = removing image number context may
-      by (op.Data image number (object.WriteFull context bytes)) may = making image number _ (λ sharing h may. may.at_turn) may
+      by (op.Data image number (object.Empty context)) may = making slot other differ r runs goes site image number records me you _ (λ sharing h may. may.at_turn) may
+      by (op.Data image number (object.Remove context)) may = removing slot other differ r runs goes site image number records me you context may
+      by (op.Data image number (object.WriteFull context bytes)) may = making slot other differ r runs goes site image number records me you _ (λ sharing h may. may.at_turn) may
       by (op.Data image number (object.CopyUp bytes)) may = absurd may
-      by (op.Map image (states.Set None number state)) may = lowering image number state may
+      by (op.Map image (states.Set None number state)) may = lowering slot other differ r runs goes site image number records me you state may
       by (op.Map image (states.Set (Some snap) number state)) may = tt
       by (op.Map image o) may = tt
       by _ may = tt
