@@ -33,7 +33,7 @@ module _ (known_at : Label → Knowledge) where
   lawful_pieces [] k site image h owns below = tt
   lawful_pieces (p ∷ pieces) k site image h owns below =
       let turned = known_after_wait k (wait.Turn p.object) in
-      lawful_zero known_at turned site image h p (zero_in_turns site image h pieces (applied site image)) (record { sharing = sharing.Discard; owns = owns; turn = refl })
+      lawful_zero known_at turned site image h p (zero_in_turns site image h pieces (applied site image)) (record { sharing = sharing.Discard; owns = owns; turn = refl; zeros = refl })
       (All-head (IsPieceOf h) p pieces below)
       (λ steps is.
       lawful_pieces pieces (known_behind turned steps) site image h (zeroed_own site image h h sharing.Discard p turned steps is owns)

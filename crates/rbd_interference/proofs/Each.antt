@@ -94,6 +94,7 @@ pub objects_alike : (alone : Bool) (layout : Layout) (old new : ℕ → Mapped) 
     → AreObjectsTrue alone layout old o → AreObjectsTrue alone layout new o
 objects_alike alone layout old new o same was = record {
   absent = λ number gone. same number ∙ was.absent number gone;
+  there = λ number is. ap is_some (same number) ∙ was.there number is;
   blank = λ a. All-weaker (λ b. AreZeros layout (old b.object).head b.parts) (λ b. AreZeros layout (new b.object).head b.parts)
       (λ b zeros. subst (λ head. AreZeros layout head b.parts) (sym (same b.object)) zeros) o.blank (was.blank a);
 }

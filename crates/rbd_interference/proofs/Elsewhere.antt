@@ -19,9 +19,9 @@ use Rattle.rbd_kinds.specs.declared.operation.Op.{Op}
 use Rattle.rbd_kinds.specs.declared.operation.Op.TheVariants as op
 use Rattle.rbd_kinds.specs.Instances.{same_instance}
 use Rattle.rbd_kinds.proofs.Images.{at_itself}
-use Rattle.rbd_header.specs.Header.{with_size, with_snap, without_snap}
+use Rattle.rbd_header.specs.Header.{detached, with_size, with_snap, without_snap}
 use Rattle.rbd_machine.specs.Ancestors.{HeaderSeen, IsAmong, ObjectTold, has_seen, seen_by, told_by}
-use Rattle.rbd_machine.specs.Knowledge.{ImageMaps, Knowledge, MapsKnown, ObjectsKnown, Own, ImagePlace, first_told, header_told, is_at, is_drawn, is_fenced_by, is_gone, learned, learned_of_directory, learned_of_header, learned_of_listing, learned_of_map, learned_of_object, learned_own, looked_behind, looked_by, looked_under_lock, maps_of, maps_told, objects_known_of, only_there, own_of, removed_header, same_site, unmapped, with_drawn, without_drawn}
+use Rattle.rbd_machine.specs.Knowledge.{ImageMaps, Knowledge, MapsKnown, ObjectsKnown, Own, ImagePlace, detached_header, first_told, found, header_told, is_at, is_drawn, is_fenced_by, is_gone, knows_head, learned, learned_of_directory, learned_of_header, learned_of_listing, learned_of_map, learned_of_object, learned_own, looked_behind, looked_by, looked_under_lock, maps_of, maps_told, objects_known_of, only_there, own_of, removed_header, same_site, unmapped, with_drawn, with_objects, with_objects_where, without_drawn, without_there}
 use Rattle.rbd_machine.proofs.AtLeast.{own_as_before}
 use Rattle.rbd_site.specs.Records.{Records}
 use Rattle.rbd_interference.specs.Beside.{AreBeside}
@@ -111,7 +111,13 @@ module _ (s t : SiteId) (differ : same_site s t ≡ false) where
   object_same : (k : Knowledge) (image number : ℕ) (o : DataOp) (a : Answer) → IsLess t (learned_of_object k s image number o a) k
   object_same k image number (object.Write context must parts bytes) answer.Done = objects_same k image _
   object_same k image number (object.WriteFull context bytes) answer.Done = objects_same k image _
+  object_same k image number (object.Read snap parts) a = by (knows_head k s image number snap a)
+    where
+      by : (counts : Bool) → IsLess t (with_objects_where counts s image (found number) k) k
+      by true = objects_same k image (found number (objects_known_of k.objects s image))
+      by false = less_itself t k
   object_same k image number (object.CopyUp bytes) answer.Done = objects_same k image _
+  object_same k image number (object.CopyUp bytes) answer.Exists = objects_same k image _
   object_same k image number (object.Zero context must parts) answer.Done = objects_same k image _
   object_same k image number (object.Empty context) answer.Done = objects_same k image _
   object_same k image number (object.Remove context) answer.Done = objects_same k image _
@@ -173,6 +179,9 @@ module _ (s t : SiteId) (differ : same_site s t ≡ false) where
   header_same k image header.Remove answer.Done = removed_same k image
   header_same k image (header.SnapAdd name) (answer.Snap snap) = told_same k image (option_map (with_snap name))
   header_same k image (header.SnapRemove snap) answer.Done = told_same k image (option_map (without_snap snap))
+  header_same k image header.Detach answer.Done =
+      less_then t (detached_header s image k) (with_objects s image without_there k) k (told_same (with_objects s image without_there k) image (option_map detached))
+      (objects_same k image (without_there (objects_known_of k.objects s image)))
   header_same k image (header.LockBreak owner) answer.Done = unfenced_less t s owner k
   header_same k image (header.LockBreak owner) answer.Changed = unfenced_less t s owner k
   header_same k image _ _ = less_itself t k

@@ -593,6 +593,7 @@ own_of_fence k site (op.Header image (header.SetSize to)) = refl
 own_of_fence k site (op.Header image header.Remove) = refl
 own_of_fence k site (op.Header image (header.SnapAdd name)) = refl
 own_of_fence k site (op.Header image (header.SnapRemove snap)) = refl
+own_of_fence k site (op.Header image header.Detach) = refl
 own_of_fence k site (op.Header image (header.LockBreak owner)) = refl
 own_of_fence k site (op.Header image o) = refl
 own_of_fence k site (op.BlockAdd i) = refl

@@ -1,7 +1,7 @@
 -- Who knows less knows the truth too: behind a wait, where it forgets, and where it learned
 -- something at the other site.
-use Rattle.std.proofs.Common.{◌≡◌, ◌⊎◌, inl, inr, ℕ, ◌==◌, cond, not, Bool, true, false, List, [], ◌∷◌, Option, Some, None, is_some, refl, sym, ap, ◌∙◌, subst}
-use Rattle.std.specs.Prelude.{IsFalse, IsSome}
+use Rattle.std.proofs.Common.{◌≡◌, ◌⊎◌, inl, inr, ℕ, ◌==◌, cond, not, Bool, true, false, List, [], ◌∷◌, Option, Some, None, is_some, refl, sym, ap, ◌∙◌, subst, arith}
+use Rattle.std.specs.Prelude.{Any, IsFalse, IsSome}
 use Rattle.std.proofs.lemmas.Bool.{true≢false, eqb-true, and_parts}
 use Rattle.std.proofs.lemmas.List.Elements.{All-nil}
 use Rattle.rbd_kinds.specs.declared.header.HeaderView.{HeaderView}
@@ -13,7 +13,7 @@ use Rattle.rbd_kinds.proofs.Images.{same_site_is}
 use Rattle.rbd_object.specs.Mapped.{Mapped}
 use Rattle.rbd_flat.specs.Flat.{Flat}
 use Rattle.rbd_machine.specs.Ancestors.{HeaderSeen, ObjectTold}
-use Rattle.rbd_machine.specs.Knowledge.{Fence, ImageMaps, Knowledge, MapsKnown, ObjectsKnown, Own, afresh, owns_when_held, is_absent, is_at, is_drawn, is_fence_of, is_fenced_by, is_gone, is_raised, owns_without, maps_of, objects_known_of, own_of, known_after_wait, same_site, unfenced, unmapped, unmarked, untouched, without_fence}
+use Rattle.rbd_machine.specs.Knowledge.{Blank, Fence, ImageMaps, Knowledge, MapsKnown, ObjectsKnown, Own, afresh, owns_when_held, is_absent, is_at, is_drawn, is_fence_of, is_fenced_by, is_gone, is_raised, is_there, owns_without, maps_of, objects_known_of, own_of, known_after_wait, same_site, unfenced, unmapped, unmarked, untouched, without_fence}
 use Rattle.rbd_machine.specs.Wait.{Wait}
 use Rattle.rbd_machine.specs.Wait as wait
 use Rattle.rbd_machine.proofs.Lawful.{left_here}
@@ -23,7 +23,7 @@ use Rattle.rbd_stands.specs.Covering.{Maps}
 use Rattle.rbd_interference.specs.Ancestors.{AreSeenTrue, DrewNoneOf, HasReadTruly}
 use Rattle.rbd_interference.specs.Beside.{AreBeside}
 use Rattle.rbd_interference.specs.Truth.{AreMapsTrue, AreObjectsTrue, AreZeros, IsCountTrue, IsStill, IsTrueAt, KnowsNoHeader, header_of_own, is_alone_on, is_own_alone, known_header, sharing_of_own, sharing_on, IsStillOwn}
-use Rattle.rbd_interference.specs.Turns.{KnowsOf}
+use Rattle.rbd_interference.specs.Turns.{KnowsAbsent, KnowsOf, KnowsThere}
 use Rattle.rbd_interference.proofs.Seen.{IsSeenLess, same_seen}
 
 -- ---- less
@@ -71,7 +71,7 @@ less_itself site k = record {
 -- ---- less is true
 
 pub nothing_of : (alone : Bool) (layout : Layout) (objects : ℕ → Mapped) → AreObjectsTrue alone layout objects untouched
-nothing_of alone layout objects = record { absent = λ number gone. absurd (true≢false (sym gone)); blank = λ a. All-nil (λ b. AreZeros layout (objects b.object).head b.parts) }
+nothing_of alone layout objects = record { absent = λ number gone. absurd (true≢false (sym gone)); there = λ number is. absurd (true≢false (sym is)); blank = λ a. All-nil (λ b. AreZeros layout (objects b.object).head b.parts) }
 
 count_less : (new old : Option ℕ) (map : Option (List ℕ)) → ((count : ℕ) → new ≡ Some count → old ≡ Some count) → IsCountTrue old map → IsCountTrue new map
 count_less None old map less t = tt
@@ -89,9 +89,18 @@ objects_less : (alone : Bool) (layout : Layout) (objects : ℕ → Mapped) (new 
 objects_less alone layout objects new old (inl same) t = subst (AreObjectsTrue alone layout objects) (sym same) t
 objects_less alone layout objects new old (inr none) t = subst (AreObjectsTrue alone layout objects) (sym none) (nothing_of alone layout objects)
 
-absent_less : (new old : ObjectsKnown) → AreObjectsLess new old → (object : ℕ) → is_absent object new.absent ≡ true → is_absent object old.absent ≡ true
-absent_less new old (inl same) object gone = ap (λ o. is_absent object o.absent) (sym same) ∙ gone
-absent_less new old (inr none) object gone = absurd (true≢false (sym gone ∙ ap (λ o. is_absent object o.absent) none))
+-- what is known of an object was known before, where nothing of it is known of one that is untouched
+knew_object : (P : ObjectsKnown → Type 0) → (P untouched → ⊥) → (new old : ObjectsKnown) → AreObjectsLess new old → P new → P old
+knew_object P nothing new old (inl same) knows = subst P same knows
+knew_object P nothing new old (inr none) knows = absurd (nothing (subst P none knows))
+
+-- of no object places are known to be zeros
+none_blank : (object : ℕ) → Any (λ (b : Blank). b.object ≡ object) [] → ⊥
+none_blank object (k, b, less, is, holds) = absurd (omega arith)
+
+nothing_absent : (object : ℕ) → (is_absent object untouched.absent ≡ true) ⊎ Any (λ (b : Blank). b.object ≡ object) untouched.blank → ⊥
+nothing_absent object (inl gone) = true≢false (sym gone)
+nothing_absent object (inr blank) = none_blank object blank
 
 module _ (site : SiteId) (new old : Knowledge) (less : IsLess site new old) where
   known_before : (image : ℕ) → IsSome (known_header new site image) → known_header old site image ≡ known_header new site image
@@ -103,9 +112,19 @@ module _ (site : SiteId) (new old : Knowledge) (less : IsLess site new old) wher
   some_before : (image : ℕ) → IsSome (known_header new site image) → IsSome (known_header old site image)
   some_before image some = ap is_some (known_before image some) ∙ some
 
+  pub knew_absent : (image object : ℕ) → KnowsAbsent new site image object → KnowsAbsent old site image object
+  knew_absent image object =
+      knew_object (λ o. (is_absent object o.absent ≡ true) ⊎ Any (λ (b : Blank). b.object ≡ object) o.blank) (nothing_absent object)
+      (objects_known_of new.objects site image) (objects_known_of old.objects site image) (less.objects image)
+
+  knew_there : (image object : ℕ) → KnowsThere new site image object → KnowsThere old site image object
+  knew_there image object =
+      knew_object (λ o. is_there object o.there ≡ true) (λ is. true≢false (sym is)) (objects_known_of new.objects site image) (objects_known_of old.objects site image) (less.objects image)
+
   pub knew_of : (image object : ℕ) → KnowsOf new site image object → KnowsOf old site image object
   knew_of image object (inl raised) = inl ((less.maps image).raised None object raised)
-  knew_of image object (inr gone) = inr (absent_less (objects_known_of new.objects site image) (objects_known_of old.objects site image) (less.objects image) object gone)
+  knew_of image object (inr (inl gone)) = inr (inl (knew_absent image object gone))
+  knew_of image object (inr (inr there)) = inr (inr (knew_there image object there))
 
   was_without : (image : ℕ) → KnowsNoHeader new site image → KnowsNoHeader old site image
   was_without image (inl drawn) = inl (less.drawn image drawn)
@@ -312,7 +331,8 @@ nothing_marked maps site image object marked = true≢false (sym marked ∙ ap (
 -- nothing is known of any object
 pub nothing_known_of : (maps : List ImageMaps) (turn : Option ℕ) (k : Knowledge) (site : SiteId) (image object : ℕ) → KnowsOf (record k { turn = turn; maps = unmarked maps; objects = [] }) site image object → ⊥
 nothing_known_of maps turn k site image object (inl marked) = nothing_marked maps site image object marked
-nothing_known_of maps turn k site image object (inr gone) = true≢false (sym gone)
+nothing_known_of maps turn k site image object (inr (inl gone)) = nothing_absent object gone
+nothing_known_of maps turn k site image object (inr (inr there)) = true≢false (sym there)
 
 turned : (site : SiteId) (k : Knowledge) (turn : Option ℕ) → IsLess site (record k { turn = turn; maps = unmarked k.maps; objects = [] }) k
 turned site k turn = record {
@@ -374,7 +394,8 @@ marked_afresh site k image object false is = nothing_marked k.maps site image ob
 
 pub nothing_afresh : (site there : SiteId) (place image : ℕ) (k : Knowledge) (object : ℕ) → KnowsOf (afresh there place k) site image object → ⊥
 nothing_afresh site there place image k object (inl is) = marked_afresh site k image object (is_at site image there place) is
-nothing_afresh site there place image k object (inr gone) = true≢false (sym gone)
+nothing_afresh site there place image k object (inr (inl gone)) = nothing_absent object gone
+nothing_afresh site there place image k object (inr (inr is)) = true≢false (sym is)
 
 pub afresh_less : (site there : SiteId) (place : ℕ) (k : Knowledge) → IsLess site (afresh there place k) k
 afresh_less site there place k = record {

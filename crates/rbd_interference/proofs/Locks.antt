@@ -21,7 +21,7 @@ use Rattle.rbd_site.specs.Step.{is_fenced, after, after_served, answer_to}
 use Rattle.rbd_stands.specs.Owned.{HasLock}
 use Rattle.rbd_stands.proofs.Locks.{EndsLock, EndsIt, operation_keeps}
 use Rattle.rbd_interference.specs.Ancestors.{DrewNoneOf}
-use Rattle.rbd_interference.specs.Beside.{AreBeside, AreUnfenced, LeavesObject, SharesLock}
+use Rattle.rbd_interference.specs.Beside.{AreBeside, AreUnfenced, BreaksNothing, SharesLock}
 use Rattle.rbd_interference.specs.Locks.{HasLockWhileFree, KnowsByLock, gives_up}
 use Rattle.rbd_interference.specs.Truth.{IsTrueAt}
 use Rattle.rbd_stands.proofs.Served.{fenced_after}
@@ -59,10 +59,10 @@ pub shares_by_lock : (site : SiteId) (r : Records) (me you : Instance) (k j : Kn
     → SharesLock site image r me you k j
 shares_by_lock site r me you k j image differ mine yours = λ free some told. absurd (differ (one_owner r me you image free mine (yours image told)))
 
--- nor can both know the header where one changes an object
-pub changes_by_lock : (site : SiteId) (r : Records) (me you : Instance) (k j : Knowledge) (image object : ℕ) → me ≢ you → KnowsByLock site r me k → KnowsByLock site r you j
-    → LeavesObject site image object r me you k j
-changes_by_lock site r me you k j image object differ mine yours = λ free known told knows. absurd (differ (one_owner r me you image free (mine image known) (yours image told)))
+-- nor can both know the header where one breaks something
+pub breaks_by_lock : (site : SiteId) (r : Records) (me you : Instance) (k j : Knowledge) (image : ℕ) (broken : Type 0) → me ≢ you → KnowsByLock site r me k → KnowsByLock site r you j
+    → BreaksNothing site image r me you k j broken
+breaks_by_lock site r me you k j image broken differ mine yours = λ free known told it. absurd (differ (one_owner r me you image free (mine image known) (yours image told)))
 
 -- ---- it is taken
 

@@ -1,5 +1,5 @@
 -- What is known of object maps stays true under what is permitted to others.
-use Rattle.std.proofs.Common.{◌≡◌, ◌≢◌, inl, inr, ℕ, true, Some, None, sym, ap, ◌∙◌, subst, true≢false, Option}
+use Rattle.std.proofs.Common.{◌≡◌, ◌≢◌, inl, inr, ℕ, zero, suc, true, Some, None, sym, ap, ◌∙◌, subst, true≢false, Option}
 use Rattle.std.specs.Prelude.{IsFalse, IsSome, is_some}
 use Rattle.rbd_kinds.specs.declared.header.HeaderView.{HeaderView}
 use Rattle.rbd_kinds.specs.declared.id.Instance.{Instance}
@@ -16,13 +16,13 @@ use Rattle.rbd_machine.proofs.Together.{shared_both}
 use Rattle.rbd_site.specs.Records.{Records}
 use Rattle.rbd_site.specs.Step.{is_fenced, after, after_served}
 use Rattle.rbd_stands.specs.Covering.{Maps}
-use Rattle.rbd_interference.specs.Beside.{AreBeside, LeavesObject, MayAct, GoTogether}
+use Rattle.rbd_interference.specs.Beside.{AreBeside, BreaksNothing, GoTogether, Lowers, MayAct}
 use Rattle.rbd_interference.specs.Truth.{AreMapsTrue, IsCountTrue, IsTrueAt, KnowsNoHeader, is_alone_on, known_header, map_state_in, sharing_of_own, sharing_on}
-use Rattle.rbd_interference.specs.Turns.{KnowsOf}
+use Rattle.rbd_interference.specs.Turns.{KnowsRaised}
 use Rattle.rbd_interference.proofs.Fenced.{after_free}
 use Rattle.rbd_interference.proofs.Headers.{not_waiting, own_known, unknown_while_waiting}
 use Rattle.rbd_interference.proofs.MapsBehind.{each_image, maps_behind, same_again, true_of}
-use Rattle.rbd_interference.proofs.States.{set_elsewhere}
+use Rattle.rbd_interference.proofs.States.{set_above, set_elsewhere}
 use Rattle.rbd_interference.proofs.Sharing.{alone_beside_none}
 
 module _ (site : SiteId) (r : Records) (k j : Knowledge) (me you : Instance) (t : IsTrueAt site r me k) (u : IsTrueAt site r you j) (beside : AreBeside site r me you k j) where
@@ -41,14 +41,20 @@ module _ (site : SiteId) (r : Records) (k j : Knowledge) (me you : Instance) (t 
         alone_beside_none (sharing_on k site image) (sharing_on j site image) (ap sharing_of_own owns.is ∙ owns.meets.0)
         (both_shared (λ sharing h. (sharing ≡ Alone) × condition h) owns known)
 
-    -- What another may change is none of what is known.
-    pub known_apart : (condition : Sharing → HeaderView → Type 0) → OwnsBy j site image condition → (object : ℕ) → LeavesObject site image object r you me j k
-        → IsSome (known_header k site image) → (n : ℕ) → KnowsOf k site image n → n ≢ object
-    known_apart condition owns object may known n knows same =
-        may (served, free) (ap is_some (own_known j site image condition owns)) known (subst (KnowsOf k site image) same knows)
+    -- What another may break is none of what is known.
+    pub known_apart : (condition : Sharing → HeaderView → Type 0) → OwnsBy j site image condition → (object : ℕ) (knows : ℕ → Type 0) → BreaksNothing site image r you me j k (knows object)
+        → IsSome (known_header k site image) → (n : ℕ) → knows n → n ≢ object
+    known_apart condition owns object knows may known n it same = may (served, free) (ap is_some (own_known j site image condition owns)) known (subst knows same it)
 
-    set_beside : (object state : ℕ) → OwnsBy j site image (MaySet (objects_known_of j.objects site image) j.turn object state) → LeavesObject site image object r you me j k
-        → IsMapped image (maps_behind (r.maps image) (states.Set None object state))
+    -- A state that is set leaves what is raised: it isn't 0, or was set of another object.
+    still_raised : (object state : ℕ) → OwnsBy j site image (MaySet (objects_known_of j.objects site image) j.turn object state)
+        → BreaksNothing site image r you me j k (Lowers state k site image object) → IsSome (known_header k site image) → (n : ℕ) → KnowsRaised k site image n → map_state_in (r.maps image None) n ≢ 0
+        → map_state_in (maps_behind (r.maps image) (states.Set None object state) None) n ≢ 0
+    still_raised object zero owns may known n raised was = set_elsewhere (r.maps image None) object 0 n (known_apart _ owns object (KnowsRaised k site image) may known n raised) was
+    still_raised object (suc state) owns may known n raised was = set_above (r.maps image None) object state n was
+
+    set_beside : (object state : ℕ) → OwnsBy j site image (MaySet (objects_known_of j.objects site image) j.turn object state)
+        → BreaksNothing site image r you me j k (Lowers state k site image object) → IsMapped image (maps_behind (r.maps image) (states.Set None object state))
     set_beside object state owns may known =
         let was = t.mapped free image known in
         let shared = (shared_both (sharing_on k site image) (sharing_on j site image) (both_shared _ owns known)).0 in
@@ -61,7 +67,7 @@ module _ (site : SiteId) (r : Records) (k j : Knowledge) (me you : Instance) (t 
       where
         still : (view : Option ℕ) (n : ℕ) → is_raised view n (maps_of k.maps site image).raised ≡ true → map_state_in (r.maps image view) n ≢ 0
             → map_state_in (maps_behind (r.maps image) (states.Set None object state) view) n ≢ 0
-        still None n marked was = set_elsewhere (r.maps image None) object state n (known_apart _ owns object may known n (inl marked)) was
+        still None n marked was = still_raised object state owns may known n marked was
         still (Some snap) n marked was = was
 
     -- who removed the header of an image meets nobody who knows it

@@ -1,13 +1,13 @@
 -- What is known of an image's objects behind a change of one of them.
 use Rattle.std.proofs.Common.{◌≡◌, ◌≢◌, ◌⊎◌, inl, inr, ℕ, ◌+◌, ◌-◌, ◌≤◌, ◌==◌, cond, not, get_or, Bool, true, false, List, [], ◌∷◌, filter, Option, Some, None, option_map, refl, sym, ap, ◌∙◌, subst, arith}
-use Rattle.std.specs.Prelude.{All}
+use Rattle.std.specs.Prelude.{All, IsSome, is_some}
 use Rattle.std.proofs.lemmas.Bool.{cases_eq, eqb-true, eq-eqb, true≢false}
 use Rattle.std.proofs.lemmas.List.Elements.{All-cons, All-filter, All-weaker, filter_passes}
 use Rattle.rbd_kinds.specs.declared.layout.Layout.{Layout}
 use Rattle.rbd_kinds.specs.declared.layout.Part.{Part}
 use Rattle.rbd_kinds.specs.Striping.{IsLayout, object_of, offset_of}
 use Rattle.rbd_layout.specs.Pieces.{IsIn, IsPart}
-use Rattle.rbd_machine.specs.Knowledge.{Blank, ObjectsKnown, blanked, forgotten, is_absent, removed}
+use Rattle.rbd_machine.specs.Knowledge.{Blank, ObjectsKnown, blanked, found, found_where, is_absent, is_there, made, removed}
 use Rattle.rbd_object.specs.Mapped.{Mapped}
 use Rattle.rbd_parts.proofs.ContentsLemmas.{get_or-zeroed}
 use Rattle.rbd_parts.specs.Contents.{is_within, zeroed}
@@ -15,7 +15,7 @@ use Rattle.rbd_parts.specs.Parts.{parts_zeroed}
 use Rattle.rbd_stands.proofs.Painting.{any_covered, zeros_at}
 use Rattle.rbd_interference.specs.Truth.{AreObjectsTrue, AreZeros}
 
--- an object that is still known to be absent is another than the one that is forgotten
+-- an object that is left on a list is another than the one that was taken from it
 pub absent_left : (object n : ℕ) (absent : List ℕ) → is_absent n (filter (λ x. not (x == object)) absent) ≡ true → (is_absent n absent ≡ true) × (n ≢ object)
 absent_left object n [] is = absurd (true≢false (sym is))
 absent_left object n (x ∷ absent) is = by (x == object) refl (x == n) refl is (absent_left object n absent)
@@ -29,6 +29,11 @@ absent_left object n (x ∷ absent) is = by (x == object) refl (x == n) refl is 
     by true here false there is more = more is
     by false here true there is more = (refl, λ same. true≢false (sym (eq-eqb x object (eqb-true x n there ∙ same)) ∙ here))
     by false here false there is more = more (sym (ap (λ b. cond b true (is_absent n rest)) there) ∙ is)
+
+-- a head that is zeroed in parts is still there
+pub some_mapped : (change : List ℕ → List ℕ) (head : Option (List ℕ)) → IsSome head → IsSome (option_map change head)
+some_mapped change None some = absurd (true≢false (sym some))
+some_mapped change (Some bytes) some = refl
 
 -- what was zero stays so where more is zeroed
 zero_stays : (parts : List Part) (bytes : List ℕ) (i : ℕ) → get_or bytes i 0 ≡ 0 → get_or (parts_zeroed parts bytes) i 0 ≡ 0
@@ -80,10 +85,31 @@ module _ (alone : Bool) (layout : Layout) (old new : ℕ → Mapped) (o : Object
       by (inl same) = subst (λ n. AreZeros layout (new n).head b.parts) (sym same) (here b.parts (subst (λ n. AreZeros layout (old n).head b.parts) same zeros))
       by (inr other) = subst (λ head. AreZeros layout head b.parts) (sym (there b.object other)) zeros
 
-  -- It may be there, and have any bytes.
-  pub forgotten_true : AreObjectsTrue alone layout new (forgotten number o)
-  forgotten_true = record {
+  -- What is known to be there still is, where the one that was changed is.
+  still_there : (IsSome (old number).head → IsSome (new number).head) → (n : ℕ) → is_there n o.there ≡ true → IsSome (new n).head
+  still_there here n is = by (cases_eq n number)
+    where
+      by : (n ≡ number) ⊎ (n ≢ number) → IsSome (new n).head
+      by (inl same) = subst (λ i. IsSome (new i).head) (sym same) (here (subst (λ i. IsSome (old i).head) same (t.there n is)))
+      by (inr other) = ap is_some (there n other) ∙ t.there n is
+
+  pub found_there : IsSome (new number).head → (n : ℕ) → is_there n (number ∷ o.there) ≡ true → IsSome (new n).head
+  found_there here n is = by (number == n) refl is
+    where
+      by : (b : Bool) → (number == n) ≡ b → cond b true (is_there n o.there) ≡ true → IsSome (new n).head
+      by true same is = subst (λ i. IsSome (new i).head) (eqb-true number n same) here
+      by false other is = still_there (λ was. here) n is
+
+  found_where_there : (counts : Bool) → (counts ≡ true → IsSome (new number).head) → (IsSome (old number).head → IsSome (new number).head) → (n : ℕ)
+      → is_there n (found_where counts number o).there ≡ true → IsSome (new n).head
+  found_where_there true here kept n is = found_there (here refl) n is
+  found_where_there false here kept n is = still_there kept n is
+
+  -- It is there, and may have any bytes.
+  pub made_true : IsSome (new number).head → AreObjectsTrue alone layout new (made number o)
+  made_true here = record {
     absent = λ n gone. let (was, other) = absent_left number n o.absent gone in there n other ∙ t.absent n was;
+    there = found_there here;
     blank = λ a k d within. by k d (filter_passes (λ b. not (b.object == number)) o.blank k d within) (All-filter (λ b. not (b.object == number)) WereZeros o.blank (t.blank a) k d within);
   }
     where
@@ -97,33 +123,42 @@ module _ (alone : Bool) (layout : Layout) (old new : ℕ → Mapped) (o : Object
       by k d passes zeros =
           subst (λ head. AreZeros layout head (get_or rest k d).parts) (sym (there (get_or rest k d).object (other_than (get_or rest k d).object passes))) zeros
 
-  -- Parts of it became zeros.
-  pub zeroed_true : IsLayout layout → (parts : List Part) → All (IsPart layout number) parts → (new number).head ≡ option_map (parts_zeroed parts) (old number).head
-      → AreObjectsTrue alone layout new (blanked number (Some parts) o)
-  zeroed_true laid parts lie here = record {
+  -- Parts of it became zeros. Where it had to be there it is.
+  pub zeroed_true : IsLayout layout → (must : Bool) (parts : List Part) → (must ≡ true → IsSome (old number).head) → All (IsPart layout number) parts
+      → (new number).head ≡ option_map (parts_zeroed parts) (old number).head → AreObjectsTrue alone layout new (blanked number (Some parts) (found_where must number o))
+  zeroed_true laid must parts found lie here = record {
     absent = λ n gone. by n (t.absent n gone) (cases_eq n number);
+    there = found_where_there must (λ counts. kept (found counts)) kept;
     blank = λ a.
         All-cons AreStillZeros (record { object = number; parts = Some parts }) o.blank
         (subst (λ head. AreZeros layout head (Some parts)) (sym here) (now_zeros layout laid number parts lie (old number).head))
         (All-weaker WereZeros AreStillZeros (kept_zeros (λ places zeros. subst (λ head. AreZeros layout head places) (sym here) (zeros_stay layout (old number).head parts places zeros))) o.blank (t.blank a));
   }
     where
+      kept : IsSome (old number).head → IsSome (new number).head
+      kept some = ap is_some here ∙ some_mapped (parts_zeroed parts) (old number).head some
+
       by : (n : ℕ) → (old n).head ≡ None → (n ≡ number) ⊎ (n ≢ number) → (new n).head ≡ None
       by n none (inl same) = ap (λ i. (new i).head) same ∙ here ∙ ap (λ i. option_map (parts_zeroed parts) (old i).head) (sym same) ∙ ap (option_map (parts_zeroed parts)) none
       by n none (inr other) = there n other ∙ none
 
   -- All of it did, and it is there.
-  pub emptied_true : (new number).head ≡ Some [] → AreObjectsTrue alone layout new (blanked number None (forgotten number o))
+  pub emptied_true : (new number).head ≡ Some [] → AreObjectsTrue alone layout new (blanked number None (made number o))
   emptied_true here = record {
-    absent = forgotten_true.absent;
+    absent = was_made.absent;
+    there = was_made.there;
     blank = λ a.
-        All-cons AreStillZeros (record { object = number; parts = None }) (forgotten number o).blank (subst (λ head. AreZeros layout head None) (sym here) (λ offset. refl)) (forgotten_true.blank a);
+        All-cons AreStillZeros (record { object = number; parts = None }) (made number o).blank (subst (λ head. AreZeros layout head None) (sym here) (λ offset. refl)) (was_made.blank a);
   }
+    where
+      was_made : AreObjectsTrue alone layout new (made number o)
+      was_made = made_true (ap is_some here)
 
   -- It went.
   pub removed_true : (new number).head ≡ None → AreObjectsTrue alone layout new (removed number o)
   removed_true here = record {
     absent = λ n gone. by n (number == n) refl gone;
+    there = λ n is. let (was, other) = absent_left number n o.there is in ap is_some (there n other) ∙ t.there n was;
     blank = λ a.
         All-cons AreStillZeros (record { object = number; parts = None }) o.blank (subst (λ head. AreZeros layout head None) (sym here) (none_is_zero layout None))
         (All-weaker WereZeros AreStillZeros (kept_zeros (λ places zeros. subst (λ head. AreZeros layout head places) (sym here) (none_is_zero layout places))) o.blank (t.blank a));
@@ -132,3 +167,9 @@ module _ (alone : Bool) (layout : Layout) (old new : ℕ → Mapped) (o : Object
       by : (n : ℕ) (b : Bool) → (number == n) ≡ b → cond b true (is_absent n o.absent) ≡ true → (new n).head ≡ None
       by n true same gone = ap (λ i. (new i).head) (sym (eqb-true number n same)) ∙ here
       by n false other gone = there n (λ same. true≢false (sym (eq-eqb number n (sym same)) ∙ other)) ∙ t.absent n gone
+
+-- An object was found.
+pub found_true : (alone : Bool) (layout : Layout) (objects : ℕ → Mapped) (o : ObjectsKnown) (number : ℕ) → AreObjectsTrue alone layout objects o → IsSome (objects number).head
+    → AreObjectsTrue alone layout objects (found number o)
+found_true alone layout objects o number t here =
+    record { absent = t.absent; there = found_there alone layout objects objects o number (λ n other. refl) t here; blank = t.blank }

@@ -1,6 +1,9 @@
 -- What is known of objects stays true under what is permitted to others.
-use Rattle.std.proofs.Common.{◌≡◌, ◌≢◌, inl, inr, ℕ, Option, Some, refl, sym, ap, ◌∙◌, subst, true≢false}
+use Rattle.std.proofs.Common.{◌≡◌, ◌≢◌, ◌⊎◌, inl, inr, ℕ, List, Option, Some, None, option_map, refl, sym, ap, ◌∙◌, subst, true≢false}
 use Rattle.std.specs.Prelude.{IsFalse, IsSome, is_some}
+use Rattle.std.proofs.lemmas.Bool.{cases_eq}
+use Rattle.rbd_kinds.specs.declared.answer.Answer.{Answer}
+use Rattle.rbd_kinds.specs.declared.answer.Answer.TheVariants as answer
 use Rattle.rbd_kinds.specs.declared.data_op.DataOp.{DataOp}
 use Rattle.rbd_kinds.specs.declared.data_op.DataOp.TheVariants as object
 use Rattle.rbd_kinds.specs.declared.header.HeaderView.{HeaderView}
@@ -11,21 +14,24 @@ use Rattle.rbd_kinds.specs.declared.operation.Op.{Op}
 use Rattle.rbd_kinds.specs.declared.operation.Op.TheVariants as op
 use Rattle.rbd_kinds.specs.declared.sharing.Sharing.{Sharing}
 use Rattle.rbd_object.specs.Mapped.{Mapped}
+use Rattle.rbd_parts.specs.Parts.{parts_zeroed}
 use Rattle.rbd_machine.specs.Knowledge.{Knowledge, objects_known_of}
 use Rattle.rbd_machine.specs.Permits.{Permits, PermitsOnObject, IsLeftOver, OwnsBy}
 use Rattle.rbd_machine.proofs.Together.{shared_both}
-use Rattle.rbd_site.specs.DataStep.{data_after}
+use Rattle.rbd_site.specs.DataStep.{data_after, data_answer, data_change, where_object_done}
 use Rattle.rbd_site.specs.Records.{Records, object_at, or_blank, put}
 use Rattle.rbd_site.specs.Step.{is_fenced, after, after_served}
 use Rattle.rbd_site.proofs.GenerationLemmas.{looked_at}
 use Rattle.rbd_stands.proofs.ObjectSteps.{put_there, put_elsewhere}
-use Rattle.rbd_interference.specs.Beside.{AreBeside, LeavesObject, MayAct}
+use Rattle.rbd_interference.specs.Beside.{AreBeside, BreaksNothing, MayAct}
 use Rattle.rbd_interference.specs.Truth.{AreObjectsTrue, IsTrueAt, is_alone_on, known_header, sharing_on}
+use Rattle.rbd_interference.specs.Turns.{KnowsAbsent, KnowsThere}
 use Rattle.rbd_interference.proofs.Each.{objects_alike}
 use Rattle.rbd_interference.proofs.Fenced.{after_free}
 use Rattle.rbd_interference.proofs.Headers.{unknown_while_waiting}
 use Rattle.rbd_interference.proofs.MapsBehind.{at_each}
 use Rattle.rbd_interference.proofs.MapsKept.{both_shared, known_apart}
+use Rattle.rbd_interference.proofs.Objects.{some_mapped}
 
 -- ---- the objects behind a change of one
 
@@ -51,18 +57,60 @@ module _ (site : SiteId) (r : Records) (k j : Knowledge) (me you : Instance) (t 
     abbrev objects_then : ℕ → Mapped
     objects_then = object_at (after_served r you (op.Data image number o)) image
 
-    -- where another owns the image too
-    owned_beside : (condition : Sharing → HeaderView → Type 0) → OwnsBy j site image condition → LeavesObject site image number r you me j k → AreObjects image objects_then
-    owned_beside condition owns may h known =
+    abbrev head_before : Option (List ℕ)
+    head_before = (object_at r image number).head
+
+    abbrev head_then : Option (List ℕ)
+    head_then = (objects_then number).head
+
+    heads_then : (n : ℕ) → n ≢ number → (objects_then n).head ≡ (object_at r image n).head
+    heads_then n other = ap (λ (m : Mapped). m.head) (other_object r you image number o n other)
+
+    -- the object is as it was, or changed
+    head_either : (Q : Option (List ℕ) → Type 0) → Q head_before → Q (data_change (object_at r image number) o).head → Q head_then
+    head_either Q was changed = subst (λ (m : Mapped). Q m.head) (sym (changed_object r you image number o)) (by (data_answer (r.objects image number) o))
+      where
+        by : (a : Answer) → Q (or_blank (where_object_done a (data_change (object_at r image number) o) (r.objects image number))).head
+        by answer.Done = changed
+        by _ = was
+
+    -- Where another owns the image too: what the operation may break isn't known.
+    owned_beside : (condition : Sharing → HeaderView → Type 0) → OwnsBy j site image condition
+        → (IsSome (known_header k site image) → (n : ℕ) → KnowsAbsent k site image n → (n ≡ number → ⊥) ⊎ (head_before ≡ None → head_then ≡ None))
+        → (IsSome (known_header k site image) → (n : ℕ) → KnowsThere k site image n → (n ≡ number → ⊥) ⊎ (IsSome head_before → IsSome head_then)) → AreObjects image objects_then
+    owned_beside condition owns absent there h known =
         let some : IsSome (known_header k site image) = ap is_some known in
         let was = t.objects free image h known in
         let shared = (shared_both (sharing_on k site image) (sharing_on j site image) (both_shared site r k j me you t u beside free served image condition owns some)).0 in
         record {
-          absent = λ n gone.
-              ap (λ (m : Mapped). m.head)
-              (other_object r you image number o n (known_apart site r k j me you t u beside free served image condition owns number may some n (inr gone))) ∙ was.absent n gone;
+          absent = λ n gone. kept (λ head. head ≡ None) n (absent some n (inl gone)) (was.absent n gone);
+          there = λ n is. kept IsSome n (there some n is) (was.there n is);
           blank = λ alone. absurd (true≢false (sym alone ∙ shared));
         }
+      where
+        kept : (P : Option (List ℕ) → Type 0) (n : ℕ) → (n ≡ number → ⊥) ⊎ (P head_before → P head_then) → P (object_at r image n).head → P (objects_then n).head
+        kept P n either was = by either (cases_eq n number)
+          where
+            by : (n ≡ number → ⊥) ⊎ (P head_before → P head_then) → (n ≡ number) ⊎ (n ≢ number) → P (objects_then n).head
+            by either (inr other) = subst P (sym (heads_then n other)) was
+            by (inl differs) (inl same) = absurd (differs same)
+            by (inr keeps) (inl same) = subst (λ i. P (objects_then i).head) (sym same) (keeps (subst (λ i. P (object_at r image i).head) same was))
+
+    -- by one that breaks what is absent: the object is there then
+    made_beside : (condition : Sharing → HeaderView → Type 0) → OwnsBy j site image condition → BreaksNothing site image r you me j k (KnowsAbsent k site image number) → (IsSome head_before → IsSome head_then)
+        → AreObjects image objects_then
+    made_beside condition owns may stays =
+        owned_beside condition owns (λ some n gone. inl (known_apart site r k j me you t u beside free served image condition owns number (KnowsAbsent k site image) may some n gone)) (λ some n is. inr stays)
+
+    -- by one that breaks what is there
+    removed_beside : (condition : Sharing → HeaderView → Type 0) → OwnsBy j site image condition → BreaksNothing site image r you me j k (KnowsThere k site image number) → (head_before ≡ None → head_then ≡ None)
+        → AreObjects image objects_then
+    removed_beside condition owns may stays =
+        owned_beside condition owns (λ some n gone. inr stays) (λ some n is. inl (known_apart site r k j me you t u beside free served image condition owns number (KnowsThere k site image) may some n is))
+
+    -- and by one that breaks neither
+    zeroed_beside : (condition : Sharing → HeaderView → Type 0) → OwnsBy j site image condition → (head_before ≡ None → head_then ≡ None) → (IsSome head_before → IsSome head_then) → AreObjects image objects_then
+    zeroed_beside condition owns absent there = owned_beside condition owns (λ some n gone. inr absent) (λ some n is. inr there)
 
     left_beside : IsLeftOver j site image → AreObjects image objects_then
     left_beside left h known = absurd (unknown_while_waiting site r me k image t free (ap is_some known) (u.gone image left.gone).header)
@@ -76,10 +124,11 @@ module _ (site : SiteId) (r : Records) (k j : Knowledge) (me you : Instance) (t 
       objects_alike (is_alone_on k site i) h.layout (object_at r i) (object_at (after_served r you (op.Data image number o)) i) (objects_known_of k.objects site i)
       (λ n. ap (λ (m : Mapped). m.head) (other_image r you image number o i n other)) (t.objects free i h known))
 
-  removal_kept : IsFalse (is_fenced r me) → IsFalse (is_fenced r you) → (image number : ℕ) (context : SnapContext) → PermitsOnObject j site image number (object.Remove context) → LeavesObject site image number r you me j k
+  removal_kept : IsFalse (is_fenced r me) → IsFalse (is_fenced r you) → (image number : ℕ) (context : SnapContext) → PermitsOnObject j site image number (object.Remove context) → BreaksNothing site image r you me j k (KnowsThere k site image number)
       → AreObjects image (object_at (after_served r you (op.Data image number (object.Remove context))) image)
   removal_kept free served image number context (inl left) may = left_beside free served image number (object.Remove context) left
-  removal_kept free served image number context (inr owns) may = owned_beside free served image number (object.Remove context) _ owns may
+  removal_kept free served image number context (inr owns) may =
+      removed_beside free served image number (object.Remove context) _ owns may (λ none. head_either free served image number (object.Remove context) (λ head. head ≡ None) none refl)
 
   data_kept : IsFalse (is_fenced r me) → (image number : ℕ) (o : DataOp) → PermitsOnObject j site image number o → MayAct site r you me j k (op.Data image number o) → (i : ℕ) → AreObjects i (object_at (after r you (op.Data image number o)) i)
   data_kept free image number (object.Read snap parts) permits may i =
@@ -87,16 +136,22 @@ module _ (site : SiteId) (r : Records) (k j : Knowledge) (me you : Instance) (t 
   data_kept free image number (object.Write context must parts bytes) permits may i =
       after_free (λ s. AreObjects i (object_at s i)) r you (op.Data image number (object.Write context must parts bytes)) (t.objects free i)
       (λ served. each_image free image number (object.Write context must parts bytes)
-      (owned_beside free served image number (object.Write context must parts bytes) _ permits may) i)
+      (made_beside free served image number (object.Write context must parts bytes) _ permits may
+      (λ was. head_either free served image number (object.Write context must parts bytes) IsSome was refl)) i)
   data_kept free image number (object.WriteFull context bytes) permits may i =
       after_free (λ s. AreObjects i (object_at s i)) r you (op.Data image number (object.WriteFull context bytes)) (t.objects free i)
-      (λ served. each_image free image number (object.WriteFull context bytes) (owned_beside free served image number (object.WriteFull context bytes) _ permits may) i)
+      (λ served. each_image free image number (object.WriteFull context bytes)
+      (made_beside free served image number (object.WriteFull context bytes) _ permits may (λ was. head_either free served image number (object.WriteFull context bytes) IsSome was refl)) i)
   data_kept free image number (object.Zero context must parts) permits may i =
       after_free (λ s. AreObjects i (object_at s i)) r you (op.Data image number (object.Zero context must parts)) (t.objects free i)
-      (λ served. each_image free image number (object.Zero context must parts) (owned_beside free served image number (object.Zero context must parts) _ permits may) i)
+      (λ served. each_image free image number (object.Zero context must parts)
+      (zeroed_beside free served image number (object.Zero context must parts) _ permits
+      (λ none. head_either free served image number (object.Zero context must parts) (λ head. head ≡ None) none (ap (option_map (parts_zeroed parts)) none))
+      (λ was. head_either free served image number (object.Zero context must parts) IsSome was (some_mapped (parts_zeroed parts) (object_at r image number).head was))) i)
   data_kept free image number (object.Empty context) permits may i =
       after_free (λ s. AreObjects i (object_at s i)) r you (op.Data image number (object.Empty context)) (t.objects free i)
-      (λ served. each_image free image number (object.Empty context) (owned_beside free served image number (object.Empty context) _ permits may) i)
+      (λ served. each_image free image number (object.Empty context)
+      (made_beside free served image number (object.Empty context) _ permits may (λ was. head_either free served image number (object.Empty context) IsSome was refl)) i)
   data_kept free image number (object.Remove context) permits may i =
       after_free (λ s. AreObjects i (object_at s i)) r you (op.Data image number (object.Remove context)) (t.objects free i)
       (λ served. each_image free image number (object.Remove context) (removal_kept free served image number context permits may) i)

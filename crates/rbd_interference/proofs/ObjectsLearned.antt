@@ -1,6 +1,6 @@
 -- What a request learns of objects by its own changes is true.
 use Rattle.std.proofs.Common.{◌≡◌, ◌≢◌, inl, inr, ℕ, cond, Bool, true, false, List, ◌∷◌, Option, Some, None, refl, sym, ap, ◌∙◌, subst, arith, true≢false}
-use Rattle.std.specs.Prelude.{All, IsFalse}
+use Rattle.std.specs.Prelude.{All, IsFalse, IsSome, is_some}
 use Rattle.std.proofs.lemmas.List.Elements.{All-weaker}
 use Rattle.std.proofs.lemmas.Option.{same_Some}
 use Rattle.rbd_kinds.specs.declared.answer.Answer.{Answer}
@@ -19,7 +19,7 @@ use Rattle.rbd_kinds.proofs.Images.{at_itself}
 use Rattle.rbd_layout.specs.Pieces.{IsPart}
 use Rattle.rbd_object.specs.Mapped.{Mapped, versioned}
 use Rattle.rbd_object.specs.Versioned.{view}
-use Rattle.rbd_machine.specs.Knowledge.{ImageObjects, Knowledge, ObjectsKnown, blanked, forgotten, is_drawn, learned_of_object, objects_known_of, removed}
+use Rattle.rbd_machine.specs.Knowledge.{ImageObjects, Knowledge, ObjectsKnown, blanked, found, found_where, is_drawn, keeps_object, learned_of_object, made, objects_known_of, own_of, removed, with_objects_where}
 use Rattle.rbd_machine.specs.Permits.{PermitsOnObject, LiesBelow, MayZero, OwnsBy}
 use Rattle.rbd_site.specs.DataStep.{data_after, data_answer, data_change, finds, parts_read, where_object_done}
 use Rattle.rbd_site.specs.Found.{done_where}
@@ -28,11 +28,11 @@ use Rattle.rbd_site.specs.Records.{Records, object_at, or_blank}
 use Rattle.rbd_site.specs.Step.{is_fenced, after_served, answer_served}
 use Rattle.rbd_site.proofs.TrimLemmas.{with_object_same}
 use Rattle.rbd_stands.proofs.DataSteps.{done_after}
-use Rattle.rbd_interference.specs.Truth.{AreObjectsTrue, IsTrueAt, is_alone_on, known_header, sharing_on}
+use Rattle.rbd_interference.specs.Truth.{AreObjectsTrue, IsTrueAt, IsWaiting, is_alone_on, known_header, sharing_on}
 use Rattle.rbd_interference.proofs.Each.{IsTrueOfImage, each_true}
 use Rattle.rbd_interference.proofs.Headers.{find_there, not_waiting, own_known, same_layout}
 use Rattle.rbd_interference.proofs.MapsLearned.{at_no_other}
-use Rattle.rbd_interference.proofs.Objects.{emptied_true, forgotten_true, removed_true, zeroed_true}
+use Rattle.rbd_interference.proofs.Objects.{emptied_true, found_true, made_true, removed_true, zeroed_true}
 use Rattle.rbd_interference.proofs.ObjectsKept.{changed_object, other_image, other_object}
 use Rattle.rbd_interference.proofs.Seen.{seen_there}
 
@@ -58,11 +58,11 @@ module _ (site : SiteId) (r : Records) (me : Instance) (k : Knowledge) (most : �
   abbrev doing : DataOp → Records
   doing o = after_served r me (op.Data image number o)
 
-  -- by a change of one of them
-  told_true : (o : DataOp) (now : ObjectsKnown) → (is_drawn k.drawn site image ≡ true → ⊥)
+  -- by an operation on one of them
+  known_true : (o : DataOp) (now : ObjectsKnown) → (is_drawn k.drawn site image ≡ true → IsWaiting (doing o) image)
       → ((h : HeaderView) → known_header k site image ≡ Some h → AreObjectsTrue (is_alone_on k site image) h.layout (object_at (doing o) image) now)
       → IsTrueAt site (doing o) me (told now)
-  told_true o now undrawn here =
+  known_true o now waits here =
       each_true site r (doing o) me k (told now) image t (λ f. f) t.fenced it
       (λ i other. record { own = refl; drawn = refl; maps = refl; objects = told_of_others site image now k.objects i other; gone = refl; seen = refl })
       (λ i other. record { header = refl; maps = refl; objects = λ n. other_image r me image number o i n other; drawn = omega arith })
@@ -73,7 +73,7 @@ module _ (site : SiteId) (r : Records) (me : Instance) (k : Knowledge) (most : �
       it : IsTrueOfImage site (doing o) me (told now) image
       it = record {
         owned = λ f. t.owned free image;
-        drawn = λ drawn. absurd (undrawn drawn);
+        drawn = waits;
         mapped = λ f. t.mapped free image;
         objects = λ f h known. subst (AreObjectsTrue (is_alone_on k site image) h.layout (object_at (doing o) image)) (sym is) (here h known);
         gone = λ gone. let g = t.gone image gone in record { drawn = g.drawn; header = g.header };
@@ -82,6 +82,12 @@ module _ (site : SiteId) (r : Records) (me : Instance) (k : Knowledge) (most : �
         seen = λ h among. seen_there r (doing o) image h refl (omega arith) (t.seen image h among);
         strange = t.strange image;
       }
+
+  -- by a change
+  told_true : (o : DataOp) (now : ObjectsKnown) → (is_drawn k.drawn site image ≡ true → ⊥)
+      → ((h : HeaderView) → known_header k site image ≡ Some h → AreObjectsTrue (is_alone_on k site image) h.layout (object_at (doing o) image) now)
+      → IsTrueAt site (doing o) me (told now)
+  told_true o now undrawn here = known_true o now (λ drawn. absurd (undrawn drawn)) here
 
   -- what isn't done leaves all as it is
   refused : (o : DataOp) → data_after (r.objects image number) o ≡ r.objects image number → IsTrueAt site (doing o) me k
@@ -101,10 +107,10 @@ module _ (site : SiteId) (r : Records) (me : Instance) (k : Knowledge) (most : �
     undrawn : is_drawn k.drawn site image ≡ true → ⊥
     undrawn drawn = not_waiting site r me k image condition t free owns (t.drawn image drawn).header
 
-    overwritten : (o : DataOp) → IsTrueAt site (doing o) me (told (forgotten number known_of_it))
-    overwritten o =
-        told_true o (forgotten number known_of_it) undrawn
-        (λ h known. forgotten_true (is_alone_on k site image) h.layout (object_at r image) (object_at (doing o) image) known_of_it number (heads_there o) (t.objects free image h known))
+    overwritten : (o : DataOp) → IsSome (object_at (doing o) image number).head → IsTrueAt site (doing o) me (told (made number known_of_it))
+    overwritten o some =
+        told_true o (made number known_of_it) undrawn
+        (λ h known. made_true (is_alone_on k site image) h.layout (object_at r image) (object_at (doing o) image) known_of_it number (heads_there o) (t.objects free image h known) some)
 
     -- the layout of the header that is known is one
     laid : (h : HeaderView) → known_header k site image ≡ Some h → IsLayout h.layout
@@ -112,16 +118,16 @@ module _ (site : SiteId) (r : Records) (me : Instance) (k : Knowledge) (most : �
         let there = find_there (sharing_on k site image) (known_header k site image) (r.headers image) h known (t.owned free image) in
         same_layout (sharing_on k site image) h there.view there.still (form.form image there.view there.is).layout
 
-    zeroed : (context : SnapContext) (must : Bool) (parts : List Part) → ((h : HeaderView) → known_header k site image ≡ Some h → All (IsPart h.layout number) parts)
-        → data_answer (r.objects image number) (object.Zero context must parts) ≡ answer.Done → IsTrueAt site (doing (object.Zero context must parts)) me (told (blanked number (Some parts) known_of_it))
-    zeroed context must parts lie done =
-        told_true (object.Zero context must parts) (blanked number (Some parts) known_of_it) undrawn
+    zeroed : (context : SnapContext) (must : Bool) (parts : List Part) → (must ≡ true → IsSome (object_at r image number).head) → ((h : HeaderView) → known_header k site image ≡ Some h → All (IsPart h.layout number) parts)
+        → data_answer (r.objects image number) (object.Zero context must parts) ≡ answer.Done → IsTrueAt site (doing (object.Zero context must parts)) me (told (blanked number (Some parts) (found_where must number known_of_it)))
+    zeroed context must parts found lie done =
+        told_true (object.Zero context must parts) (blanked number (Some parts) (found_where must number known_of_it)) undrawn
         (λ h known. zeroed_true (is_alone_on k site image) h.layout (object_at r image) (object_at (doing (object.Zero context must parts)) image) known_of_it number
-        (heads_there (object.Zero context must parts)) (t.objects free image h known) (laid h known) parts (lie h known) (head_then (object.Zero context must parts) done))
+        (heads_there (object.Zero context must parts)) (t.objects free image h known) (laid h known) must parts found (lie h known) (head_then (object.Zero context must parts) done))
 
-    emptied : (context : SnapContext) → IsTrueAt site (doing (object.Empty context)) me (told (blanked number None (forgotten number known_of_it)))
+    emptied : (context : SnapContext) → IsTrueAt site (doing (object.Empty context)) me (told (blanked number None (made number known_of_it)))
     emptied context =
-        told_true (object.Empty context) (blanked number None (forgotten number known_of_it)) undrawn
+        told_true (object.Empty context) (blanked number None (made number known_of_it)) undrawn
         (λ h known. emptied_true (is_alone_on k site image) h.layout (object_at r image) (object_at (doing (object.Empty context)) image) known_of_it number
         (heads_there (object.Empty context)) (t.objects free image h known) (head_then (object.Empty context) refl))
 
@@ -142,14 +148,20 @@ module _ (site : SiteId) (r : Records) (me : Instance) (k : Knowledge) (most : �
   written context must parts bytes condition owns false is =
       refused (object.Write context must parts bytes)
       (ap (λ b. where_object_done (done_where b) (data_change (object_at r image number) (object.Write context must parts bytes)) (r.objects image number)) is)
-  written context must parts bytes condition owns true is = overwritten condition owns (object.Write context must parts bytes)
+  written context must parts bytes condition owns true is =
+      overwritten condition owns (object.Write context must parts bytes) (ap is_some (head_then (object.Write context must parts bytes) (ap done_where is)))
+
+  -- a change that must find the object found it
+  must_find : (must : Bool) → finds must (object_at r image number) ≡ true → must ≡ true → IsSome (object_at r image number).head
+  must_find true is same = is
+  must_find false is same = absurd (true≢false (sym same))
 
   zeros : (context : SnapContext) (must : Bool) (parts : List Part) (owns : OwnsBy k site image (MayZero k.turn number context parts))
       → (found : Bool) → finds must (object_at r image number) ≡ found → Teaches (object.Zero context must parts) (done_where found)
   zeros context must parts owns false is =
       refused (object.Zero context must parts)
       (ap (λ b. where_object_done (done_where b) (data_change (object_at r image number) (object.Zero context must parts)) (r.objects image number)) is)
-  zeros context must parts owns true is = zeroed _ owns context must parts lie (ap done_where is)
+  zeros context must parts owns true is = zeroed _ owns context must parts (must_find must is) lie (ap done_where is)
     where
       lie : (h : HeaderView) → known_header k site image ≡ Some h → All (IsPart h.layout number) parts
       lie h known =
@@ -160,18 +172,37 @@ module _ (site : SiteId) (r : Records) (me : Instance) (k : Knowledge) (most : �
   removal context (inl left) = gone context (λ drawn. true≢false (sym drawn ∙ t.apart image left.gone))
   removal context (inr owns) = gone context (undrawn _ owns)
 
-  pub object_taught : (o : DataOp) → PermitsOnObject k site image number o → Teaches o (answer_served r me (op.Data image number o))
-  object_taught (object.Read snap parts) permits = read (view (versioned (object_at r image number)) snap)
+  -- a read leaves all as it is
+  looked : (snap : Option ℕ) (parts : List Part) → data_after (r.objects image number) (object.Read snap parts) ≡ r.objects image number
+  looked snap parts = same (view (versioned (object_at r image number)) snap)
     where
       same : (content : Option (List ℕ)) → where_object_done (parts_read parts content) (object_at r image number) (r.objects image number) ≡ r.objects image number
       same None = refl
       same (Some bytes) = refl
 
-      read : (content : Option (List ℕ)) → Teaches (object.Read snap parts) (parts_read parts content)
-      read None = refused (object.Read snap parts) (same (view (versioned (object_at r image number)) snap))
-      read (Some bytes) = refused (object.Read snap parts) (same (view (versioned (object_at r image number)) snap))
+  -- the object is there
+  shown : (parts : List Part) → IsSome (object_at r image number).head → IsTrueAt site (doing (object.Read None parts)) me (told (found number known_of_it))
+  shown parts some =
+      known_true (object.Read None parts) (found number known_of_it) (λ drawn. subst (λ s. IsWaiting s image) (sym there) (t.drawn image drawn))
+      (λ h known. subst (λ s. AreObjectsTrue (is_alone_on k site image) h.layout (object_at s image) (found number known_of_it)) (sym there)
+      (found_true (is_alone_on k site image) h.layout (object_at r image) known_of_it number (t.objects free image h known) some))
+    where
+      there : doing (object.Read None parts) ≡ r
+      there = with_object_same image number (data_after (r.objects image number) (object.Read None parts)) r (looked None parts)
+
+  shown_where : (counts : Bool) (parts : List Part) → IsSome (object_at r image number).head → IsTrueAt site (doing (object.Read None parts)) me (with_objects_where counts site image (found number) k)
+  shown_where true parts some = shown parts some
+  shown_where false parts some = refused (object.Read None parts) (looked None parts)
+
+  read : (snap : Option ℕ) (parts : List Part) (content : Option (List ℕ)) → view (versioned (object_at r image number)) snap ≡ content → Teaches (object.Read snap parts) (parts_read parts content)
+  read snap parts None is = refused (object.Read snap parts) (looked snap parts)
+  read (Some t) parts (Some bytes) is = refused (object.Read (Some t) parts) (looked (Some t) parts)
+  read None parts (Some bytes) is = shown_where (keeps_object (own_of k.owns site image) k.turn number) parts (ap is_some is)
+
+  pub object_taught : (o : DataOp) → PermitsOnObject k site image number o → Teaches o (answer_served r me (op.Data image number o))
+  object_taught (object.Read snap parts) permits = read snap parts (view (versioned (object_at r image number)) snap) refl
   object_taught (object.Write context must parts bytes) permits = written context must parts bytes _ permits (finds must (object_at r image number)) refl
-  object_taught (object.WriteFull context bytes) permits = overwritten _ permits (object.WriteFull context bytes)
+  object_taught (object.WriteFull context bytes) permits = overwritten _ permits (object.WriteFull context bytes) (ap is_some (head_then (object.WriteFull context bytes) refl))
   object_taught (object.Zero context must parts) permits = zeros context must parts permits (finds must (object_at r image number)) refl
   object_taught (object.Empty context) permits = emptied _ permits context
   object_taught (object.Remove context) permits = removal context permits

@@ -1,5 +1,5 @@
 -- Lists of states: one that is set, one that is told in bits, and one that was lengthened.
-use Rattle.std.proofs.Common.{◌≡◌, ◌≢◌, ◌⊎◌, inl, inr, ℕ, ◌+◌, ◌-◌, ◌*◌, ◌/◌, ◌<◌, ◌≤◌, ◌==◌, Bool, true, false, cond, not, List, [], ◌∷◌, filter, length, get_or, replicate, set, unwrap_or, Option, Some, None, option_map, refl, sym, ap, ◌∙◌, subst, arith, length-append}
+use Rattle.std.proofs.Common.{◌≡◌, ◌≢◌, ◌⊎◌, inl, inr, ℕ, suc, ◌+◌, ◌-◌, ◌*◌, ◌/◌, ◌<◌, ◌≤◌, ◌==◌, Bool, true, false, cond, not, List, [], ◌∷◌, filter, length, get_or, replicate, set, unwrap_or, Option, Some, None, option_map, refl, sym, ap, ◌∙◌, subst, arith, length-append}
 use Rattle.std.proofs.lemmas.Bool.{cases_eq, cases_lt, eq-eqb, eqb-true, ne_eqb, true≢false}
 use Rattle.std.proofs.lemmas.Option.{same_Some}
 use Rattle.std.proofs.lemmas.List.{get_or_append_left, get_or-append_right, get_or_past, get_or-replicate, get_or-set_same, get_or-set_other, length-replicate, length-set}
@@ -21,6 +21,16 @@ raised_now states object state within raises zeroed = let e = get_or-set_same st
 pub set_elsewhere : (map : Option (List ℕ)) (object state n : ℕ) → n ≢ object → map_state_in map n ≢ 0 → map_state_in (option_map (λ states. set states object state) map) n ≢ 0
 set_elsewhere None object state n other was = was
 set_elsewhere (Some states) object state n other was = λ zeroed. was (sym (get_or-set_other states object n state 0 other) ∙ zeroed)
+
+-- and a state that isn't 0 leaves none that is
+pub set_above : (map : Option (List ℕ)) (object state n : ℕ) → map_state_in map n ≢ 0 → map_state_in (option_map (λ states. set states object (suc state)) map) n ≢ 0
+set_above None object state n was = was
+set_above (Some states) object state n was = by (cases_eq n object) (cases_lt object (length states))
+  where
+    by : (n ≡ object) ⊎ (n ≢ object) → (object < length states) ⊎ (length states ≤ object) → get_or (set states object (suc state)) n 0 ≢ 0
+    by (inl same) (inl within) = λ zeroed. raised_now states object (suc state) within (omega arith) (ap (λ i. get_or (set states object (suc state)) i 0) (sym same) ∙ zeroed)
+    by (inl same) (inr past) = λ zeroed. was (ap (λ i. get_or states i 0) same ∙ get_or_past states object 0 past)
+    by (inr other) within = set_elsewhere (Some states) object (suc state) n other was
 
 -- what wasn't 0 isn't
 pub raised_still : (states : List ℕ) (object state n : ℕ) → object < length states → 0 < state → get_or states n 0 ≢ 0 → get_or (set states object state) n 0 ≢ 0

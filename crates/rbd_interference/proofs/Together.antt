@@ -22,7 +22,7 @@ use Rattle.rbd_kinds.specs.declared.sharing.Sharing.TheVariants.{Alone}
 use Rattle.rbd_kinds.specs.Sharing.{go_together}
 use Rattle.rbd_header.specs.Header.{with_size, with_snap, without_snap}
 use Rattle.rbd_machine.specs.Ancestors.{has_seen, seen_by, told_by}
-use Rattle.rbd_machine.specs.Knowledge.{Fence, ImageMaps, ImageObjects, Knowledge, Own, afresh, first_told, header_told, is_at, is_drawn, is_gone, learned, learned_of_directory, learned_of_header, learned_of_listing, learned_of_map, learned_of_object, learned_own, owns_without, looked_behind, looked_by, looked_under_lock, maps_told, only_there, own_of, known_after_wait, removed_header, same_site, unfenced, with_drawn, without_drawn}
+use Rattle.rbd_machine.specs.Knowledge.{Fence, ImageMaps, ImageObjects, Knowledge, Own, afresh, first_told, found, header_told, is_at, is_drawn, is_gone, knows_head, learned, learned_of_directory, learned_of_header, learned_of_listing, learned_of_map, learned_of_object, learned_own, owns_without, looked_behind, looked_by, looked_under_lock, maps_told, only_there, own_of, known_after_wait, removed_header, same_site, unfenced, with_drawn, with_objects_where, without_drawn}
 use Rattle.rbd_machine.specs.Permits.{Permits, PermitsOnHeader, HoldsUnlooked, OwnsAlone}
 use Rattle.rbd_machine.specs.Wait.{Wait}
 use Rattle.rbd_registry.specs.Directory.{id_of}
@@ -161,7 +161,13 @@ module _ (site : SiteId) (r : Records) (me you : Instance) (k j : Knowledge) (be
   object_beside : (image number : ℕ) (o : DataOp) (a : Answer) → AreBeside site r me you (learned_of_object k site image number o a) j
   object_beside image number (object.Write context must parts bytes) answer.Done = objects_beside _
   object_beside image number (object.WriteFull context bytes) answer.Done = objects_beside _
+  object_beside image number (object.Read snap parts) a = by (knows_head k site image number snap a)
+    where
+      by : (counts : Bool) → AreBeside site r me you (with_objects_where counts site image (found number) k) j
+      by true = objects_beside _
+      by false = beside
   object_beside image number (object.CopyUp bytes) answer.Done = objects_beside _
+  object_beside image number (object.CopyUp bytes) answer.Exists = objects_beside _
   object_beside image number (object.Zero context must parts) answer.Done = objects_beside _
   object_beside image number (object.Empty context) answer.Done = objects_beside _
   object_beside image number (object.Remove context) answer.Done = objects_beside _

@@ -15,7 +15,7 @@ use Rattle.rbd_kinds.specs.Sharing.{is_alone}
 use Rattle.rbd_object.specs.Mapped.{Mapped, mapped_blank}
 use Rattle.rbd_flat.specs.Flat.{Flat, after}
 use Rattle.rbd_flat.specs.declared.effect.Effect.{Effect}
-use Rattle.rbd_machine.specs.Knowledge.{Knowledge, MapsKnown, ObjectsKnown, Own, own_of, is_absent, is_drawn, is_fenced_by, is_gone, is_raised, maps_of, objects_known_of}
+use Rattle.rbd_machine.specs.Knowledge.{Knowledge, MapsKnown, ObjectsKnown, Own, own_of, is_absent, is_drawn, is_fenced_by, is_gone, is_raised, is_there, maps_of, objects_known_of}
 use Rattle.rbd_machine.specs.Permits.{HasRoomFor}
 use Rattle.rbd_machine.specs.Possible.{IsStillAs}
 use Rattle.rbd_machine.specs.Standalone.{IsStandalone}
@@ -122,10 +122,12 @@ AreZeros layout head None = (offset : ℕ) → slice_index (unwrap_or head []) o
 AreZeros layout head (Some parts) = (x : ℕ) → Any (IsIn x) parts → slice_index (unwrap_or head []) (offset_of layout x)
     ≡ 0
 
--- What is known of an image's objects is true: one that the request removed isn't there. A request
--- that is alone on the image knows that what it zeroed is still zero.
+-- What is known of an image's objects is true: one that the request removed isn't there, and one
+-- that it changed or read is. A request that is alone on the image knows that what it zeroed is still
+-- zero.
 pub record AreObjectsTrue (alone : Bool) (layout : Layout) (objects : ℕ → Mapped) (o : ObjectsKnown) : Type 0 where
   pub absent : (number : ℕ) → is_absent number o.absent ≡ true → (objects number).head ≡ None
+  pub there : (number : ℕ) → is_there number o.there ≡ true → IsSome (objects number).head
   pub blank : alone ≡ true → All (λ b. AreZeros layout (objects b.object).head b.parts) o.blank
 
 -- ---- ids

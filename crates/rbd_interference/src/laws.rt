@@ -32,7 +32,7 @@ ghost use Rattle.rbd_stands.specs.Effect.{effect_of};
 ghost use Rattle.rbd_stands.specs.Shown.{snapshots_of};
 ghost use Rattle.rbd_stands.specs.Site.{StandsFor};
 ghost use Rattle.rbd_interference.specs.Ancestors.{AreSeenTrue, AreToldTrue, DrewNoneOf, HasReadTruly};
-ghost use Rattle.rbd_interference.specs.Beside.{AreBeside, AreUnfenced, LeavesObject, MayAct};
+ghost use Rattle.rbd_interference.specs.Beside.{AreBeside, AreUnfenced, BreaksNothing, MayAct};
 ghost use Rattle.rbd_interference.specs.Locks.{HasLockWhileFree, KnowsByLock, gives_up};
 ghost use Rattle.rbd_stands.specs.Owned.{HasLock};
 ghost use Rattle.rbd_interference.specs.Truth.{AreMapped, AreRanked, IsTrueAt, AreStandalone, changed_by, known_header};
@@ -199,8 +199,9 @@ pub fn requests_stay_beside()
         → AreBeside site r you me j k }
 {}
 
-/// A request that isn't alone on an image knows of an object only in its turn there, and nothing
-/// more once it waited for another turn, or for its event to count as applied.
+/// A request that isn't alone on an image knows of an object only in its turn there, unless it is a
+/// flatten, and nothing more once it waited for another turn, or for its event to count as applied.
+/// Who knows that an object isn't there, or of zeros that it made, is one that makes zeros.
 pub fn objects_are_known_in_their_turn()
     ensures first { KnowsInTurn nothing_known }
     ensures answered { (site : Site) (k : Knowledge) (op : Op) (answer : Answer) → KnowsInTurn k → Permits k site op
@@ -245,7 +246,8 @@ pub fn a_lock_has_one_owner()
     ensures drops { (site : Site) (r : Records) (me you : Instance) (k j : Knowledge) (image : ℕ)
         → me ≢ you → KnowsByLock site r you j → MayAct site r me you k j (on.Header image header.LockDrop) }
     ensures changes { (site : Site) (r : Records) (me you : Instance) (k j : Knowledge) (image object : ℕ)
-        → me ≢ you → KnowsByLock site r me k → KnowsByLock site r you j → LeavesObject site image object r me you k j }
+        → me ≢ you → KnowsByLock site r me k → KnowsByLock site r you j
+        → BreaksNothing site image r me you k j (KnowsOf j site image object) }
 {}
 
 /// A lock that was taken is its owner's until the owner gives it up or is fenced: nobody else ends

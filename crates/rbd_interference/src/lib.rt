@@ -45,12 +45,15 @@
 //!   was removed by both. Nor did one draw the id of an image whose header the other was told. The
 //!   line of an image sees to the first within a session (`rbd_queue`), and the lock between clients.
 //! - Only where it is so may a request look at its image's header the first time under the lock, or
-//!   give the lock up. It may change an object, or its state in the head's map, only where the
-//!   other knows nothing of that object. This is what one may do beside another (`MayAct`). All
-//!   else keeps two requests beside each other.
+//!   give the lock up. It may change an object, or its state in the head's map, only where that
+//!   breaks nothing which the other knows. A removal breaks that the object is there; what writes
+//!   bytes, or leaves the object without any, that it isn't there, or that places of it are zeros;
+//!   a state of 0, that the state was raised. This is what one may do beside another (`MayAct`).
+//!   All else keeps two requests beside each other.
 //! - Who isn't alone on an image knows of an object only in its turn there, and nothing once it
 //!   waited for the next. So in its turn the others know nothing of the object: they had theirs
-//!   before, or wait for it.
+//!   before, or wait for it. A flatten takes no turns, and needs each object that is there: it goes
+//!   beside none that makes zeros, removes an object or sets its state to 0.
 //!
 //! State 0 of an object map means that the object is absent, whatever happens. That a greater state
 //! means that it is there holds as long as nobody is stopped or fenced. A request raises an

@@ -21,7 +21,6 @@ use Rattle.rbd_knowledge.specs.Truth.{IsTrueOf}
 use Rattle.rbd_knowledge.proofs.HeadersOwned.{known_is_past, knows_by_lock}
 use Rattle.rbd_knowledge.proofs.Permitted.{asked_at}
 use Rattle.rbd_knowledge.proofs.Ways.{way_acts}
-use Rattle.rbd_kinds.specs.declared.data_op.DataOp.TheVariants as object
 use Rattle.rbd_kinds.specs.declared.header_op.HeaderOp.TheVariants as header
 use Rattle.rbd_kinds.specs.declared.map_op.MapOp.TheVariants as states
 use Rattle.rbd_kinds.specs.declared.id.Instance.{Instance}
@@ -44,10 +43,10 @@ use Rattle.rbd_lock.specs.declared.acquire.Acquire.{Acquire}
 use Rattle.rbd_lock.specs.declared.release.Release.{Release}
 use Rattle.rbd_lock.specs.declared.release.Stage.{Stage as ReleaseStage}
 use Rattle.rbd_lock.specs.declared.release.Stage.TheVariants as dropping
-use Rattle.rbd_interference.specs.Beside.{MayAct}
+use Rattle.rbd_interference.specs.Beside.{Breaks, Lowers, MayAct}
 use Rattle.rbd_interference.specs.Locks.{KnowsByLock}
 use Rattle.rbd_interference.specs.Truth.{header_of_own, known_header}
-use Rattle.rbd_interference.proofs.Locks.{changes_by_lock, shares_by_lock}
+use Rattle.rbd_interference.proofs.Locks.{breaks_by_lock, shares_by_lock}
 use Rattle.rbd_slots.specs.declared.running.Running.{Running}
 use Rattle.rbd_slots.specs.Advance.{track_of}
 use Rattle.rbd_slots.specs.Lines.{lines_of}
@@ -152,9 +151,9 @@ module _ {R : Type 0} (stands : R → Standing) (c : ClientView R) (knows : ℕ 
     request_apart slot (op.Header image header.Get) acts is = λ free some told.
         shares_by_lock site r me you (knows slot) j image differ (t.locks image (looks_owned slot site image r me t acts is some)) theirs free some told
     request_apart slot (op.Header image header.LockDrop) acts is = λ lock. shares_by_lock site r me you (knows slot) j image differ (λ free. lock) theirs
-    request_apart slot (op.Data image number (object.Read snap parts)) acts is = tt
-    request_apart slot (op.Data image number o) acts is = changes_by_lock site r me you (knows slot) j image number differ (knows_by_lock c knows slot site r me t) theirs
-    request_apart slot (op.Map image (states.Set None number state)) acts is = changes_by_lock site r me you (knows slot) j image number differ (knows_by_lock c knows slot site r me t) theirs
+    request_apart slot (op.Data image number o) acts is = breaks_by_lock site r me you (knows slot) j image (Breaks o j site image number) differ (knows_by_lock c knows slot site r me t) theirs
+    request_apart slot (op.Map image (states.Set None number state)) acts is =
+        breaks_by_lock site r me you (knows slot) j image (Lowers state j site image number) differ (knows_by_lock c knows slot site r me t) theirs
     request_apart slot _ acts is = tt
 
     release_apart : (s : ReleaseStage) (k : Knowledge) (image : ℕ) → MayAct site r me you k j (release_op_at s image)

@@ -103,7 +103,7 @@ module _ {R : Type 0} (stands : R → Standing) where
     labels = knows.labels;
     tied = subst (IsTied k) (sym (ap (course_in r.turn [] r.place) (same_found slot r.place (lines_of old) (lines_of new) same))) knows.tied;
     in_turn = knows.in_turn;
-    has_turn = λ site image object some shared known. keeps site image object (knows.has_turn site image object some shared known);
+    has_turn = λ site image object some shared unflat known. keeps site image object (knows.has_turn site image object some shared unflat known);
   }
 
   -- whoever is fed leaves the others their turns

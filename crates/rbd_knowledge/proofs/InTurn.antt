@@ -19,7 +19,7 @@ use Rattle.rbd_machine.specs.Label.{Label}
 use Rattle.rbd_machine.specs.Plan.{Plan, Ask, Await, Note, Return, Goto, Standing, past_label}
 use Rattle.rbd_machine.specs.Wait.{Wait}
 use Rattle.rbd_machine.specs.Wait as wait
-use Rattle.rbd_interference.specs.Truth.{header_of_own, is_own_alone}
+use Rattle.rbd_interference.specs.Truth.{header_of_own, is_own_alone, sharing_of_own}
 use Rattle.rbd_interference.specs.Turns.{KnowsInTurn}
 use Rattle.rbd_interference.proofs.Less.{IsLess, knew_of, waited_less}
 use Rattle.rbd_interference.proofs.Turns.{applied_unknown, turned_unknown}
@@ -56,36 +56,36 @@ quiet_before slot t (inr (p, m, there)) fair next s i own = by t.turn refl
 -- ---- its own turns
 
 less_has : (slot : ℕ) (new old : Knowledge) (lines : Lines) → ((site : SiteId) → IsLess site new old) → HasItsTurns slot old lines → HasItsTurns slot new lines
-less_has slot new old lines less has site image object some shared knows =
+less_has slot new old lines less has site image object some shared unflat knows =
     let same = (less site).owns image some in
-    has site image object (ap (λ o. is_some (header_of_own o)) (sym same) ∙ some) (sym (ap is_own_alone same) ∙ shared) (knew_of site new old (less site) image object knows)
+    has site image object (ap (λ o. is_some (header_of_own o)) (sym same) ∙ some) (sym (ap is_own_alone same) ∙ shared) (λ flat. unflat (ap sharing_of_own same ∙ flat)) (knew_of site new old (less site) image object knows)
 
 module _ (slot : ℕ) where
   pub waited_has : (fresh : Bool) (t : Track) (k : Knowledge) (w : Wait) → MayWait fresh (course_of slot t) w → IsTied k (course_of slot t) → HasItsTurns slot k t.lines
       → HasItsTurns slot (known_after_wait k w) (waited_by slot t w).lines
-  waited_has fresh t k (wait.Join there of sharing) may tied has = λ site image object some shared knows.
-      own_joined slot object t there of sharing site image (less_has slot (known_after_wait k (wait.Join there of sharing)) k t.lines (λ s. waited_less s k (wait.Join there of sharing)) has site image object some shared knows)
-  waited_has fresh t k (wait.Hold there of) may tied has = λ site image object some shared knows.
-      own_held slot object t there of site image (less_has slot (known_after_wait k (wait.Hold there of)) k t.lines (λ s. waited_less s k (wait.Hold there of)) has site image object some shared knows)
-  waited_has fresh t k (wait.Turn at) may tied has = λ site image object some shared knows. absurd (turned_unknown site k image object at knows)
-  waited_has fresh t k (wait.Applied there of) may tied has = λ site image object some shared knows. absurd (applied_unknown site there k image object of knows)
-  waited_has fresh t k (wait.Leave there of) may tied has = λ site image object some shared knows. absurd (left_knows_none k (course_of slot t) tied there of may site image some)
+  waited_has fresh t k (wait.Join there of sharing) may tied has = λ site image object some shared unflat knows.
+      own_joined slot object t there of sharing site image (less_has slot (known_after_wait k (wait.Join there of sharing)) k t.lines (λ s. waited_less s k (wait.Join there of sharing)) has site image object some shared unflat knows)
+  waited_has fresh t k (wait.Hold there of) may tied has = λ site image object some shared unflat knows.
+      own_held slot object t there of site image (less_has slot (known_after_wait k (wait.Hold there of)) k t.lines (λ s. waited_less s k (wait.Hold there of)) has site image object some shared unflat knows)
+  waited_has fresh t k (wait.Turn at) may tied has = λ site image object some shared unflat knows. absurd (turned_unknown site k image object at knows)
+  waited_has fresh t k (wait.Applied there of) may tied has = λ site image object some shared unflat knows. absurd (applied_unknown site there k image object of knows)
+  waited_has fresh t k (wait.Leave there of) may tied has = λ site image object some shared unflat knows. absurd (left_knows_none k (course_of slot t) tied there of may site image some)
 
   pub noted_has : (t : Track) (k : Knowledge) → HasItsTurns slot k t.lines → HasItsTurns slot k (track_noted slot t).lines
-  noted_has t k has site image object some shared knows = own_noted slot object t site image (has site image object some shared knows)
+  noted_has t k has site image object some shared unflat knows = own_noted slot object t site image (has site image object some shared unflat knows)
 
   -- behind an answer
   pub answered_has : (e : Option Extent) (t : Track) (k : Knowledge) (s : SiteId) (o : Op) (a : Answer)
       → ((object : ℕ) → t.turn ≡ Some object → has_turn slot object (line_in t.place t.lines) ≡ true)
       → IsSomewhere slot (answered_by slot e t s o a) → IsTied (learned k s o a) (course_of slot (answered_by slot e t s o a)) → KnowsInTurn (learned k s o a)
       → HasItsTurns slot (learned k s o a) (answered_by slot e t s o a).lines
-  answered_has e t k s o a has somewhere tied in_turn site image object some shared knows = by (own_of (learned k s o a).owns site image) refl some
+  answered_has e t k s o a has somewhere tied in_turn site image object some shared unflat knows = by (own_of (learned k s o a).owns site image) refl some
     where
       after : Track
       after = answered_by slot e t s o a
 
       turn : after.turn ≡ Some object
-      turn = sym (tied.turn site image some) ∙ in_turn site image some shared object knows
+      turn = sym (tied.turn site image some) ∙ in_turn.0 site image some shared unflat object knows
 
       by : (own : Option Own) → own_of (learned k s o a).owns site image ≡ own → IsSome (header_of_own own) → has_turn slot object (after.lines site image) ≡ true
       by None is some = absurd (true≢false (sym some))

@@ -1,5 +1,5 @@
 -- Who may go on may act, whatever another one knows.
-use Rattle.std.proofs.Common.{◌≡◌, ◌≢◌, inl, inr, ℕ, Bool, true, false, List, Option, Some, None, is_some, refl, sym, ap, ◌∙◌, subst}
+use Rattle.std.proofs.Common.{◌≡◌, ◌≢◌, inl, inr, ℕ, zero, suc, Bool, true, false, List, Option, Some, None, is_some, refl, sym, ap, ◌∙◌, subst}
 use Rattle.std.specs.Prelude.{IsSome}
 use Rattle.std.specs.List.{filter}
 use Rattle.std.specs.Option.{option_map}
@@ -10,9 +10,9 @@ use Rattle.rbd_machine.specs.Course.{is_waiting, has_just_joined}
 use Rattle.rbd_machine.specs.declared.stage.Stage.{Stage}
 use Rattle.rbd_machine.specs.declared.stage.Stage.TheVariants as stage
 use Rattle.rbd_kinds.specs.declared.answer.Answer.{Answer}
-use Rattle.rbd_kinds.specs.declared.data_op.DataOp.{DataOp}
 use Rattle.rbd_kinds.specs.declared.data_op.DataOp.TheVariants as object
 use Rattle.rbd_kinds.specs.declared.header.HeaderView.{HeaderView}
+use Rattle.rbd_kinds.specs.declared.header.SnapContext.{SnapContext}
 use Rattle.rbd_kinds.specs.declared.header_op.HeaderOp.TheVariants as header
 use Rattle.rbd_kinds.specs.declared.id.Instance.{Instance}
 use Rattle.rbd_kinds.specs.declared.id.SiteId.{SiteId}
@@ -20,17 +20,21 @@ use Rattle.rbd_kinds.specs.declared.map_op.MapOp.TheVariants as states
 use Rattle.rbd_kinds.specs.declared.operation.Op.{Op}
 use Rattle.rbd_kinds.specs.declared.operation.Op.TheVariants as op
 use Rattle.rbd_kinds.specs.declared.sharing.Sharing.{Sharing}
+use Rattle.rbd_kinds.specs.declared.sharing.Sharing.TheVariants.{Flatten}
 use Rattle.rbd_queue.specs.Line.{Member, changed_member, has_turn, holds_ticket, is_past, may_pass, member_of, passed, slots, IsFairLine}
 use Rattle.rbd_queue.proofs.Fair.{passed_fair}
 use Rattle.rbd_queue.proofs.Passing.{apart_past, found_at, own_changed, others_changed, passed_is_steady}
-use Rattle.rbd_machine.specs.Knowledge.{Knowledge, Own, own_of}
+use Rattle.rbd_machine.specs.Knowledge.{Knowledge, Own, objects_known_of, own_of}
 use Rattle.rbd_machine.specs.Lawful.{IsLawful}
-use Rattle.rbd_machine.specs.Permits.{HasTurn, OwnsBy, Permits, PermitsOnObject}
+use Rattle.rbd_machine.specs.Permits.{HasTurn, MaySet, OwnsBy, Permits, PermitsOnObject, makes_zeros}
+use Rattle.rbd_machine.proofs.Objects.{no_flatten_beside}
 use Rattle.rbd_machine.specs.Plan.{Ask, Plan, Standing}
 use Rattle.rbd_machine.specs.declared.reason.Reason.{Reason}
 use Rattle.rbd_machine.proofs.Together.{shared_both}
-use Rattle.rbd_interference.specs.Beside.{LeavesObject, MayAct, SharesLock}
-use Rattle.rbd_interference.specs.Truth.{header_of_own, is_alone_on, is_own_alone, known_header, sharing_of_own}
+use Rattle.rbd_interference.specs.Beside.{BreaksNothing, Lowers, MayAct, SharesLock}
+use Rattle.rbd_interference.specs.Truth.{header_of_own, is_alone_on, is_own_alone, known_header, sharing_of_own, sharing_on}
+use Rattle.rbd_interference.specs.Turns.{KnowsAbsent, KnowsInTurn, KnowsOf, KnowsRaised, KnowsThere}
+use Rattle.rbd_interference.proofs.Turns.{nothing_in_turn}
 use Rattle.rbd_slots.specs.declared.running.Running.{Running}
 use Rattle.rbd_slots.specs.Advance.{track_of}
 use Rattle.rbd_slots.specs.Lines.{lines_of}
@@ -45,10 +49,10 @@ use Rattle.rbd_knowledge.proofs.Firsts.{one_first}
 use Rattle.rbd_knowledge.proofs.There.{IsMemberFor, may_of, owner_there}
 use Rattle.rbd_knowledge.proofs.Turning.{turn_of_goes}
 
--- it changes the object, or may
-abbrev changes_object : DataOp → Bool
-changes_object (object.Read snap parts) = false
-changes_object o = true
+-- who knows a header owns the image
+own_is_there : (o : Option Own) → IsSome (header_of_own o) → IsSome o
+own_is_there None some = some
+own_is_there (Some o) some = refl
 
 -- ---- in one line
 
@@ -139,11 +143,22 @@ module _ {R : Type 0} (stands : R → Standing) (s : SessionView R) (knows : ℕ
 
   -- ---- changes of an object
 
+  in_turn_of : (slot : ℕ) → KnowsInTurn (knows slot)
+  in_turn_of slot = by (running_at slot s) refl (all slot)
+    where
+      by : (q : Option (Running R)) → running_at slot s ≡ q → KnowsIn stands slot q s.lines (knows slot) → KnowsInTurn (knows slot)
+      by None rests nothing = subst KnowsInTurn (sym nothing) nothing_in_turn
+      by (Some r) runs known = known.in_turn
+
   module _ (slot other : ℕ) (differ : slot ≢ other) (r : Running R) (runs : running_at slot s ≡ Some r) (goes : waits slot (track_of r s.lines) ≡ false) (site : SiteId) (image number : ℕ) where
+    -- who isn't alone has its turn there
+    abbrev HasItsTurn : Type 0
+    HasItsTurn = IsSome (known_header (knows slot) site image) → is_alone_on (knows slot) site image ≡ false → (knows slot).turn ≡ Some number
+
     -- who changes it has its turn there, and the other one would have it
-    others_know_nothing : (IsSome (known_header (knows slot) site image) → is_alone_on (knows slot) site image ≡ false → (knows slot).turn ≡ Some number)
-        → (records : Records) (me you : Instance) → LeavesObject site image number records me you (knows slot) (knows other)
-    others_know_nothing at_turn records me you free mine others known = by (own_of (knows slot).owns site image) refl (own_of (knows other).owns site image) refl mine others
+    others_know_nothing : HasItsTurn → IsSome (known_header (knows slot) site image) → IsSome (known_header (knows other) site image) → sharing_on (knows other) site image ≢ Flatten
+        → KnowsOf (knows other) site image number → ⊥
+    others_know_nothing at_turn mine others unflat known = by (own_of (knows slot).owns site image) refl (own_of (knows other).owns site image) refl mine others
       where
         by : (one : Option Own) → own_of (knows slot).owns site image ≡ one → (two : Option Own) → own_of (knows other).owns site image ≡ two → IsSome (header_of_own one) → IsSome (header_of_own two) → ⊥
         by None is two that mine others = true≢false (sym mine)
@@ -155,8 +170,29 @@ module _ {R : Type 0} (stands : R → Standing) (s : SessionView R) (knows : ℕ
             let turn = at_turn (ap (λ x. is_some (header_of_own x)) is ∙ told_one) (ap is_own_alone is ∙ shared.0) in
             let mine_knows = knows_there stands s knows slot r runs all in
             let its = turn_of_goes slot (track_of r s.lines) goes number (sym (mine_knows.tied.turn site image (ap (λ x. is_some (header_of_own x)) is ∙ told_one)) ∙ turn) in
-            let theirs = (knows_there stands s knows other q others_run all).has_turn site image number (ap (λ x. is_some (header_of_own x)) that ∙ told_two) (ap is_own_alone that ∙ shared.1) known in
+            let theirs = (knows_there stands s knows other q others_run all).has_turn site image number (ap (λ x. is_some (header_of_own x)) that ∙ told_two) (ap is_own_alone that ∙ shared.1) unflat known in
             differ (one_first (slots (filter (holds_ticket number) (lines_of s.lines site image))) slot other (subst (λ ms. has_turn slot number ms ≡ true) one.line its) theirs)
+
+    -- who makes zeros meets no flatten
+    meets_no_flatten : makes_zeros (sharing_on (knows slot) site image) ≡ true → IsSome (known_header (knows slot) site image) → IsSome (known_header (knows other) site image)
+        → sharing_on (knows other) site image ≢ Flatten
+    meets_no_flatten zeros mine others flat =
+        let together = header_together slot other differ r runs goes site image (own_of (knows slot).owns site image) (own_of (knows other).owns site image) refl refl (own_is_there (own_of (knows slot).owns site image) mine) others in
+        true≢false (sym together ∙ ap (go_together (sharing_on (knows slot) site image)) flat ∙ no_flatten_beside (sharing_on (knows slot) site image) zeros)
+
+    module _ (records : Records) (me you : Instance) where
+      abbrev Leaves : (broken : Type 0) → Type 0
+      Leaves broken = BreaksNothing site image records me you (knows slot) (knows other) broken
+
+      -- what isn't there, or is zero, is known by none that is a flatten
+      leaves_absent : HasItsTurn → Leaves (KnowsAbsent (knows other) site image number)
+      leaves_absent at_turn free mine others gone =
+          others_know_nothing at_turn mine others (λ flat. true≢false (sym ((in_turn_of other).1 site image others number gone) ∙ ap makes_zeros flat)) (inr (inl gone))
+
+      -- and who makes zeros leaves all that is known
+      leaves_known : HasItsTurn → (IsSome (known_header (knows slot) site image) → makes_zeros (sharing_on (knows slot) site image) ≡ true) → (broken : Type 0)
+          → (broken → KnowsOf (knows other) site image number) → Leaves broken
+      leaves_known at_turn zeros broken knows_it free mine others it = others_know_nothing at_turn mine others (meets_no_flatten (zeros mine) mine others) (knows_it it)
 
   module _ (slot : ℕ) (site : SiteId) (image number : ℕ) where
     -- who owns an image that it isn't alone on has its turn, where it wants one
@@ -164,16 +200,35 @@ module _ {R : Type 0} (stands : R → Standing) (s : SessionView R) (knows : ℕ
         → is_alone_on (knows slot) site image ≡ false → (knows slot).turn ≡ Some number
     turn_by condition wants owns shared = subst (λ alone. HasTurn alone (knows slot).turn number) (sym (ap is_own_alone owns.is) ∙ shared) (wants owns.sharing owns.header owns.meets)
 
-    turn_at : (o : DataOp) → PermitsOnObject (knows slot) site image number o → changes_object o ≡ true → IsSome (known_header (knows slot) site image) → is_alone_on (knows slot) site image ≡ false
-        → (knows slot).turn ≡ Some number
-    turn_at (object.Read snap parts) permits changes some shared = absurd (true≢false (sym changes))
-    turn_at (object.Write context must parts bytes) permits changes some shared = turn_by _ (λ sharing h may. may.at_turn) permits shared
-    turn_at (object.Zero context must parts) permits changes some shared = turn_by _ (λ sharing h may. may.at_turn) permits shared
-    turn_at (object.Empty context) permits changes some shared = turn_by _ (λ sharing h may. may.at_turn) permits shared
-    turn_at (object.Remove context) (inl over) changes some shared = absurd (true≢false (sym some ∙ ap (λ o. is_some (header_of_own o)) over.unowned))
-    turn_at (object.Remove context) (inr owns) changes some shared = turn_by _ (λ sharing h may. may.at_turn) owns shared
-    turn_at (object.WriteFull context bytes) permits changes some shared = turn_by _ (λ sharing h may. may.at_turn) permits shared
-    turn_at (object.CopyUp bytes) permits changes some shared = absurd permits
+    zeros_by : (condition : Sharing → HeaderView → Type 0) (owns : OwnsBy (knows slot) site image condition) → makes_zeros owns.sharing ≡ true → makes_zeros (sharing_on (knows slot) site image) ≡ true
+    zeros_by condition owns zeros = ap (λ o. makes_zeros (sharing_of_own o)) owns.is ∙ zeros
+
+  module _ (slot other : ℕ) (differ : slot ≢ other) (r : Running R) (runs : running_at slot s ≡ Some r) (goes : waits slot (track_of r s.lines) ≡ false) (site : SiteId) (image number : ℕ)
+      (records : Records) (me you : Instance) where
+    at_turn : (condition : Sharing → HeaderView → Type 0) → ((sharing : Sharing) (h : HeaderView) → condition sharing h → HasTurn (is_alone sharing) (knows slot).turn number) → OwnsBy (knows slot) site image condition
+        → HasItsTurn slot other differ r runs goes site image number
+    at_turn condition wants owns some shared = turn_by slot site image number condition wants owns shared
+
+    -- what makes an object, or writes it, breaks what is absent
+    making : (condition : Sharing → HeaderView → Type 0) → ((sharing : Sharing) (h : HeaderView) → condition sharing h → HasTurn (is_alone sharing) (knows slot).turn number) → OwnsBy (knows slot) site image condition
+        → BreaksNothing site image records me you (knows slot) (knows other) (KnowsAbsent (knows other) site image number)
+    making condition wants owns = leaves_absent slot other differ r runs goes site image number records me you (at_turn condition wants owns)
+
+    -- a removal breaks what is there
+    removing : (context : SnapContext) → PermitsOnObject (knows slot) site image number (object.Remove context)
+        → BreaksNothing site image records me you (knows slot) (knows other) (KnowsThere (knows other) site image number)
+    removing context (inl over) free mine others is = true≢false (sym mine ∙ ap (λ o. is_some (header_of_own o)) over.unowned)
+    removing context (inr owns) =
+        leaves_known slot other differ r runs goes site image number records me you (at_turn _ (λ sharing h may. may.at_turn) owns)
+        (λ some. zeros_by slot site image number _ owns owns.meets.zeros) (KnowsThere (knows other) site image number) (λ is. inr (inr is))
+
+    -- and a state of 0 what is raised
+    lowering : (state : ℕ) → OwnsBy (knows slot) site image (MaySet (objects_known_of (knows slot).objects site image) (knows slot).turn number state)
+        → BreaksNothing site image records me you (knows slot) (knows other) (Lowers state (knows other) site image number)
+    lowering zero owns =
+        leaves_known slot other differ r runs goes site image number records me you (at_turn _ (λ sharing h may. may.at_turn) owns)
+        (λ some. zeros_by slot site image number _ owns (owns.meets.zeros refl)) (KnowsRaised (knows other) site image number) (λ raised. inl raised)
+    lowering (suc state) owns free mine others broken = broken
 
   pub may_act : (slot other : ℕ) (r : Running R) (site : SiteId) (why : Reason) (o : Op) (next : Answer → Plan) → slot ≢ other → running_at slot s ≡ Some r → waits slot (track_of r s.lines) ≡ false
       → (stands r.request).plan ≡ Ask site why o next → (records : Records) (me you : Instance) → MayAct site records me you (knows slot) (knows other) o
@@ -185,22 +240,18 @@ module _ {R : Type 0} (stands : R → Standing) (s : SessionView R) (knows : ℕ
       permits : Permits (knows slot) site o
       permits = (subst (IsLawful knows_by.known_at (knows slot)) asks knows_by.lawful).0
 
-      changing : (image number : ℕ) (d : DataOp) → PermitsOnObject (knows slot) site image number d → changes_object d ≡ true → LeavesObject site image number records me you (knows slot) (knows other)
-      changing image number d may changes = others_know_nothing slot other differ r runs goes site image number (turn_at slot site image number d may changes) records me you
-
       by : (o : Op) → Permits (knows slot) site o → MayAct site records me you (knows slot) (knows other) o
       by (op.Header image header.Get) may = lock_shared slot other differ r runs goes site image records me you
       by (op.Header image header.LockDrop) may = λ lock. lock_shared slot other differ r runs goes site image records me you
       by (op.Header image o) may = tt
-      by (op.Data image number (object.Read snap parts)) may = tt
-      by (op.Data image number (object.Write context must parts bytes)) may = changing image number (object.Write context must parts bytes) may refl
-      by (op.Data image number (object.Zero context must parts)) may = changing image number (object.Zero context must parts) may refl
-      by (op.Data image number (object.Empty context)) may = changing image number (object.Empty context) may refl
-      by (op.Data image number (object.Remove context)) may = changing image number (object.Remove context) may refl
-      by (op.Data image number (object.WriteFull context bytes)) may = changing image number (object.WriteFull context bytes) may refl
-      by (op.Data image number (object.CopyUp bytes)) may = changing image number (object.CopyUp bytes) may refl
-      by (op.Map image (states.Set None number state)) may =
-          others_know_nothing slot other differ r runs goes site image number (λ some shared. turn_by slot site image number _ (λ sharing h may_set. may_set.at_turn) may shared) records me you
+      by (op.Data image number (object.Read snap parts)) may = λ free mine others broken. broken
+      by (op.Data image number (object.Write context must parts bytes)) may = making slot other differ r runs goes site image number records me you _ (λ sharing h may. may.at_turn) may
+      by (op.Data image number (object.Zero context must parts)) may = λ free mine others broken. broken
+      by (op.Data image number (object.Empty context)) may = making slot other differ r runs goes site image number records me you _ (λ sharing h may. may.at_turn) may
+      by (op.Data image number (object.Remove context)) may = removing slot other differ r runs goes site image number records me you context may
+      by (op.Data image number (object.WriteFull context bytes)) may = making slot other differ r runs goes site image number records me you _ (λ sharing h may. may.at_turn) may
+      by (op.Data image number (object.CopyUp bytes)) may = absurd may
+      by (op.Map image (states.Set None number state)) may = lowering slot other differ r runs goes site image number records me you state may
       by (op.Map image (states.Set (Some snap) number state)) may = tt
       by (op.Map image o) may = tt
       by _ may = tt

@@ -11,6 +11,7 @@ use Rattle.rbd_kinds.specs.declared.directory_op.DirectoryOp.TheVariants as dire
 use Rattle.rbd_kinds.specs.declared.header.HeaderView.{HeaderView}
 use Rattle.rbd_kinds.specs.declared.header_op.HeaderOp.{HeaderOp}
 use Rattle.rbd_kinds.specs.declared.header_op.HeaderOp.TheVariants as header
+use Rattle.rbd_header.specs.Header.{detached}
 use Rattle.rbd_kinds.specs.declared.id.Instance.{Instance}
 use Rattle.rbd_kinds.specs.declared.id.SiteId.{SiteId}
 use Rattle.rbd_kinds.specs.declared.map_op.MapOp.{MapOp}
@@ -99,6 +100,7 @@ module _ (site : SiteId) (image : ℕ) (k : Knowledge) where
   of_header on header.Remove answer.Done some = inl (own_before site image (removed_header site on k) k (left_own site site image on k.owns) some)
   of_header on (header.SnapAdd name) (answer.Snap snap) some = inl (edited on _ some)
   of_header on (header.SnapRemove snap) answer.Done some = inl (edited on _ some)
+  of_header on header.Detach answer.Done some = inl (edited on detached some)
   of_header on (header.LockBreak owner) answer.Done some = inl some
   of_header on (header.LockBreak owner) answer.Changed some = inl some
   of_header on _ _ some = inl some
@@ -114,7 +116,9 @@ module _ (site : SiteId) (image : ℕ) (k : Knowledge) where
   of_object : (on number : ℕ) (o : DataOp) (a : Answer) → Knows (learned_of_object k site on number o a) → Knows k
   of_object on number (object.Write context must parts bytes) answer.Done some = some
   of_object on number (object.WriteFull context bytes) answer.Done some = some
+  of_object on number (object.Read snap parts) a some = some
   of_object on number (object.CopyUp bytes) answer.Done some = some
+  of_object on number (object.CopyUp bytes) answer.Exists some = some
   of_object on number (object.Zero context must parts) answer.Done some = some
   of_object on number (object.Empty context) answer.Done some = some
   of_object on number (object.Remove context) answer.Done some = some

@@ -20,7 +20,7 @@ use Rattle.rbd_kinds.specs.declared.map_op.MapOp.{MapOp}
 use Rattle.rbd_kinds.specs.declared.map_op.MapOp.TheVariants as states
 use Rattle.rbd_kinds.specs.declared.operation.Op.{Op}
 use Rattle.rbd_kinds.specs.declared.operation.Op.TheVariants as op
-use Rattle.rbd_header.specs.Header.{with_size, with_snap, without_snap}
+use Rattle.rbd_header.specs.Header.{detached, with_size, with_snap, without_snap}
 use Rattle.rbd_machine.specs.Answers.{CanBeFed}
 use Rattle.rbd_machine.specs.Knowledge.{ImageMaps, ImageObjects, Knowledge, Own, first_told, header_told, is_drawn, is_gone, learned, learned_of_directory, learned_of_header, learned_of_listing, learned_of_map, learned_of_object, learned_own, looked_under_lock, own_of, told_of}
 use Rattle.rbd_machine.specs.Label.{Label}
@@ -29,7 +29,7 @@ use Rattle.rbd_machine.specs.Path.{at_operation}
 use Rattle.rbd_machine.specs.Permits.{Permits}
 use Rattle.rbd_machine.specs.Plan.{Plan, Ask, Await, Note, Return, Goto, plan_after}
 use Rattle.rbd_interference.specs.Ancestors.{DrewNoneOf}
-use Rattle.rbd_interference.specs.Beside.{AreBeside, LeavesObject, MayAct, SharesLock}
+use Rattle.rbd_interference.specs.Beside.{AreBeside, Breaks, BreaksNothing, Lowers, MayAct, SharesLock}
 use Rattle.rbd_interference.specs.Truth.{header_of_own}
 use Rattle.rbd_site.specs.Records.{Records}
 use Rattle.rbd_knowledge.specs.Calm.{IsCalm, OwnsNothing}
@@ -52,12 +52,14 @@ module _ (k : Knowledge) (none : OwnsNothing k) where
   header_nothing s i header.Remove answer.Done permits = absurd (none-some _ (sym (none.owns s i) ∙ permits.is))
   header_nothing s i (header.SnapAdd name) (answer.Snap snap) permits = told_nothing s i (option_map (with_snap name))
   header_nothing s i (header.SnapRemove snap) answer.Done permits = told_nothing s i (option_map (without_snap snap))
+  header_nothing s i header.Detach answer.Done permits = let told = told_nothing s i (option_map detached) in record { owns = told.owns; gone = told.gone }
   header_nothing s i header.Get _ permits = none
   header_nothing s i (header.Create view) _ permits = none
   header_nothing s i (header.SetSize to) _ permits = none
   header_nothing s i header.Remove _ permits = none
   header_nothing s i (header.SnapAdd name) _ permits = none
   header_nothing s i (header.SnapRemove snap) _ permits = none
+  header_nothing s i header.Detach _ permits = none
   header_nothing s i (header.LockBreak owner) answer.Done permits = record { owns = none.owns; gone = none.gone }
   header_nothing s i (header.LockBreak owner) answer.Changed permits = record { owns = none.owns; gone = none.gone }
   header_nothing s i (header.LockBreak owner) _ permits = none
@@ -87,7 +89,9 @@ module _ (k : Knowledge) (none : OwnsNothing k) where
   object_nothing : (s : SiteId) (i n : ℕ) (o : DataOp) (a : Answer) → OwnsNothing (learned_of_object k s i n o a)
   object_nothing s i n (object.Write context must parts bytes) answer.Done = beside_nothing _ _
   object_nothing s i n (object.WriteFull context bytes) answer.Done = beside_nothing _ _
+  object_nothing s i n (object.Read snap parts) a = beside_nothing _ _
   object_nothing s i n (object.CopyUp bytes) answer.Done = beside_nothing _ _
+  object_nothing s i n (object.CopyUp bytes) answer.Exists = beside_nothing _ _
   object_nothing s i n (object.Zero context must parts) answer.Done = beside_nothing _ _
   object_nothing s i n (object.Empty context) answer.Done = beside_nothing _ _
   object_nothing s i n (object.Remove context) answer.Done = beside_nothing _ _
@@ -154,15 +158,14 @@ module _ (site : SiteId) (r : Records) (me you : Instance) (k j : Knowledge) whe
   calm_shares : (image : ℕ) → OwnsNothing k → SharesLock site image r me you k j
   calm_shares image none = λ free some told. absurd (true≢false (sym some ∙ ap is_some (none.owns site image)))
 
-  calm_leaves : (image number : ℕ) → OwnsNothing k → LeavesObject site image number r me you k j
-  calm_leaves image number none = λ free mine others known. true≢false (sym mine ∙ ap (λ q. is_some (header_of_own q)) (none.owns site image))
+  calm_breaks : (image : ℕ) (broken : Type 0) → OwnsNothing k → BreaksNothing site image r me you k j broken
+  calm_breaks image broken none = λ free mine others it. true≢false (sym mine ∙ ap (λ q. is_some (header_of_own q)) (none.owns site image))
 
   pub calm_acts : (o : Op) → OwnsNothing k → MayAct site r me you k j o
   calm_acts (op.Header image header.Get) none = calm_shares image none
   calm_acts (op.Header image header.LockDrop) none = λ lock. calm_shares image none
-  calm_acts (op.Data image number (object.Read snap parts)) none = tt
-  calm_acts (op.Data image number o) none = calm_leaves image number none
-  calm_acts (op.Map image (states.Set None number state)) none = calm_leaves image number none
+  calm_acts (op.Data image number o) none = calm_breaks image (Breaks o j site image number) none
+  calm_acts (op.Map image (states.Set None number state)) none = calm_breaks image (Lowers state j site image number) none
   calm_acts (op.Map image (states.Set (Some snap) number state)) none = tt
   calm_acts (op.Map image o) none = tt
   calm_acts (op.Header image o) none = tt
@@ -171,15 +174,14 @@ module _ (site : SiteId) (r : Records) (me you : Instance) (k j : Knowledge) whe
   shares_with_calm : (image : ℕ) → OwnsNothing j → SharesLock site image r me you k j
   shares_with_calm image none = λ free some told. absurd (true≢false (sym told ∙ ap (λ q. is_some (header_of_own q)) (none.owns site image)))
 
-  leaves_calm : (image number : ℕ) → OwnsNothing j → LeavesObject site image number r me you k j
-  leaves_calm image number none = λ free mine others known. true≢false (sym others ∙ ap (λ q. is_some (header_of_own q)) (none.owns site image))
+  breaks_calm : (image : ℕ) (broken : Type 0) → OwnsNothing j → BreaksNothing site image r me you k j broken
+  breaks_calm image broken none = λ free mine others it. true≢false (sym others ∙ ap (λ q. is_some (header_of_own q)) (none.owns site image))
 
   pub acted_beside_calm : (o : Op) → OwnsNothing j → MayAct site r me you k j o
   acted_beside_calm (op.Header image header.Get) none = shares_with_calm image none
   acted_beside_calm (op.Header image header.LockDrop) none = λ lock. shares_with_calm image none
-  acted_beside_calm (op.Data image number (object.Read snap parts)) none = tt
-  acted_beside_calm (op.Data image number o) none = leaves_calm image number none
-  acted_beside_calm (op.Map image (states.Set None number state)) none = leaves_calm image number none
+  acted_beside_calm (op.Data image number o) none = breaks_calm image (Breaks o j site image number) none
+  acted_beside_calm (op.Map image (states.Set None number state)) none = breaks_calm image (Lowers state j site image number) none
   acted_beside_calm (op.Map image (states.Set (Some snap) number state)) none = tt
   acted_beside_calm (op.Map image o) none = tt
   acted_beside_calm (op.Header image o) none = tt

@@ -3,12 +3,13 @@ use Rattle.std.specs.Prelude.{◌≡◌, ◌≢◌, ℕ, ◌==◌, if◌then◌e
 use Rattle.rbd_kinds.specs.declared.id.SiteId.{SiteId}
 use Rattle.rbd_kinds.specs.declared.machine.Fed.{Fed}
 use Rattle.rbd_kinds.specs.declared.reply.Reply.{Reply}
+use Rattle.rbd_kinds.specs.declared.sharing.Sharing.TheVariants.{Flatten}
 use Rattle.rbd_queue.specs.Line.{has_turn}
 use Rattle.rbd_machine.specs.Knowledge.{Knowledge, nothing_known, known_after_wait}
 use Rattle.rbd_machine.specs.Label.{Label, IsFit}
 use Rattle.rbd_machine.specs.Lawful.{IsLawful, known_after}
 use Rattle.rbd_machine.specs.Plan.{Plan, Await, Note, Standing, plan_after}
-use Rattle.rbd_interference.specs.Truth.{is_alone_on, known_header}
+use Rattle.rbd_interference.specs.Truth.{is_alone_on, known_header, sharing_on}
 use Rattle.rbd_interference.specs.Turns.{KnowsInTurn, KnowsOf}
 use Rattle.rbd_slots.specs.declared.running.Running.{Running}
 use Rattle.rbd_slots.specs.Advance.{track_of}
@@ -38,12 +39,12 @@ abbrev pub knows_after : (knows : (slot : ℕ) → Knowledge) → (slot : ℕ) �
 knows_after knows slot result plan f other = if other == slot
     then unless_ended result (known_behind (knows slot) plan f) else knows other
 
--- Of an object of an image that others change too, the request knows only in its turn there, and
--- that turn is its own.
+-- Of an object of an image that others change too, a request that takes turns knows only in its turn
+-- there, and that turn is its own.
 abbrev pub HasItsTurns : (slot : ℕ) → Knowledge → Lines → Type 0
 HasItsTurns slot k lines = (site : SiteId) (image object : ℕ)
-    → IsSome (known_header k site image) → is_alone_on k site image ≡ false → KnowsOf k site image object
-    → has_turn slot object (lines site image) ≡ true
+    → IsSome (known_header k site image) → is_alone_on k site image ≡ false → sharing_on k site image ≢ Flatten
+    → KnowsOf k site image object → has_turn slot object (lines site image) ≡ true
 
 -- each other slot that has its turn at an object keeps it
 abbrev pub KeepsTurns : (slot : ℕ) → (old new : Lines) → Type 0

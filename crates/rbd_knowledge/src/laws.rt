@@ -67,7 +67,7 @@ pub fn ready_requests_know_the_same<R: Request>()
 /// A request that may go on may do what it asks for, whatever another request of its session knows.
 /// The line lets it look under the lock only where the other one knows no header of the image, or
 /// the two go together; and it lets it change an object only in its turn, when the other one knows
-/// nothing of that object.
+/// nothing of that object, or is a flatten, of which the change breaks nothing that it knows.
 pub fn who_may_go_on_may_act<R: Request>()
     ensures { (s : SessionView R) (slot other : ℕ) (r : Running R) (knows : ℕ → Knowledge) (site : Site) (why : Reason)
         (op : Op) (next : Answer → Plan)

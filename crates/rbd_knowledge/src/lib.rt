@@ -30,8 +30,9 @@
 //!   knows the header only once it is past its look under the lock.
 //! - So a request that may go on to that look goes together with all that know the header: it finds
 //!   nobody beside it that is alone, say, and is alone itself only where nobody knows it.
-//! - Where others change the image too, it knows of an object only in its turn there. It has that
-//!   turn in its line as long as it knows so, since tickets are taken in the order of the line.
+//! - Where others change the image too, it knows of an object only in its turn there, unless it is
+//!   a flatten. It has that turn in its line as long as it knows so, since tickets are taken in the
+//!   order of the line.
 //! - A request that waits for nothing (a look, a listing, a `create`, a `rename`, a `resume`, a
 //!   `tell`) owns nothing, and removes no image.
 //! - A way to a lock knows nothing but that the owner is fenced whose lock it breaks next: that

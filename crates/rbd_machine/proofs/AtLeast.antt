@@ -27,7 +27,7 @@ use Rattle.rbd_kinds.proofs.Images.{same_site_is}
 use Rattle.rbd_map.specs.States.{states_of}
 use Rattle.rbd_machine.specs.Ancestors.{HeaderSeen, IsAmong, ObjectTold, is_dated, seen_by, told_by, told_when}
 use Rattle.rbd_machine.specs.AtLeast.{AreMapsAtLeast, AreObjectsAtLeast, IsToldToo, KnowsAtLeast}
-use Rattle.rbd_machine.specs.Knowledge.{Blank, Fence, ImageMaps, ImagePlace, Knowledge, MapsKnown, Mark, ObjectsKnown, Own, afresh, blanked, first_told, forgotten, header_told, is_absent, is_at, is_drawn, is_fenced_by, is_mark, is_raised, is_view, known_after_wait, learned, learned_of_directory, learned_of_header, learned_of_listing, learned_of_map, learned_of_object, learned_own, looked_behind, looked_by, looked_under_lock, maps_of, maps_told, marks_after, marks_apart, objects_known_of, only_there, own_of, owns_when_held, owns_without, removed, removed_header, same_site, states_set, unfenced, unmapped, unmarked, with_maps, with_objects, without_drawn, without_fence}
+use Rattle.rbd_machine.specs.Knowledge.{Blank, Fence, ImageMaps, ImagePlace, Knowledge, MapsKnown, Mark, ObjectsKnown, Own, afresh, blanked, first_told, found, found_where, header_told, is_absent, is_at, is_drawn, is_fenced_by, is_mark, is_raised, is_view, keeps_object, known_after_wait, knows_head, learned, learned_of_directory, learned_of_header, learned_of_listing, learned_of_map, learned_of_object, learned_own, looked_behind, looked_by, looked_under_lock, made, maps_of, maps_told, marks_after, marks_apart, objects_known_of, only_there, own_of, owns_when_held, owns_without, removed, removed_header, same_site, shows_head, states_set, unfenced, unmapped, unmarked, with_maps, with_objects, with_objects_where, without_drawn, without_fence, without_object, without_there}
 use Rattle.rbd_machine.specs.Label.{Label, IsFit}
 use Rattle.rbd_machine.specs.Lawful.{CanTell, IsLawful}
 use Rattle.rbd_machine.specs.Permits.{HasTurn, IsInParts, IsLeftOver, IsMappedFor, IsZeroByChange, IsZeroByState, MayMake, MaySize, MayTakeSnap, OwnsAlone, OwnsBy, Permits, PermitsOnDirectory, PermitsOnHeader, PermitsOnMap, PermitsOnObject}
@@ -216,10 +216,10 @@ apart_more of more less l view object is = marks_of_others view of object more �
 -- ---- of objects
 
 objects_themselves : (o : ObjectsKnown) → AreObjectsAtLeast o o
-objects_themselves o = record { absent = λ object gone. gone; blank = λ object x is. is }
+objects_themselves o = record { absent = λ object gone. gone; there = λ object is. is; blank = λ object x is. is }
 
 -- of each object something isn't there once it is forgotten
-absent_left : (object number : ℕ) (absent : List ℕ) → is_absent object (filter (λ x. not (x == number)) absent) ≡ cond (object == number) false (is_absent object absent)
+pub absent_left : (object number : ℕ) (absent : List ℕ) → is_absent object (filter (λ x. not (x == number)) absent) ≡ cond (object == number) false (is_absent object absent)
 absent_left object number [] = by (object == number)
   where
     by : (b : Bool) → false ≡ cond b false false
@@ -241,7 +241,7 @@ absent_left object number (y ∷ absent) = by (y == number) refl (y == object) r
         ap (λ b. cond b true (is_absent object rest)) is ∙ sym (ap (λ b. cond b false true) it)
     by false stays false is more = ap (λ b. cond b true (is_absent object rest)) is ∙ more
 
-any_cases : {X : Type 0} (P : X → Type 0) (x : X) (xs : List X) → Any P (x ∷ xs) → P x ⊎ Any P xs
+pub any_cases : {X : Type 0} (P : X → Type 0) (x : X) (xs : List X) → Any P (x ∷ xs) → P x ⊎ Any P xs
 any_cases P x xs (zero, y, less, is, holds) = inl (subst P (sym is) holds)
 any_cases P x xs (suc k, y, less, is, holds) = inr (k, y, omega arith, is, holds)
 
@@ -280,6 +280,10 @@ any_stays P passes (y ∷ xs) some = by (passes y) refl (any_stays P passes xs) 
 any_weaker : {X : Type 0} (P Q : X → Type 0) (xs : List X) → ((x : X) → P x → Q x) → Any P xs → Any Q xs
 any_weaker P Q xs weaker (k, x, less, is, holds) = (k, x, less, is, weaker x holds)
 
+-- what is left of a list was on it
+pub any_among : {X : Type 0} (P : X → Type 0) (passes : X → Bool) (xs : List X) → Any P (filter passes xs) → Any P xs
+any_among P passes xs some = any_weaker (Passing P passes) P xs (λ x holds. holds.0) (any_left P passes xs some)
+
 -- a place that is blank, of one object
 abbrev BlanksAt : (object x : ℕ) → Blank → Type 0
 BlanksAt object x b = (b.object ≡ object) × IsInParts b.parts x
@@ -306,36 +310,63 @@ blank_left number more less object x l some =
     other : not (object == number) ≡ true
     other = let (k, b, less, is, holds) = found in sym (ap (λ n. not (n == number)) holds.0.0) ∙ holds.1
 
+-- what is known of the objects that are left but for one
+left_more : (number : ℕ) (more less : List ℕ) → ((object : ℕ) → is_absent object less ≡ true → is_absent object more ≡ true)
+    → (object : ℕ) → is_absent object (without_object number less) ≡ true → is_absent object (without_object number more) ≡ true
+left_more number more less l object left = absent_left object number more ∙ by (object == number) (sym (absent_left object number less) ∙ left)
+  where
+    by : (b : Bool) → cond b false (is_absent object less) ≡ true → cond b false (is_absent object more) ≡ true
+    by true is = is
+    by false is = l object is
+
+-- and of one more
+one_more : (number : ℕ) (more less : List ℕ) → ((object : ℕ) → is_absent object less ≡ true → is_absent object more ≡ true)
+    → (object : ℕ) → is_absent object (number ∷ less) ≡ true → is_absent object (number ∷ more) ≡ true
+one_more number more less l object is = by (number == object) is
+  where
+    by : (b : Bool) → cond b true (is_absent object less) ≡ true → cond b true (is_absent object more) ≡ true
+    by true is = refl
+    by false is = l object is
+
 module _ (more less : ObjectsKnown) (l : AreObjectsAtLeast more less) (number : ℕ) where
-  forgotten_more : AreObjectsAtLeast (forgotten number more) (forgotten number less)
-  forgotten_more = record {
-    absent = λ object gone. absent_left object number more.absent ∙ by object (object == number) (sym (absent_left object number less.absent) ∙ gone);
+  found_more : AreObjectsAtLeast (found number more) (found number less)
+  found_more = record { absent = l.absent; there = one_more number more.there less.there l.there; blank = l.blank }
+
+  found_where_more : (counts : Bool) → AreObjectsAtLeast (found_where counts number more) (found_where counts number less)
+  found_where_more true = found_more
+  found_where_more false = record { absent = l.absent; there = l.there; blank = l.blank }
+
+  made_object_more : AreObjectsAtLeast (made number more) (made number less)
+  made_object_more = record {
+    absent = left_more number more.absent less.absent l.absent;
+    there = one_more number more.there less.there l.there;
     blank = λ object x is. blank_left number more.blank less.blank object x (l.blank object x) is;
   }
-    where
-      by : (object : ℕ) (b : Bool) → cond b false (is_absent object less.absent) ≡ true → cond b false (is_absent object more.absent) ≡ true
-      by object true gone = gone
-      by object false gone = l.absent object gone
 
   blanked_more : (parts : Option (List Part)) → AreObjectsAtLeast (blanked number parts more) (blanked number parts less)
   blanked_more parts = record {
     absent = l.absent;
+    there = l.there;
     blank = λ object x is. blank_cons (record { object = number; parts = parts }) more.blank less.blank object x (l.blank object x) is;
   }
 
   removed_more : AreObjectsAtLeast (removed number more) (removed number less)
   removed_more = record {
-    absent = λ object gone. by object (number == object) gone;
+    absent = one_more number more.absent less.absent l.absent;
+    there = left_more number more.there less.there l.there;
     blank = λ object x is. blank_cons (record { object = number; parts = None }) more.blank less.blank object x (l.blank object x) is;
   }
-    where
-      by : (object : ℕ) (b : Bool) → cond b true (is_absent object less.absent) ≡ true → cond b true (is_absent object more.absent) ≡ true
-      by object true gone = refl
-      by object false gone = l.absent object gone
+
+-- where none is known to be there
+without_there_more : (more less : ObjectsKnown) → AreObjectsAtLeast more less → AreObjectsAtLeast (without_there more) (without_there less)
+without_there_more more less l = record { absent = l.absent; there = λ object is. is; blank = l.blank }
 
 objects_onward : (a b c : ObjectsKnown) → AreObjectsAtLeast a b → AreObjectsAtLeast b c → AreObjectsAtLeast a c
-objects_onward a b c first then_less =
-    record { absent = λ object gone. first.absent object (then_less.absent object gone); blank = λ object x is. first.blank object x (then_less.blank object x is) }
+objects_onward a b c first then_less = record {
+  absent = λ object gone. first.absent object (then_less.absent object gone);
+  there = λ object is. first.there object (then_less.there object is);
+  blank = λ object x is. first.blank object x (then_less.blank object x is);
+}
 
 -- ---- ids
 
@@ -551,13 +582,26 @@ module _ (more less : Knowledge) (l : KnowsAtLeast more less) (site : SiteId) wh
       by there place false = l.objects there place
 
   object_more : (image number : ℕ) (o : DataOp) (a : Answer) → KnowsAtLeast (learned_of_object more site image number o a) (learned_of_object less site image number o a)
-  object_more image number (object.Write context must parts bytes) answer.Done = with_objects_more image (forgotten number) (λ o p at. forgotten_more o p at number)
-  object_more image number (object.WriteFull context bytes) answer.Done = with_objects_more image (forgotten number) (λ o p at. forgotten_more o p at number)
-  object_more image number (object.CopyUp bytes) answer.Done = with_objects_more image (forgotten number) (λ o p at. forgotten_more o p at number)
+  object_more image number (object.Read snap parts) a =
+      subst (λ counts. KnowsAtLeast (with_objects_where counts site image (found number) more) (with_objects_where (knows_head less site image number snap a) site image (found number) less))
+      (sym heads) (by (knows_head less site image number snap a))
+    where
+      by : (counts : Bool) → KnowsAtLeast (with_objects_where counts site image (found number) more) (with_objects_where counts site image (found number) less)
+      by true = with_objects_more image (found number) (λ o p at. found_more o p at number)
+      by false = l
+
+      heads : knows_head more site image number snap a ≡ knows_head less site image number snap a
+      heads = ap (λ owns. shows_head a snap && keeps_object (own_of owns site image) more.turn number) l.owns
+          ∙ ap (λ turn. shows_head a snap && keeps_object (own_of less.owns site image) turn number) l.turn
+  object_more image number (object.Write context must parts bytes) answer.Done = with_objects_more image (made number) (λ o p at. made_object_more o p at number)
+  object_more image number (object.WriteFull context bytes) answer.Done = with_objects_more image (made number) (λ o p at. made_object_more o p at number)
+  object_more image number (object.CopyUp bytes) answer.Done = with_objects_more image (made number) (λ o p at. made_object_more o p at number)
+  object_more image number (object.CopyUp bytes) answer.Exists = with_objects_more image (found number) (λ o p at. found_more o p at number)
   object_more image number (object.Zero context must parts) answer.Done =
-      with_objects_more image (blanked number (Some parts)) (λ o p at. blanked_more o p at number (Some parts))
+      with_objects_more image (λ o. blanked number (Some parts) (found_where must number o))
+      (λ o p at. blanked_more (found_where must number o) (found_where must number p) (found_where_more o p at number must) number (Some parts))
   object_more image number (object.Empty context) answer.Done =
-      with_objects_more image (λ o. blanked number None (forgotten number o)) (λ o p at. blanked_more (forgotten number o) (forgotten number p) (forgotten_more o p at number) number None)
+      with_objects_more image (λ o. blanked number None (made number o)) (λ o p at. blanked_more (made number o) (made number p) (made_object_more o p at number) number None)
   object_more image number (object.Remove context) answer.Done = with_objects_more image (removed number) (λ o p at. removed_more o p at number)
   object_more image number _ _ = l
 
@@ -687,6 +731,8 @@ module _ (more less : Knowledge) (l : KnowsAtLeast more less) (site : SiteId) wh
   header_more image header.Remove answer.Done = removed_header_more more less l site image
   header_more image (header.SnapAdd name) (answer.Snap snap) = told_more more less l site image _
   header_more image (header.SnapRemove snap) answer.Done = told_more more less l site image _
+  header_more image header.Detach answer.Done =
+      told_more (with_objects site image without_there more) (with_objects site image without_there less) (with_objects_more more less l site image without_there without_there_more) site image _
   header_more image (header.LockBreak owner) answer.Done = unfenced_more more less l site owner
   header_more image (header.LockBreak owner) answer.Changed = unfenced_more more less l site owner
   header_more image _ _ = l
@@ -784,8 +830,8 @@ module _ (more less : Knowledge) (l : KnowsAtLeast more less) (site : SiteId) wh
   turn_more : (alone : Bool) (number : ℕ) → HasTurn alone less.turn number → HasTurn alone more.turn number
   turn_more alone number has = subst (λ turn. HasTurn alone turn number) (sym l.turn) has
 
-  left_more : (image : ℕ) → IsLeftOver less site image → IsLeftOver more site image
-  left_more image over = record { gone = l.gone site image over.gone; unowned = ap (λ owns. own_of owns site image) l.owns ∙ over.unowned }
+  over_more : (image : ℕ) → IsLeftOver less site image → IsLeftOver more site image
+  over_more image over = record { gone = l.gone site image over.gone; unowned = ap (λ owns. own_of owns site image) l.owns ∙ over.unowned }
 
   mapped_more : (image : ℕ) (layout : Layout) (size : ℕ) → IsMappedFor (maps_of less.maps site image) layout size → IsMappedFor (maps_of more.maps site image) layout size
   mapped_more image layout size mapped = record {
@@ -864,20 +910,22 @@ module _ (more less : Knowledge) (l : KnowsAtLeast more less) (site : SiteId) wh
         raised = raised_more image number has.raised;
       }) may
   may_on_object image number (object.Zero context must parts) may =
-      owns_more image _ _ (λ sharing h has. record { under = has.under; within = has.within; at_turn = turn_more (is_alone sharing) number has.at_turn }) may
+      owns_more image _ _ (λ sharing h has. record { under = has.under; within = has.within; at_turn = turn_more (is_alone sharing) number has.at_turn; zeros = has.zeros }) may
   may_on_object image number (object.Empty context) may =
       owns_more image _ _ (λ sharing h has. record {
         under = has.under;
         within = has.within;
         at_turn = turn_more (is_alone sharing) number has.at_turn;
         raised = raised_more image number has.raised;
+        zeros = has.zeros;
       }) may
-  may_on_object image number (object.Remove context) (inl over) = inl (left_more image over)
+  may_on_object image number (object.Remove context) (inl over) = inl (over_more image over)
   may_on_object image number (object.Remove context) (inr may) =
       inr (owns_more image _ _ (λ sharing h has. record {
         under = has.under;
         within = has.within;
         at_turn = turn_more (is_alone sharing) number has.at_turn;
+        zeros = has.zeros;
         outside = has.outside;
       }) may)
   may_on_object image number (object.WriteFull context bytes) may =
@@ -907,10 +955,11 @@ module _ (more less : Knowledge) (l : KnowsAtLeast more less) (site : SiteId) wh
         at_turn = turn_more (is_alone sharing) object has.at_turn;
         is_state = has.is_state;
         lowers = λ zero. (l.objects site image).absent object (has.lowers zero);
+        zeros = has.zeros;
       }) may
   may_on_map image (states.Remove None) may =
-      (left_more image may.0, told_some (maps_of more.maps site image).count (maps_of less.maps site image).count (l.maps site image).count may.1)
-  may_on_map image (states.Remove (Some snap)) (inl over) = inl (left_more image over)
+      (over_more image may.0, told_some (maps_of more.maps site image).count (maps_of less.maps site image).count (l.maps site image).count may.1)
+  may_on_map image (states.Remove (Some snap)) (inl over) = inl (over_more image over)
   may_on_map image (states.Remove (Some snap)) (inr may) = inr (alone_more image _ _ (λ h has. has) may)
   may_on_map image _ may = elim may [ ]
 
@@ -963,7 +1012,9 @@ map_as_before k site image _ _ = (refl, refl)
 object_as_before : (k : Knowledge) (site : SiteId) (image number : ℕ) (o : DataOp) (a : Answer) → ToldAsBefore k (learned_of_object k site image number o a)
 object_as_before k site image number (object.Write context must parts bytes) answer.Done = (refl, refl)
 object_as_before k site image number (object.WriteFull context bytes) answer.Done = (refl, refl)
+object_as_before k site image number (object.Read snap parts) a = (refl, refl)
 object_as_before k site image number (object.CopyUp bytes) answer.Done = (refl, refl)
+object_as_before k site image number (object.CopyUp bytes) answer.Exists = (refl, refl)
 object_as_before k site image number (object.Zero context must parts) answer.Done = (refl, refl)
 object_as_before k site image number (object.Empty context) answer.Done = (refl, refl)
 object_as_before k site image number (object.Remove context) answer.Done = (refl, refl)
@@ -984,6 +1035,7 @@ header_as_before k site image (header.SetSize to) answer.Done = (refl, refl)
 header_as_before k site image header.Remove answer.Done = (refl, refl)
 header_as_before k site image (header.SnapAdd name) (answer.Snap snap) = (refl, refl)
 header_as_before k site image (header.SnapRemove snap) answer.Done = (refl, refl)
+header_as_before k site image header.Detach answer.Done = (refl, refl)
 header_as_before k site image (header.LockBreak owner) answer.Done = (refl, refl)
 header_as_before k site image (header.LockBreak owner) answer.Changed = (refl, refl)
 header_as_before k site image _ _ = (refl, refl)
@@ -1017,6 +1069,48 @@ module _ (more less : Knowledge) (l : KnowsAtLeast more less) (site : SiteId) wh
 
   can_less : (o : Op) (a : Answer) → CanTell more site o a → CanTell less site o a
   can_less o a can = record { word = can.word; form = can.form; standalone = can.standalone; possible = possible_less o a can.possible }
+
+-- who finds that an object is there knows no less
+found_itself : (number : ℕ) (o : ObjectsKnown) → AreObjectsAtLeast (found number o) o
+found_itself number o = record { absent = λ object is. is; there = λ object is. by object (number == object) is; blank = λ object x is. is }
+  where
+    by : (object : ℕ) (b : Bool) → is_absent object o.there ≡ true → cond b true (is_absent object o.there) ≡ true
+    by object true is = refl
+    by object false is = is
+
+found_at_least : (k : Knowledge) (site : SiteId) (image number : ℕ) → KnowsAtLeast (with_objects site image (found number) k) k
+found_at_least k site image number = record {
+  sharing = refl;
+  owns = refl;
+  turn = refl;
+  fenced = refl;
+  drawn = λ there place drawn. drawn;
+  maps = λ there place. maps_themselves (maps_of k.maps there place);
+  objects = λ there place. by there place (is_at there place site image) refl;
+  gone = λ there place gone. gone;
+  seen = λ s among. among;
+  told = λ t among. among;
+}
+  where
+    known : ObjectsKnown
+    known = found number (objects_known_of k.objects site image)
+
+    same : (there : SiteId) (place : ℕ) → (site ≡ there) × (image ≡ place) → objects_known_of k.objects site image ≡ objects_known_of k.objects there place
+    same there place is = ap (λ s. objects_known_of k.objects s image) is.0 ∙ ap (objects_known_of k.objects there) is.1
+
+    by : (there : SiteId) (place : ℕ) (b : Bool) → is_at there place site image ≡ b → AreObjectsAtLeast (cond b known (objects_known_of k.objects there place)) (objects_known_of k.objects there place)
+    by there place true is = subst (AreObjectsAtLeast known) (same there place (place_of there site place image is)) (found_itself number (objects_known_of k.objects site image))
+    by there place false is = objects_themselves (objects_known_of k.objects there place)
+
+-- and so whoever reads
+pub read_at_least : (k : Knowledge) (site : SiteId) (image number : ℕ) (snap : Option ℕ) (parts : List Part) (a : Answer) → KnowsAtLeast (learned k site (op.Data image number (object.Read snap parts)) a) k
+read_at_least k site image number snap parts a =
+    let read = op.Data image number (object.Read snap parts) in
+    knows_onward (learned k site read a) (learned_own k site read a) k (learned_at_least k site read a) (by (knows_head k site image number snap a))
+  where
+    by : (counts : Bool) → KnowsAtLeast (with_objects_where counts site image (found number) k) k
+    by true = found_at_least k site image number
+    by false = knows_itself k
 
 -- ---- plans
 

@@ -8,6 +8,7 @@ pub mod Closed
 pub mod AtLeast
 pub mod Lawful
 pub mod Possible
+pub mod Objects
 pub mod Fences
 pub mod About
 pub mod OwnSteps

@@ -2,7 +2,7 @@
 use Rattle.std.specs.Prelude.{◌≡◌, ℕ, true, Any, Option, Some, IfSome}
 use Rattle.rbd_kinds.specs.declared.id.SiteId.{SiteId}
 use Rattle.rbd_machine.specs.Ancestors.{HeaderSeen, IsAmong, ObjectTold}
-use Rattle.rbd_machine.specs.Knowledge.{Knowledge, MapsKnown, ObjectsKnown, is_absent, is_drawn, is_gone, is_raised, maps_of, objects_known_of}
+use Rattle.rbd_machine.specs.Knowledge.{Knowledge, MapsKnown, ObjectsKnown, is_absent, is_drawn, is_gone, is_raised, is_there, maps_of, objects_known_of}
 use Rattle.rbd_machine.specs.Permits.{IsInParts}
 
 -- what the one was told was told to the other
@@ -24,6 +24,7 @@ IsBlankAt o object x = Any (λ b. (b.object ≡ object) × IsInParts b.parts x) 
 -- of objects of the head
 pub record AreObjectsAtLeast (more less : ObjectsKnown) : Type 0 where
   pub absent : (object : ℕ) → is_absent object less.absent ≡ true → is_absent object more.absent ≡ true
+  pub there : (object : ℕ) → is_there object less.there ≡ true → is_there object more.there ≡ true
   pub blank : (object x : ℕ) → IsBlankAt less object x → IsBlankAt more object x
 
 -- The one knows all that the other knows. Of headers that it relies on, of its turn and of its

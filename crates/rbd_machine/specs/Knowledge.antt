@@ -19,9 +19,10 @@ use Rattle.rbd_kinds.specs.declared.operation.Op.TheVariants as op
 use Rattle.rbd_kinds.specs.declared.sharing.Sharing.{Sharing}
 use Rattle.rbd_kinds.specs.declared.sharing.Sharing.TheVariants.{Shared}
 pub use Rattle.rbd_kinds.specs.Images.{is_at, same_site}
+use Rattle.rbd_kinds.specs.Sharing.{is_alone}
 use Rattle.rbd_kinds.specs.declared.layout.Part.{Part}
 use Rattle.rbd_kinds.specs.Instances.{same_instance}
-use Rattle.rbd_header.specs.Header.{with_size, with_snap, without_snap}
+use Rattle.rbd_header.specs.Header.{detached, with_size, with_snap, without_snap}
 use Rattle.rbd_map.specs.States.{states_of}
 use Rattle.rbd_machine.specs.Ancestors.{HeaderSeen, ObjectTold, seen_by, told_by}
 use Rattle.rbd_machine.specs.Wait.{Wait}
@@ -65,10 +66,13 @@ pub record Blank : Type 0 where
   pub object : ℕ
   pub parts : Option (List Part)
 
--- What is known of the objects of an image's head, by its own changes.
+-- What is known of the objects of an image's head, by its own changes, and by what it read.
 pub record ObjectsKnown : Type 0 where
   -- the objects that aren't there: the request removed them
   pub absent : List ℕ
+  -- the objects that are there: the request changed them, or read them where none that removes
+  -- objects was beside it
+  pub there : List ℕ
   pub blank : List Blank
 
 pub record ImageObjects : Type 0 where
@@ -135,7 +139,7 @@ maps_of [] site image = unmapped
 maps_of (m ∷ maps) site image = if is_at site image m.site m.image then m.known else maps_of maps site image
 
 abbrev pub untouched : ObjectsKnown
-untouched = record { absent = []; blank = [] }
+untouched = record { absent = []; there = []; blank = [] }
 
 abbrev pub objects_known_of : List ImageObjects → SiteId → (image : ℕ) → ObjectsKnown
 objects_known_of [] site image = untouched
@@ -150,6 +154,10 @@ is_gone = is_drawn
 abbrev pub is_absent : (object : ℕ) → List ℕ → Bool
 is_absent object [] = false
 is_absent object (x ∷ absent) = if x == object then true else is_absent object absent
+
+-- whether an object is known to be there
+abbrev pub is_there : (object : ℕ) → List ℕ → Bool
+is_there = is_absent
 
 -- ---- who
 
@@ -280,10 +288,29 @@ with_objects site image change k =
           ∷ k.objects;
     }
 
--- an object that may be there, with any bytes
-abbrev pub forgotten : (object : ℕ) → ObjectsKnown → ObjectsKnown
-forgotten object o =
-    record { absent = filter (λ x. not (x == object)) o.absent; blank = filter (λ b. not (b.object == object)) o.blank }
+-- the same where it counts
+abbrev pub with_objects_where : (counts : Bool) → SiteId → (image : ℕ) → (ObjectsKnown → ObjectsKnown) → Knowledge
+    → Knowledge
+with_objects_where counts site image change k =
+    record k { objects = if counts then (with_objects site image change k).objects else k.objects }
+
+abbrev pub without_object : (object : ℕ) → List ℕ → List ℕ
+without_object object objects = filter (λ x. not (x == object)) objects
+
+-- an object that is there where this counts
+abbrev pub found_where : (counts : Bool) → (object : ℕ) → ObjectsKnown → ObjectsKnown
+found_where counts object o = record o { there = if counts then object ∷ o.there else o.there }
+
+abbrev pub found : (object : ℕ) → ObjectsKnown → ObjectsKnown
+found object o = record o { there = object ∷ o.there }
+
+-- an object that is there, with any bytes
+abbrev pub made : (object : ℕ) → ObjectsKnown → ObjectsKnown
+made object o = record {
+  absent = without_object object o.absent;
+  there = object ∷ o.there;
+  blank = filter (λ b. not (b.object == object)) o.blank;
+}
 
 -- an object of which some places became zeros
 abbrev pub blanked : (object : ℕ) → Option (List Part) → ObjectsKnown → ObjectsKnown
@@ -291,19 +318,44 @@ blanked object parts o = record o { blank = record { object = object; parts = pa
 
 -- an object that was removed
 abbrev pub removed : (object : ℕ) → ObjectsKnown → ObjectsKnown
-removed object o = blanked object None (record o { absent = object ∷ o.absent })
+removed object o =
+    blanked object None (record o { absent = object ∷ o.absent; there = without_object object o.there })
 
--- A change of an object tells what it is then.
+abbrev pub is_turn : Option ℕ → (object : ℕ) → Bool
+is_turn None object = false
+is_turn (Some turn) object = turn == object
+
+-- Whether the request keeps all that remove objects away from one: it is alone on the image, or at
+-- its turn at the object.
+abbrev pub keeps_object : Option Own → (turn : Option ℕ) → (object : ℕ) → Bool
+keeps_object None turn object = false
+keeps_object (Some o) turn object = if is_alone o.sharing then true else is_turn turn object
+
+-- whether an answer shows bytes of the head
+abbrev pub shows_head : Answer → (snap : Option ℕ) → Bool
+shows_head (answer.Bytes bytes) None = true
+shows_head _ _ = false
+
+-- whether the request knows by it that the object is there, as long as no other may remove it
+abbrev pub knows_head : Knowledge → SiteId → (image number : ℕ) → (snap : Option ℕ) → Answer → Bool
+knows_head k site image number snap a =
+    shows_head a snap && keeps_object (own_of k.owns site image) k.turn number
+
+-- A change of an object tells what it is then, and a read that shows bytes of its head that it is
+-- there. One that must be there, or that a copy-up met, is there.
 abbrev pub learned_of_object : Knowledge → SiteId → (image number : ℕ) → DataOp → Answer → Knowledge
+learned_of_object k site image number (object.Read snap parts) a =
+    with_objects_where (knows_head k site image number snap a) site image (found number) k
 learned_of_object k site image number (object.Write context must parts bytes) answer.Done =
-    with_objects site image (forgotten number) k
+    with_objects site image (made number) k
 learned_of_object k site image number (object.WriteFull context bytes) answer.Done =
-    with_objects site image (forgotten number) k
-learned_of_object k site image number (object.CopyUp bytes) answer.Done = with_objects site image (forgotten number) k
+    with_objects site image (made number) k
+learned_of_object k site image number (object.CopyUp bytes) answer.Done = with_objects site image (made number) k
+learned_of_object k site image number (object.CopyUp bytes) answer.Exists = with_objects site image (found number) k
 learned_of_object k site image number (object.Zero context must parts) answer.Done =
-    with_objects site image (blanked number (Some parts)) k
+    with_objects site image (λ o. blanked number (Some parts) (found_where must number o)) k
 learned_of_object k site image number (object.Empty context) answer.Done =
-    with_objects site image (λ o. blanked number None (forgotten number o)) k
+    with_objects site image (λ o. blanked number None (made number o)) k
 learned_of_object k site image number (object.Remove context) answer.Done = with_objects site image (removed number) k
 learned_of_object k site image number _ _ = k
 
@@ -331,6 +383,15 @@ removed_header site image k = record k {
   gone = record { site = site; image = image } ∷ k.gone;
 }
 
+-- the objects that are there are forgotten
+abbrev pub without_there : ObjectsKnown → ObjectsKnown
+without_there o = record o { there = [] }
+
+-- An image without a parent shows none of its bytes any more: so it doesn't matter from then on
+-- which of its objects are there.
+abbrev pub detached_header : SiteId → (image : ℕ) → Knowledge → Knowledge
+detached_header site image k = header_told site image (option_map detached) (with_objects site image without_there k)
+
 abbrev pub learned_of_header : Knowledge → SiteId → (image : ℕ) → HeaderOp → Answer → Knowledge
 learned_of_header k site image header.Get (answer.Header h) =
     header_told site image (first_told h) (looked_behind site image k)
@@ -341,6 +402,7 @@ learned_of_header k site image (header.SnapAdd name) (answer.Snap snap) =
     header_told site image (option_map (with_snap name)) k
 learned_of_header k site image (header.SnapRemove snap) answer.Done =
     header_told site image (option_map (without_snap snap)) k
+learned_of_header k site image header.Detach answer.Done = detached_header site image k
 learned_of_header k site image (header.LockBreak owner) answer.Done = without_fence site owner k
 learned_of_header k site image (header.LockBreak owner) answer.Changed = without_fence site owner k
 learned_of_header k site image _ _ = k

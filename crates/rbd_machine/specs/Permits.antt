@@ -21,7 +21,7 @@ use Rattle.rbd_kinds.specs.declared.map_op.MapOp.TheVariants as states
 use Rattle.rbd_kinds.specs.declared.operation.Op.{Op}
 use Rattle.rbd_kinds.specs.declared.operation.Op.TheVariants as op
 use Rattle.rbd_kinds.specs.declared.sharing.Sharing.{Sharing}
-use Rattle.rbd_kinds.specs.declared.sharing.Sharing.TheVariants.{Alone}
+use Rattle.rbd_kinds.specs.declared.sharing.Sharing.TheVariants.{Alone, Discard}
 use Rattle.rbd_kinds.specs.Form.{HasFewObjects, IsNewHeader}
 use Rattle.rbd_kinds.specs.Header.{snap_named}
 use Rattle.rbd_kinds.specs.Parts.{parts_len}
@@ -136,6 +136,13 @@ abbrev pub HasTurn : (alone : Bool) → Option ℕ → (number : ℕ) → Type 0
 HasTurn true turn number = Unit {0}
 HasTurn false turn number = turn ≡ Some number
 
+-- Whether a request that goes beside these others makes zeros, and removes objects: a flatten is
+-- never beside it, which needs each object that is there, and would fill again what became zero.
+abbrev pub makes_zeros : Sharing → Bool
+makes_zeros Alone = true
+makes_zeros Discard = true
+makes_zeros _ = false
+
 -- the part lies in the object by the layout, and ends within the size
 pub record LiesBelow (h : HeaderView) (number : ℕ) (p : Part) : Type 0 where
   pub part : IsPart h.layout number p
@@ -156,39 +163,44 @@ abbrev pub IsObjectOf : HeaderView → (number : ℕ) → Type 0
 IsObjectOf h number = (x : ℕ) × (x < h.size) × (object_of h.layout x ≡ number)
 
 -- The state of an object of the size is set in the head's map, at the turn: to 0 only where the
--- object isn't there.
+-- object isn't there, and beside no flatten.
 pub record MaySet (o : ObjectsKnown) (turn : Option ℕ) (number state : ℕ) (sharing : Sharing) (h : HeaderView)
     : Type 0 where
   pub within : IsObjectOf h number
   pub at_turn : HasTurn (is_alone sharing) turn number
   pub is_state : state < 3
   pub lowers : state ≡ 0 → is_absent number o.absent ≡ true
+  pub zeros : state ≡ 0 → makes_zeros sharing ≡ true
 
--- Parts become zeros, which makes no object that isn't there.
+-- Parts become zeros, which makes no object that isn't there, and beside no flatten.
 pub record MayZero (turn : Option ℕ) (number : ℕ) (context : SnapContext) (parts : List Part) (sharing : Sharing)
     (h : HeaderView) : Type 0 where
   pub under : context ≡ context_of h
   pub within : All (LiesBelow h number) parts
   pub at_turn : HasTurn (is_alone sharing) turn number
+  pub zeros : makes_zeros sharing ≡ true
 
--- All bytes of an object become zeros, and it stays, behind its state in the head's map.
+-- All bytes of an object become zeros, and it stays, behind its state in the head's map, and beside
+-- no flatten.
 pub record MayEmpty (m : MapsKnown) (turn : Option ℕ) (number : ℕ) (context : SnapContext) (sharing : Sharing)
     (h : HeaderView) : Type 0 where
   pub under : context ≡ context_of h
   pub within : IsObjectOf h number
   pub at_turn : HasTurn (is_alone sharing) turn number
   pub raised : HasState m number
+  pub zeros : makes_zeros sharing ≡ true
 
 -- no byte of the object is inside the overlap
 abbrev pub IsOutsideOverlap : HeaderView → (number : ℕ) → Type 0
 IsOutsideOverlap h number = (link : ParentLink) → h.parent ≡ Some link → link.overlap ≤ byte_at h.layout number 0
 
--- An object goes, unless its parent's bytes would show then.
+-- An object goes, unless its parent's bytes would show then, and beside no flatten.
 pub record MayRemoveObject (turn : Option ℕ) (number : ℕ) (context : SnapContext) (sharing : Sharing)
     (h : HeaderView) : Type 0 where
   pub under : context ≡ context_of h
   pub within : IsObjectOf h number
   pub at_turn : HasTurn (is_alone sharing) turn number
+  pub zeros : makes_zeros sharing ≡ true
   pub outside : IsOutsideOverlap h number
 
 -- An object becomes these bytes, of which those past the size are zeros, behind its state.

@@ -135,6 +135,8 @@
 //!   decides how it may. It breaks a lock only behind the fence of its owner, and lets one go only
 //!   where it relies on no header. It is refused by answers of its own images, and looks at no
 //!   others but those that headers name as parents.
+//! - [`object_laws`]: who changed an object, or read it where none that removes it is beside it,
+//!   knows that it is there. What makes zeros, or removes an object, is done beside no flatten.
 //! - [`course_laws`]: an orderly request stays orderly, whatever it is fed, on the course that it
 //!   has where it goes on.
 //!
@@ -198,6 +200,7 @@ mod giving;
 pub mod laws;
 mod looks;
 mod machine;
+pub mod object_laws;
 mod progress;
 mod reason;
 mod request;

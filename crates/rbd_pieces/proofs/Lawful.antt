@@ -14,7 +14,7 @@ use Rattle.rbd_machine.specs.Lawful.{IsLawful}
 use Rattle.rbd_machine.specs.Objects.{data_read, data_write, map_exists}
 use Rattle.rbd_machine.specs.Permits.{Permits}
 use Rattle.rbd_machine.specs.Plan.{Plan}
-use Rattle.rbd_machine.proofs.AtLeast.{lawful_by_more, learned_at_least}
+use Rattle.rbd_machine.proofs.AtLeast.{lawful_by_more, read_at_least}
 use Rattle.rbd_machine.proofs.Lawful.{lawful_not_there, lawful_on_done}
 use Rattle.rbd_pieces.specs.Gather.{gather, on_bytes}
 use Rattle.rbd_pieces.specs.Write.{write_piece, writing}
@@ -42,7 +42,7 @@ module _ (at : Label → Knowledge) (k : Knowledge) where
   lawful_gather (p ∷ pieces) site image snap read next lawful = (
     tt,
     λ a can.
-        lawful_by_more at (on_bytes p.parts (λ bytes. gather site image snap pieces (read ++ bytes) next) a) (learned k site (data_read image snap p) a) k (learned_at_least k site (data_read image snap p) a)
+        lawful_by_more at (on_bytes p.parts (λ bytes. gather site image snap pieces (read ++ bytes) next) a) (learned k site (data_read image snap p) a) k (read_at_least k site image p.object snap p.parts a)
         (lawful_on_bytes p.parts (λ bytes. gather site image snap pieces (read ++ bytes) next)
         (λ bytes. lawful_gather pieces site image snap (read ++ bytes) next lawful) a),
   )

@@ -77,7 +77,7 @@ lawful_zeros : (at : Label → Knowledge) (site : SiteId) (image : ℕ) (h : Hea
     → ((steps : List Answered) → AreZeroed site image h pieces steps → IsLawful at (known_behind k steps) next) → IsLawful at k (zero_pieces site image h pieces next)
 lawful_zeros at site image h [] k next owns are lawful = lawful [] refl
 lawful_zeros at site image h (p ∷ pieces) k next owns are lawful =
-    lawful_zero at k site image h p (zero_pieces site image h pieces next) (record { sharing = Alone; owns = owns; turn = tt }) (All-head (IsPieceOf h) p pieces are)
+    lawful_zero at k site image h p (zero_pieces site image h pieces next) (record { sharing = Alone; owns = owns; turn = tt; zeros = refl }) (All-head (IsPieceOf h) p pieces are)
     (λ first is.
     lawful_zeros at site image h pieces (known_behind k first) next (zeroed_own site image h h Alone p k first is owns) (All-tail (IsPieceOf h) p pieces are)
     (λ others zeroed.

@@ -18,7 +18,7 @@ use Rattle.rbd_layout.specs.declared.types.Piece.{Piece}
 use Rattle.rbd_layout.proofs.Derived.{Any-here, Any-there}
 use Rattle.rbd_layout.proofs.Mixed.{cases_lt}
 use Rattle.rbd_map.specs.States.{states_of}
-use Rattle.rbd_machine.specs.Knowledge.{Blank, Knowledge, MapsKnown, ObjectsKnown, blanked, forgotten, learned, maps_of, objects_known_of, removed, states_set, with_objects}
+use Rattle.rbd_machine.specs.Knowledge.{Blank, Knowledge, MapsKnown, ObjectsKnown, blanked, found_where, learned, made, maps_of, objects_known_of, removed, states_set, with_objects}
 use Rattle.rbd_machine.specs.Path.{Answered}
 use Rattle.rbd_machine.specs.Permits.{IsInParts, IsZeroByChange, IsZeroByState}
 use Rattle.rbd_pieces.specs.Full.{IsReplaced, cut_bytes, replaced, replaced_by}
@@ -139,11 +139,11 @@ module _ (site : SiteId) (image : ℕ) (h : HeaderView) (x : ℕ) where
             cc
 
     zeroed_elsewhere : (k : Knowledge) (context : _) (must : Bool) (p : Piece) → p.object ≡ number → IsZero k → IsZero (learned k site (data_zero image context must p) answer.Done)
-    zeroed_elsewhere k context must p is zeros = changed_elsewhere k (blanked p.object (Some p.parts)) (λ o found. Any-there IsBlank (record { object = p.object; parts = Some p.parts }) o.blank found) zeros
+    zeroed_elsewhere k context must p is zeros = changed_elsewhere k (λ o. blanked p.object (Some p.parts) (found_where must p.object o)) (λ o found. Any-there IsBlank (record { object = p.object; parts = Some p.parts }) o.blank found) zeros
 
     emptied_elsewhere : (k : Knowledge) (context : _) → IsZero k → IsZero (learned k site (data_empty image context number) answer.Done)
     emptied_elsewhere k context zeros =
-        changed_elsewhere k (λ o. blanked number None (forgotten number o)) (λ o found. Any-there IsBlank (record { object = number; parts = None }) (forgotten number o).blank (kept_apart o.blank found)) zeros
+        changed_elsewhere k (λ o. blanked number None (made number o)) (λ o found. Any-there IsBlank (record { object = number; parts = None }) (made number o).blank (kept_apart o.blank found)) zeros
 
     removed_elsewhere : (k : Knowledge) (context : _) → IsZero k → IsZero (learned k site (data_remove image context number) answer.Done)
     removed_elsewhere k context zeros = changed_elsewhere k (removed number) (λ o found. Any-there IsBlank (record { object = number; parts = None }) o.blank found) zeros
@@ -180,12 +180,12 @@ module _ (site : SiteId) (image : ℕ) (h : HeaderView) (x : ℕ) where
 
       by : (whole inside : Bool) → IsZeroByChange (objects_known_of (known_behind k (zeroed_by site image (context_of h) p whole inside)).objects site image) h x
       by true true =
-          changed_there (learned k site (map_set image p.object 1) answer.Done) (λ o. blanked p.object None (forgotten p.object o)) (λ o. Any-here IsBlank all (forgotten p.object o).blank (is, tt))
+          changed_there (learned k site (map_set image p.object 1) answer.Done) (λ o. blanked p.object None (made p.object o)) (λ o. Any-here IsBlank all (made p.object o).blank (is, tt))
       by true false =
           changed_there (learned k site (map_set image p.object 2) answer.Done) (removed p.object) (λ o. Any-here IsBlank all o.blank (is, tt))
       by false true =
-          changed_there (learned k site (map_set image p.object 1) answer.Done) (blanked p.object (Some p.parts)) (λ o. Any-here IsBlank some o.blank (is, among))
-      by false false = changed_there k (blanked p.object (Some p.parts)) (λ o. Any-here IsBlank some o.blank (is, among))
+          changed_there (learned k site (map_set image p.object 1) answer.Done) (λ o. blanked p.object (Some p.parts) (found_where true p.object o)) (λ o. Any-here IsBlank some o.blank (is, among))
+      by false false = changed_there k (λ o. blanked p.object (Some p.parts) (found_where false p.object o)) (λ o. Any-here IsBlank some o.blank (is, among))
 
   -- ---- piece by piece
 

@@ -18,7 +18,7 @@ use Rattle.rbd_machine.specs.Knowledge.{Knowledge, MapsKnown, ObjectsKnown, is_a
 use Rattle.rbd_machine.specs.Label.{Label}
 use Rattle.rbd_machine.specs.Lawful.{IsLawful}
 use Rattle.rbd_machine.specs.Path.{Answered}
-use Rattle.rbd_machine.specs.Permits.{HasState, HasTurn, IsOutsideOverlap, Permits}
+use Rattle.rbd_machine.specs.Permits.{HasState, HasTurn, IsOutsideOverlap, Permits, makes_zeros}
 use Rattle.rbd_machine.specs.Plan.{Plan}
 use Rattle.rbd_machine.specs.Steps.{on_done, own}
 use Rattle.rbd_machine.proofs.Lawful.{lawful_on_done}
@@ -82,25 +82,26 @@ module _ (site : SiteId) (image : ℕ) (h : HeaderView) (p : Piece) (is : IsPiec
       sharing = sharing;
       header = h;
       is = owns;
-      meets = record { within = is.object; at_turn = turn; is_state = omega (arith, less); lowers = λ none. absurd (omega (arith, none)) };
+      meets = record { within = is.object; at_turn = turn; is_state = omega (arith, less); lowers = λ none. absurd (omega (arith, none)); zeros = λ none. absurd (omega (arith, none)) };
     }
 
-    may_lower : is_absent p.object (objects_known_of k.objects site image).absent ≡ true → Permits k site (map_set image p.object 0)
-    may_lower absent = record {
+    may_lower : makes_zeros sharing ≡ true → is_absent p.object (objects_known_of k.objects site image).absent ≡ true → Permits k site (map_set image p.object 0)
+    may_lower zeros absent = record {
       sharing = sharing;
       header = h;
       is = owns;
-      meets = record { within = is.object; at_turn = turn; is_state = omega arith; lowers = λ none. absent };
+      meets = record { within = is.object; at_turn = turn; is_state = omega arith; lowers = λ none. absent; zeros = λ none. zeros };
     }
 
-    may_zero : (must : Bool) → Permits k site (data_zero image (context_of h) must p)
-    may_zero must = record { sharing = sharing; header = h; is = owns; meets = record { under = refl; within = is.parts; at_turn = turn } }
+    may_zero : makes_zeros sharing ≡ true → (must : Bool) → Permits k site (data_zero image (context_of h) must p)
+    may_zero zeros must = record { sharing = sharing; header = h; is = owns; meets = record { under = refl; within = is.parts; at_turn = turn; zeros = zeros } }
 
-    may_empty : HasState (maps_of k.maps site image) p.object → Permits k site (data_empty image (context_of h) p.object)
-    may_empty raised = record { sharing = sharing; header = h; is = owns; meets = record { under = refl; within = is.object; at_turn = turn; raised = raised } }
+    may_empty : makes_zeros sharing ≡ true → HasState (maps_of k.maps site image) p.object → Permits k site (data_empty image (context_of h) p.object)
+    may_empty zeros raised = record { sharing = sharing; header = h; is = owns; meets = record { under = refl; within = is.object; at_turn = turn; raised = raised; zeros = zeros } }
 
-    may_remove : is_inside h p.object ≡ false → Permits k site (data_remove image (context_of h) p.object)
-    may_remove none = inr (record { sharing = sharing; header = h; is = owns; meets = record { under = refl; within = is.object; at_turn = turn; outside = is_outside h p.object none } })
+    may_remove : makes_zeros sharing ≡ true → is_inside h p.object ≡ false → Permits k site (data_remove image (context_of h) p.object)
+    may_remove zeros none =
+        inr (record { sharing = sharing; header = h; is = owns; meets = record { under = refl; within = is.object; at_turn = turn; zeros = zeros; outside = is_outside h p.object none } })
 
     may_replace : HasState (maps_of k.maps site image) p.object → IsLayout h.layout → is_whole h p ≡ true → (bytes : List ℕ) → length bytes ≤ parts_len p.parts
         → Permits k site (data_write_full image (context_of h) p.object bytes)
@@ -120,27 +121,27 @@ module _ (site : SiteId) (image : ℕ) (h : HeaderView) (p : Piece) (is : IsPiec
       };
     }
 
-  module _ (at : Label → Knowledge) (k : Knowledge) (owns : OwnsByHeader k site image sharing h) (turn : HasTurn (is_alone sharing) k.turn p.object) (next : Plan) where
+  module _ (at : Label → Knowledge) (k : Knowledge) (owns : OwnsByHeader k site image sharing h) (turn : HasTurn (is_alone sharing) k.turn p.object) (zeros : makes_zeros sharing ≡ true) (next : Plan) where
     lawful_all : (inside : Bool) → is_inside h p.object ≡ inside → IsLawful at (known_behind k (all_zeroed site image (context_of h) p inside)) next → IsLawful at k (zero_all site image (context_of h) p inside next)
     lawful_all true there lawful =
         let raised = learned k site (map_set image p.object 1) answer.Done in
         lawful_own at k site (map_set image p.object 1) (emptying site image (context_of h) p next) (may_raise k owns turn 0 (omega arith))
-        (lawful_own at raised site (data_empty image (context_of h) p.object) next (may_empty raised owns turn (raised_last k site image p.object)) lawful)
+        (lawful_own at raised site (data_empty image (context_of h) p.object) next (may_empty raised owns turn zeros (raised_last k site image p.object)) lawful)
     lawful_all false none lawful =
         let marked = learned k site (map_set image p.object 2) answer.Done in
         let gone = learned marked site (data_remove image (context_of h) p.object) answer.Done in
         let lowering = setting site image (context_of h) p 0 next in
         lawful_own at k site (map_set image p.object 2) (removing site image (context_of h) p lowering) (may_raise k owns turn 1 (omega arith))
-        (lawful_own at marked site (data_remove image (context_of h) p.object) lowering (may_remove marked owns turn none)
-        (lawful_own at gone site (map_set image p.object 0) next (may_lower gone owns turn (removed_last marked site image p.object)) lawful))
+        (lawful_own at marked site (data_remove image (context_of h) p.object) lowering (may_remove marked owns turn zeros none)
+        (lawful_own at gone site (map_set image p.object 0) next (may_lower gone owns turn zeros (removed_last marked site image p.object)) lawful))
 
     lawful_by : (whole inside : Bool) → is_inside h p.object ≡ inside → IsLawful at (known_behind k (zeroed_by site image (context_of h) p whole inside)) next → IsLawful at k (zero_by site image (context_of h) p whole inside next)
     lawful_by true inside there lawful = lawful_all inside there lawful
-    lawful_by false false there lawful = lawful_own at k site (data_zero image (context_of h) false p) next (may_zero k owns turn false) lawful
+    lawful_by false false there lawful = lawful_own at k site (data_zero image (context_of h) false p) next (may_zero k owns turn zeros false) lawful
     lawful_by false true there lawful =
         let raised = learned k site (map_set image p.object 1) answer.Done in
         lawful_own at k site (map_set image p.object 1) (zeroing site image (context_of h) p true next) (may_raise k owns turn 0 (omega arith))
-        (lawful_own at raised site (data_zero image (context_of h) true p) next (may_zero raised owns turn true) lawful)
+        (lawful_own at raised site (data_zero image (context_of h) true p) next (may_zero raised owns turn zeros true) lawful)
 
     lawful_full_by : IsLayout h.layout → is_whole h p ≡ true → (left : List ℕ) → length left ≤ parts_len p.parts → IsLawful at (known_behind k (replaced_by site image h p left)) next → IsLawful at k (full_by site image h p left next)
     lawful_full_by layout whole [] few lawful = lawful_all (is_inside h p.object) refl lawful
@@ -152,10 +153,10 @@ module _ (site : SiteId) (image : ℕ) (h : HeaderView) (p : Piece) (is : IsPiec
 module _ (at : Label → Knowledge) (k : Knowledge) (site : SiteId) (image : ℕ) (h : HeaderView) (p : Piece) where
   pub lawful_zero : (next : Plan) → OwnsObject k site image h p.object → IsPieceOf h p → ((steps : List Answered) → IsZeroed site image h p steps → IsLawful at (known_behind k steps) next)
       → IsLawful at k (zero_piece site image h p next)
-  lawful_zero next own is lawful = lawful_by site image h p is own.sharing at k own.owns own.turn next (is_whole h p) (is_inside h p.object) refl (lawful (zeroed_steps site image h p) refl)
+  lawful_zero next own is lawful = lawful_by site image h p is own.sharing at k own.owns own.turn own.zeros next (is_whole h p) (is_inside h p.object) refl (lawful (zeroed_steps site image h p) refl)
 
   pub lawful_full : (bytes : List ℕ) (next : Plan) → OwnsObject k site image h p.object → IsLayout h.layout → IsPieceOf h p → is_whole h p ≡ true → length bytes ≤ parts_len p.parts
       → ((steps : List Answered) → IsReplaced site image h p bytes steps → IsLawful at (known_behind k steps) next) → IsLawful at k (full_piece site image h p bytes next)
   lawful_full bytes next own layout is whole few lawful =
       let less : length (cut_bytes bytes) ≤ length bytes = cut_len bytes in
-      lawful_full_by site image h p is own.sharing at k own.owns own.turn next layout whole (cut_bytes bytes) (omega (arith, less, few)) (lawful (replaced site image h p bytes) refl)
+      lawful_full_by site image h p is own.sharing at k own.owns own.turn own.zeros next layout whole (cut_bytes bytes) (omega (arith, less, few)) (lawful (replaced site image h p bytes) refl)

@@ -58,7 +58,9 @@ map_leaves k site image o a = refl
 object_leaves : (k : Knowledge) (site : SiteId) (image number : ℕ) (o : DataOp) (a : Answer) → (learned_of_object k site image number o a).owns ≡ k.owns
 object_leaves k site image number (object.Write context must parts bytes) answer.Done = refl
 object_leaves k site image number (object.WriteFull context bytes) answer.Done = refl
+object_leaves k site image number (object.Read snap parts) a = refl
 object_leaves k site image number (object.CopyUp bytes) answer.Done = refl
+object_leaves k site image number (object.CopyUp bytes) answer.Exists = refl
 object_leaves k site image number (object.Zero context must parts) answer.Done = refl
 object_leaves k site image number (object.Empty context) answer.Done = refl
 object_leaves k site image number (object.Remove context) answer.Done = refl

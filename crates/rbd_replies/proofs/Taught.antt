@@ -128,6 +128,7 @@ module _ (t : SiteId) (image : ℕ) (k : Knowledge) (s : SiteId) where
   header_gone i header.Remove answer.Done gone = removed_gone i (is_at t image s i) refl gone
   header_gone i (header.SnapAdd name) (answer.Snap snap) gone = inl gone
   header_gone i (header.SnapRemove snap) answer.Done gone = inl gone
+  header_gone i header.Detach answer.Done gone = inl gone
   header_gone i (header.LockBreak owner) answer.Done gone = inl gone
   header_gone i (header.LockBreak owner) answer.Changed gone = inl gone
   header_gone i header.Get _ gone = inl gone
@@ -136,6 +137,7 @@ module _ (t : SiteId) (image : ℕ) (k : Knowledge) (s : SiteId) where
   header_gone i header.Remove _ gone = inl gone
   header_gone i (header.SnapAdd name) _ gone = inl gone
   header_gone i (header.SnapRemove snap) _ gone = inl gone
+  header_gone i header.Detach _ gone = inl gone
   header_gone i (header.LockBreak owner) _ gone = inl gone
   header_gone i _ a gone = inl gone
 
@@ -159,7 +161,9 @@ module _ (t : SiteId) (image : ℕ) (k : Knowledge) (s : SiteId) where
   object_gone : (i n : ℕ) (o : DataOp) (a : Answer) → Gone t image (learned_of_object k s i n o a) → Gone t image k
   object_gone i n (object.Write context must parts bytes) answer.Done gone = gone
   object_gone i n (object.WriteFull context bytes) answer.Done gone = gone
+  object_gone i n (object.Read snap parts) a gone = gone
   object_gone i n (object.CopyUp bytes) answer.Done gone = gone
+  object_gone i n (object.CopyUp bytes) answer.Exists gone = gone
   object_gone i n (object.Zero context must parts) answer.Done gone = gone
   object_gone i n (object.Empty context) answer.Done gone = gone
   object_gone i n (object.Remove context) answer.Done gone = gone

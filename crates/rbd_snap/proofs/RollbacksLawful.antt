@@ -23,7 +23,7 @@ use Rattle.rbd_machine.specs.Lawful.{CanTell, IsLawful, IsLawfulRequest}
 use Rattle.rbd_machine.specs.Objects.{data_read}
 use Rattle.rbd_machine.specs.Plan.{Plan, without_labels}
 use Rattle.rbd_machine.specs.Steps.{applied}
-use Rattle.rbd_machine.proofs.AtLeast.{jump_lawful, lawful_by_more, learned_at_least}
+use Rattle.rbd_machine.proofs.AtLeast.{jump_lawful, lawful_by_more, read_at_least}
 use Rattle.rbd_machine.proofs.Lawful.{lawful_change, lawful_not_there, own_is_found, under_lock_known}
 use Rattle.rbd_meaning.specs.Rollbacks.{at_size, rollback_refuses}
 use Rattle.rbd_pieces.specs.Gather.{gather, on_bytes}
@@ -58,7 +58,7 @@ module _ (at : Label → Knowledge) (site : SiteId) (image : ℕ) (snap : ℕ) (
     tt,
     λ a can.
         lawful_by_more at (on_bytes p.parts (λ bytes. gather site image (Some snap) [] bytes (λ read. full_piece site image seen p read next)) a) (learned k site (data_read image (Some snap) p) a) k
-        (learned_at_least k site (data_read image (Some snap) p) a) (on a can),
+        (read_at_least k site image p.object (Some snap) p.parts a) (on a can),
   )
     where
       on : (a : Answer) → CanTell k site (data_read image (Some snap) p) a → IsLawful at k (on_bytes p.parts (λ bytes. gather site image (Some snap) [] bytes (λ read. full_piece site image seen p read next)) a)
@@ -73,7 +73,7 @@ module _ (at : Label → Knowledge) (site : SiteId) (image : ℕ) (snap : ℕ) (
   lawful_pieces [] k next form below whole owns lawful = lawful k
   lawful_pieces (p ∷ pieces) k next form below whole owns lawful =
       lawful_restore p k (restore_pieces site image seen snap pieces next) (λ bytes few.
-      lawful_full at k site image own p bytes (restore_pieces site image seen snap pieces next) (record { sharing = sharing.Alone; owns = owns; turn = tt }) form.layout
+      lawful_full at k site image own p bytes (restore_pieces site image seen snap pieces next) (record { sharing = sharing.Alone; owns = owns; turn = tt; zeros = refl }) form.layout
       (All-head (IsPieceOf own) p pieces below) (All-head (HasWholeObject seen) p pieces whole).whole few
       (λ steps is.
       lawful_pieces pieces (known_behind k steps) next form (All-tail (IsPieceOf own) p pieces below) (All-tail (HasWholeObject seen) p pieces whole)

@@ -10,7 +10,6 @@ use Rattle.std.proofs.lemmas.Option.{none-some, same_Some}
 use Rattle.rbd_client.specs.Client.{ClientView}
 use Rattle.rbd_knowledge.specs.Truth.{IsTrueOf}
 use Rattle.rbd_knowledge.proofs.HeadersOwned.{knows_by_lock}
-use Rattle.rbd_kinds.specs.declared.data_op.DataOp.TheVariants as object
 use Rattle.rbd_kinds.specs.declared.header_op.HeaderOp.TheVariants as header
 use Rattle.rbd_kinds.specs.declared.map_op.MapOp.TheVariants as states
 use Rattle.rbd_kinds.specs.declared.id.Instance.{Instance}
@@ -22,10 +21,10 @@ use Rattle.rbd_machine.specs.Knowledge.{Knowledge, nothing_known, is_drawn}
 use Rattle.rbd_machine.specs.Permits.{Permits}
 use Rattle.rbd_machine.specs.Plan.{Standing}
 use Rattle.rbd_interference.specs.Ancestors.{DrewNoneOf, HasReadTruly}
-use Rattle.rbd_interference.specs.Beside.{AreBeside, MayAct}
+use Rattle.rbd_interference.specs.Beside.{AreBeside, Breaks, Lowers, MayAct}
 use Rattle.rbd_interference.specs.Locks.{KnowsByLock, gives_up}
 use Rattle.rbd_interference.specs.Truth.{IsTrueAt, known_header}
-use Rattle.rbd_interference.proofs.Locks.{changes_by_lock, shares_by_lock}
+use Rattle.rbd_interference.proofs.Locks.{breaks_by_lock, shares_by_lock}
 use Rattle.rbd_interference.proofs.Nothing.{nothing_is_beside, nothing_is_read, nothing_is_true}
 use Rattle.rbd_interference.proofs.Together.{alone_knows, beside_mutual, nobody_knows}
 use Rattle.rbd_slots.specs.Session.{held_in, script_line}
@@ -165,9 +164,8 @@ less_permits s o k permits = permits
 less_acts_by_locks : (s : SiteId) (r : Records) (me you : Instance) (k j : Knowledge) (o : Op) → me ≢ you → KnowsByLock s r me k → KnowsByLock s r you j → MayAct s r me you (unless_look o k) j o
 less_acts_by_locks s r me you k j (op.Header image header.Get) differ mine yours = λ free some told. absurd (true≢false (sym some))
 less_acts_by_locks s r me you k j (op.Header image header.LockDrop) differ mine yours = λ lock. shares_by_lock s r me you k j image differ (λ free. lock) yours
-less_acts_by_locks s r me you k j (op.Data image number (object.Read snap parts)) differ mine yours = tt
-less_acts_by_locks s r me you k j (op.Data image number o) differ mine yours = changes_by_lock s r me you k j image number differ mine yours
-less_acts_by_locks s r me you k j (op.Map image (states.Set None number state)) differ mine yours = changes_by_lock s r me you k j image number differ mine yours
+less_acts_by_locks s r me you k j (op.Data image number o) differ mine yours = breaks_by_lock s r me you k j image (Breaks o j s image number) differ mine yours
+less_acts_by_locks s r me you k j (op.Map image (states.Set None number state)) differ mine yours = breaks_by_lock s r me you k j image (Lowers state j s image number) differ mine yours
 less_acts_by_locks s r me you k j _ differ mine yours = tt
 
 -- and beside whom it may act as it stands

@@ -2,7 +2,6 @@
 use Rattle.std.proofs.Common.{◌≡◌, ◌≢◌, ℕ, ◌==◌, cond, List, ◌∷◌, is_some, None, Some, refl, sym, ap, ◌∙◌, subst, true, false}
 use Rattle.std.proofs.lemmas.Bool.{true≢false, eq-eqb, ne_eqb}
 use Rattle.rbd_client.specs.Client.{ClientView, slot_state}
-use Rattle.rbd_kinds.specs.declared.data_op.DataOp.TheVariants as object
 use Rattle.rbd_kinds.specs.declared.header_op.HeaderOp.TheVariants as header
 use Rattle.rbd_kinds.specs.declared.map_op.MapOp.TheVariants as states
 use Rattle.rbd_kinds.specs.declared.id.Instance.{Instance}
@@ -84,7 +83,6 @@ nothing_beside s r me you k = beside_mutual s r you me nothing_known k (nothing_
 pub unknown_looks : (s : SiteId) (r : Records) (me you : Instance) (k j : Knowledge) → ((image : ℕ) → known_header j s image ≡ None) → (o : Op) → MayAct s r me you k j o
 unknown_looks s r me you k j none (op.Header image header.Get) = λ free some told. absurd (true≢false (sym told ∙ ap is_some (none image)))
 unknown_looks s r me you k j none (op.Header image header.LockDrop) = λ lock free some told. absurd (true≢false (sym told ∙ ap is_some (none image)))
-unknown_looks s r me you k j none (op.Data image number (object.Read snap parts)) = tt
 unknown_looks s r me you k j none (op.Data image number o) = λ free mine told knows. absurd (true≢false (sym told ∙ ap is_some (none image)))
 unknown_looks s r me you k j none (op.Map image (states.Set None number state)) = λ free mine told knows. absurd (true≢false (sym told ∙ ap is_some (none image)))
 unknown_looks s r me you k j none _ = tt

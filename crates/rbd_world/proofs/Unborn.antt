@@ -146,6 +146,7 @@ module _ (k : Knowledge) (s t : SiteId) (image : ℕ) where
   header_drawn i header.Remove answer.Done drawn = drawn
   header_drawn i (header.SnapAdd name) (answer.Snap snap) drawn = drawn
   header_drawn i (header.SnapRemove snap) answer.Done drawn = drawn
+  header_drawn i header.Detach answer.Done drawn = drawn
   header_drawn i (header.LockBreak owner) answer.Done drawn = drawn
   header_drawn i (header.LockBreak owner) answer.Changed drawn = drawn
   header_drawn i header.Get _ drawn = drawn
@@ -154,6 +155,7 @@ module _ (k : Knowledge) (s t : SiteId) (image : ℕ) where
   header_drawn i header.Remove _ drawn = drawn
   header_drawn i (header.SnapAdd name) _ drawn = drawn
   header_drawn i (header.SnapRemove snap) _ drawn = drawn
+  header_drawn i header.Detach _ drawn = drawn
   header_drawn i (header.LockBreak owner) _ drawn = drawn
   header_drawn i _ a drawn = drawn
 
@@ -181,7 +183,9 @@ module _ (k : Knowledge) (s t : SiteId) (image : ℕ) where
   object_drawn : (i n : ℕ) (o : DataOp) (a : Answer) → is_drawn (learned_of_object k s i n o a).drawn t image ≡ true → WasDrawn
   object_drawn i n (object.Write context must parts bytes) answer.Done drawn = drawn
   object_drawn i n (object.WriteFull context bytes) answer.Done drawn = drawn
+  object_drawn i n (object.Read snap parts) a drawn = drawn
   object_drawn i n (object.CopyUp bytes) answer.Done drawn = drawn
+  object_drawn i n (object.CopyUp bytes) answer.Exists drawn = drawn
   object_drawn i n (object.Zero context must parts) answer.Done drawn = drawn
   object_drawn i n (object.Empty context) answer.Done drawn = drawn
   object_drawn i n (object.Remove context) answer.Done drawn = drawn

@@ -1,4 +1,4 @@
-use Rattle.rbd_interference.proofs.Locks.{apart_by_locks, changes_by_lock, one_owner, shares_by_lock}
+use Rattle.rbd_interference.proofs.Locks.{apart_by_locks, breaks_by_lock, one_owner, shares_by_lock}
 use Rattle.rbd_interference.proofs.laws.a_lock_has_one_owner.Goals as goal
 
 pub returns-clause-one : goal.returns-clause-one
@@ -14,4 +14,4 @@ pub returns-clause-drops : goal.returns-clause-drops
 returns-clause-drops c = λ site r me you k j image differ yours lock. shares_by_lock site r me you k j image differ (λ free. lock) yours
 
 pub returns-clause-changes : goal.returns-clause-changes
-returns-clause-changes c = changes_by_lock
+returns-clause-changes c = λ site r me you k j image object differ mine yours. breaks_by_lock site r me you k j image _ differ mine yours
