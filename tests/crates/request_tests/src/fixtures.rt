@@ -18,11 +18,17 @@
 //! | `slots` | what has requests in slots, a session or a client |
 //! | `cases` | rows of a text for slots |
 //! | `player` | a text of cases, each of rows one after another, whoever plays them |
+//! | `clone_piece` | a piece of a made-up write of a clone, which may begin again |
+//! | `clone_change` | that write, alone |
+//! | `clone_request` | the requests of a session whose writes are such ones |
 //! | `errors` | why a row, or a text of rows, isn't so |
 //! | `text` | words and numbers of a row |
 mod alone;
 mod answers;
 mod cases;
+mod clone_change;
+mod clone_piece;
+mod clone_request;
 mod commands;
 mod drive;
 mod errors;
@@ -39,6 +45,8 @@ mod text;
 mod words;
 
 pub use alone::Alone;
+pub use clone_change::clone_write;
+pub use clone_request::CloneRequest;
 pub use commands::{asked, fill_length, hello, name, payload, read_length, served};
 pub use drive::{Answers, Played, play};
 pub use errors::{CaseError, RowError};

@@ -23,6 +23,7 @@ use rbd_kinds::{
     Answer, Command, Fed, Flow, HeaderOp, ImageAt, ImageId, Instance, NoMemory, Op, Reply, SiteId,
     Slot,
 };
+use rbd_machine::Request;
 use std::alloc::Global;
 
 /// What a client does that takes the lock of the image 7, and leaves it at rest.
@@ -30,16 +31,16 @@ pub const OWNS: &str =
     "1 takes write-0, dir-find id-7, header-get header, watch done, lock-take done, header-get header
 1 map-set done, data-write done done";
 
-/// Who has requests of all commands.
-type Inner = Client<SessionRequest>;
+/// What plays rows by the requests of all commands.
+pub type Tested = TestedBy<SessionRequest>;
 
-/// What plays rows.
+/// What plays rows by requests of a type.
 #[derive(Drop)]
-pub struct Tested {
-    client: Inner,
+pub struct TestedBy<R: Request> {
+    client: Client<R>,
 }
 
-impl Tested {
+impl<R: Request> TestedBy<R> {
     /// Whether it is this instance, at this site.
     pub fn is(&self, instance: Instance, site: SiteId) -> bool {
         self.client.instance() == instance && self.client.home() == site
@@ -48,7 +49,11 @@ impl Tested {
 
 /// A command takes a slot, where one is free and a request serves it: that of the line of the
 /// slot's number.
-fn submit(alloc: Global, client: &mut Inner, command: Command) -> Result<Option<Slot>, NoMemory> {
+fn submit<R: Request<Work = Command>>(
+    alloc: Global,
+    client: &mut Client<R>,
+    command: Command,
+) -> Result<Option<Slot>, NoMemory> {
     let Some(Slot(line)) = client.free() else {
         drop(command);
         return Ok(None);
@@ -62,12 +67,23 @@ fn submit(alloc: Global, client: &mut Inner, command: Command) -> Result<Option<
 
 /// Whether an operation is the one of these words at the home site, and of the kind that is wanted
 /// at a slot.
-fn is_wanted(client: &Inner, slot: Slot, site: SiteId, op: &Op, words: &str) -> bool {
+fn is_wanted<R: Request>(
+    client: &Client<R>,
+    slot: Slot,
+    site: SiteId,
+    op: &Op,
+    words: &str,
+) -> bool {
     site == SiteId::A && client.kind(slot) == Some((site, op.kind())) && is_operation(op, words)
 }
 
 /// Whether the operation of these words is wanted at a slot.
-fn wants(alloc: Global, client: &Inner, slot: Slot, words: &str) -> Result<bool, NoMemory> {
+fn wants<R: Request>(
+    alloc: Global,
+    client: &Client<R>,
+    slot: Slot,
+    words: &str,
+) -> Result<bool, NoMemory> {
     let Some((site, op)) = client.next(alloc, slot, &client.actor(slot))? else {
         return Ok(false);
     };
@@ -84,7 +100,7 @@ fn is_none(op: Option<(SiteId, Op)>) -> bool {
 }
 
 /// Whether no operation is wanted at a slot: it waits, or nothing runs in it.
-fn wants_none(alloc: Global, client: &Inner, slot: Slot) -> Result<bool, NoMemory> {
+fn wants_none<R: Request>(alloc: Global, client: &Client<R>, slot: Slot) -> Result<bool, NoMemory> {
     let has_none = is_none(client.next(alloc, slot, &client.actor(slot))?);
     Ok(has_none && client.kind(slot).is_none())
 }
@@ -92,7 +108,7 @@ fn wants_none(alloc: Global, client: &Inner, slot: Slot) -> Result<bool, NoMemor
 // ---- answers
 
 /// Whether an operation drops no lock that a request relies on.
-fn is_at_rest(client: &Inner, site: SiteId, op: &Op) -> bool {
+fn is_at_rest<R: Request>(client: &Client<R>, site: SiteId, op: &Op) -> bool {
     let Op::Header { image, op } = op else {
         return true;
     };
@@ -105,9 +121,9 @@ fn is_at_rest(client: &Inner, site: SiteId, op: &Op) -> bool {
 }
 
 /// Who acts at a slot is fed an answer.
-fn feed(
+fn feed<R: Request>(
     alloc: Global,
-    client: &mut Inner,
+    client: &mut Client<R>,
     slot: Slot,
     site: SiteId,
     op: &Op,
@@ -119,7 +135,7 @@ fn feed(
 }
 
 /// Whether what is wanted at a slot may be answered so.
-fn may_give(client: &Inner, site: SiteId, op: &Op, answer: &Answer) -> bool {
+fn may_give<R: Request>(client: &Client<R>, site: SiteId, op: &Op, answer: &Answer) -> bool {
     can_give(op, answer) && is_at_rest(client, site, op)
 }
 
@@ -131,9 +147,9 @@ fn turn_of(reply: Option<Reply>) -> Flow {
 }
 
 /// What comes of an answer to what is wanted at a slot: `None` where it can't be answered so.
-fn tell(
+fn tell<R: Request>(
     alloc: Global,
-    client: &mut Inner,
+    client: &mut Client<R>,
     slot: Slot,
     fed: &Fed,
 ) -> Result<Option<Flow>, NoMemory> {
@@ -155,17 +171,17 @@ fn tell(
 // ---- rows
 
 /// Whether the request in a slot is that of the line of this number.
-fn is_of_line(client: &Inner, slot: Slot, word: &str) -> bool {
+fn is_of_line<R: Request>(client: &Client<R>, slot: Slot, word: &str) -> bool {
     match client.line(slot) {
         Some(line) => u64::from(line) == number(word),
         None => word == "none",
     }
 }
 
-impl Slots for Tested {
+impl<R: Request<Work = Command>> Slots for TestedBy<R> {
     fn begin(alloc: Global) -> Result<Self, NoMemory> {
         let client = Client::new(alloc, ME, SiteId::A)?;
-        Ok(Tested { client })
+        Ok(TestedBy { client })
     }
 
     fn free(&self) -> Option<Slot> {
@@ -174,6 +190,10 @@ impl Slots for Tested {
 
     fn is_at_rest(&self, at: &ImageAt) -> bool {
         self.client.is_at_rest(at)
+    }
+
+    fn next(&self, alloc: Global, slot: Slot) -> Result<Option<(SiteId, Op)>, NoMemory> {
+        self.client.next(alloc, slot, &self.client.actor(slot))
     }
 
     fn wants(&self, alloc: Global, slot: Slot, words: &str) -> Result<bool, NoMemory> {

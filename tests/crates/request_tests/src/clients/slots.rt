@@ -62,8 +62,11 @@ moves 7
 heard hello
 1 header-get header
 1 dir-add id-7
+1 dir-find disc => id-7
+1 dir-find disk => done
 0 lock-drop done
 2 dir-find id-7
+2 dir-find disk => id-7
 2 refused BadShape
 3 takes tell
 1 dir-find none done";

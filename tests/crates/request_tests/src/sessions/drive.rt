@@ -11,20 +11,25 @@
 use crate::fixtures::{ME, Slots, can_give, number, served};
 use rbd_catalog::SessionRequest;
 use rbd_kinds::{Answer, Command, Fed, Flow, ImageAt, ImageId, NoMemory, Op, Reply, SiteId, Slot};
+use rbd_machine::Request;
 use rbd_slots::Session;
 use std::alloc::Global;
 
-/// Who has requests of all commands.
-type Inner = Session<SessionRequest>;
+/// What plays rows by the requests of all commands.
+pub type Tested = TestedBy<SessionRequest>;
 
-/// What plays rows.
+/// What plays rows by requests of a type.
 #[derive(Drop)]
-pub struct Tested {
-    session: Inner,
+pub struct TestedBy<R: Request> {
+    session: Session<R>,
 }
 
 /// A command takes a slot, where one is free and a request serves it.
-fn submit(alloc: Global, session: &mut Inner, command: Command) -> Result<Option<Slot>, NoMemory> {
+fn submit<R: Request<Work = Command>>(
+    alloc: Global,
+    session: &mut Session<R>,
+    command: Command,
+) -> Result<Option<Slot>, NoMemory> {
     if session.free().is_none() {
         drop(command);
         return Ok(None);
@@ -43,13 +48,22 @@ fn is_none(op: Option<(SiteId, Op)>) -> bool {
 }
 
 /// Whether the request in a slot wants no operation: it waits, or there is none that runs.
-fn wants_none(alloc: Global, session: &Inner, slot: Slot) -> Result<bool, NoMemory> {
+fn wants_none<R: Request>(
+    alloc: Global,
+    session: &Session<R>,
+    slot: Slot,
+) -> Result<bool, NoMemory> {
     let has_none = is_none(session.next(alloc, slot)?);
     Ok(has_none && session.kind(slot).is_none())
 }
 
 /// Whether the request in a slot may go on, and wants an operation that can give this answer.
-fn wants_it(alloc: Global, session: &Inner, slot: Slot, answer: &Answer) -> Result<bool, NoMemory> {
+fn wants_it<R: Request>(
+    alloc: Global,
+    session: &Session<R>,
+    slot: Slot,
+    answer: &Answer,
+) -> Result<bool, NoMemory> {
     let Some((_, op)) = session.next(alloc, slot)? else {
         return Ok(false);
     };
@@ -59,9 +73,9 @@ fn wants_it(alloc: Global, session: &Inner, slot: Slot, answer: &Answer) -> Resu
 }
 
 /// What comes of what the request in a slot is fed, which may go on.
-fn feed(
+fn feed<R: Request>(
     alloc: Global,
-    session: &mut Inner,
+    session: &mut Session<R>,
     slot: Slot,
     fed: &Fed,
 ) -> Result<Option<Flow>, NoMemory> {
@@ -73,9 +87,9 @@ fn feed(
 }
 
 /// The same, where the request wants what can give it.
-fn tell(
+fn tell<R: Request>(
     alloc: Global,
-    session: &mut Inner,
+    session: &mut Session<R>,
     slot: Slot,
     fed: &Fed,
 ) -> Result<Option<Flow>, NoMemory> {
@@ -89,7 +103,7 @@ fn tell(
 }
 
 /// Whether a slot stands at the look under the lock of the image of this number, or at none.
-fn looks_at(session: &Inner, slot: Slot, word: &str) -> bool {
+fn looks_at<R: Request>(session: &Session<R>, slot: Slot, word: &str) -> bool {
     match session.look_under_lock(slot) {
         Some(at) => at.site == SiteId::A && u64::from(at.image.0) == number(word),
         None => word == "none",
@@ -97,15 +111,19 @@ fn looks_at(session: &Inner, slot: Slot, word: &str) -> bool {
 }
 
 /// Whether a slot wants nothing once what runs in it was given up.
-fn is_given_up(alloc: Global, session: &mut Inner, slot: Slot) -> Result<bool, NoMemory> {
+fn is_given_up<R: Request>(
+    alloc: Global,
+    session: &mut Session<R>,
+    slot: Slot,
+) -> Result<bool, NoMemory> {
     session.give_up(slot);
     wants_none(alloc, session, slot)
 }
 
-impl Slots for Tested {
+impl<R: Request<Work = Command>> Slots for TestedBy<R> {
     fn begin(alloc: Global) -> Result<Self, NoMemory> {
         let session = Session::new(alloc, ME, SiteId::A)?;
-        Ok(Tested { session })
+        Ok(TestedBy { session })
     }
 
     fn free(&self) -> Option<Slot> {
@@ -114,6 +132,10 @@ impl Slots for Tested {
 
     fn is_at_rest(&self, at: &ImageAt) -> bool {
         self.session.is_at_rest(at)
+    }
+
+    fn next(&self, alloc: Global, slot: Slot) -> Result<Option<(SiteId, Op)>, NoMemory> {
+        self.session.next(alloc, slot)
     }
 
     fn wants(&self, _alloc: Global, slot: Slot, words: &str) -> Result<bool, NoMemory> {

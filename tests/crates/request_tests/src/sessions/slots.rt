@@ -73,7 +73,10 @@ free none
 1 gives in
 moves 7
 1 header-get header
+1 dir-find disc => id-7
+1 dir-find disk => done
 2 dir-find id-7
+2 dir-find disk => id-7
 2 refused BadShape
 3 takes ls
 1 dir-find none done";
