@@ -46,12 +46,13 @@ abbrev pub sharing_on : Knowledge → SiteId → (image : ℕ) → Sharing
 sharing_on k site image = sharing_of_own (own_of k.owns site image)
 
 -- The header that is there is the one that is known, but for the owner of its lock, which may have
--- changed. Of an image on which a request goes beside all that aren't alone, so beside a flatten too,
--- the parent may have gone, and with it the generation changed.
+-- changed. Of an image on which a request goes beside all that aren't alone, so beside a flatten
+-- too, the parent may have gone, and with it the generation changed: but neither, as long as the
+-- parent is the one that is known, be it none.
 pub record IsStillAs (sharing : Sharing) (known there : HeaderView) : Type 0 where
   pub same : there ≡ record known { owner = there.owner; generation = there.generation; parent = there.parent }
   pub parent : (there.parent ≡ known.parent) ⊎ (there.parent ≡ None)
-  pub exact : sharing ≢ Shared → there ≡ record known { owner = there.owner }
+  pub exact : (sharing ≢ Shared) ⊎ (there.parent ≡ known.parent) → there ≡ record known { owner = there.owner }
 
 abbrev pub IsStill : Sharing → (known there : Option HeaderView) → Type 0
 IsStill sharing None there = Unit {0}
