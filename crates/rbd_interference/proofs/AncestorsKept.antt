@@ -208,8 +208,8 @@ module _ (site : SiteId) (r : Records) (f : Flat) (me : Instance) (stands : Stan
   told_taught _ _ answered kept = kept
 
 pub told_learned : (site : SiteId) (r : Records) (f : Flat) (k : Knowledge) (me : Instance) (o : Op) (most : ℕ) → StandsFor [] r f → AreInForm r most → AreStandalone r → AreMapped r → IsTrueAt site r me k
-    → Permits k site o → AreToldTrue site r f k.seen k.told
-    → AreToldTrue site (after r me o) (changed_by f (effect_of r (done.Op o) (answer_to r me o))) (learned k site o (answer_to r me o)).seen (learned k site o (answer_to r me o)).told
+    → Permits k site o → HasReadTruly site r f k
+    → HasReadTruly site (after r me o) (changed_by f (effect_of r (done.Op o) (answer_to r me o))) (learned k site o (answer_to r me o))
 told_learned site r f k me o most stands form standalone mapped t permits was =
     told_taught site r f me stands k.seen t.seen k.told was o (answer_to r me o) refl
     (told_kept site r f me k o most stands form standalone mapped t permits k.seen k.told t.strange was)

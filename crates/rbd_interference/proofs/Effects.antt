@@ -137,7 +137,7 @@ module _ (site : SiteId) (r : Records) (f : Flat) (k : Knowledge) (me : Instance
     there_is = owned_there site r me k image _ t free owns
 
     exact : there_is.view ≡ record owns.header { owner = there_is.view.owner }
-    exact = there_is.still.exact (alone_unshared owns.sharing owns.meets.0)
+    exact = there_is.still.exact (inl (alone_unshared owns.sharing owns.meets.0))
 
     alone : is_alone_on k site image ≡ true
     alone = ap is_own_alone owns.is ∙ ap is_alone owns.meets.0

@@ -30,7 +30,7 @@ still_exactly sharing known there exact = record {
       ∙ ap (λ n. record known { owner = there.owner; generation = n }) (sym generation)
       ∙ ap (λ p. record known { owner = there.owner; generation = there.generation; parent = p }) (sym parent);
   parent = inl (ap (λ (h : HeaderView). h.parent) exact);
-  exact = λ unshared. exact;
+  exact = λ either. exact;
 }
 
 pub same_layout : (sharing : Sharing) (h v : HeaderView) → IsStillAs sharing h v → IsLayout v.layout → IsLayout h.layout

@@ -86,7 +86,7 @@ module _ (sharing : Sharing) where
   owned_else known there owner still = record {
     same = ap (λ (h : HeaderView). record h { owner = owner }) still.same;
     parent = still.parent;
-    exact = λ unshared. ap (λ (h : HeaderView). record h { owner = owner }) (still.exact unshared);
+    exact = λ either. ap (λ (h : HeaderView). record h { owner = owner }) (still.exact either);
   }
 
   left_still : (known there : HeaderView) (b : Bool) → IsStillAs sharing known there → IsStillAs sharing known (cond b (record there { owner = None }) there)

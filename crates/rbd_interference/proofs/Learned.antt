@@ -416,7 +416,7 @@ module _ (site : SiteId) (r : Records) (me : Instance) (k : Knowledge) (t : IsTr
       let there = owned_there site r me k image _ t free owns in
       let edits = takes image name owns in
       subst (λ a. IsTrueAt site (doing image (header.SnapAdd name)) me (learned_of_header k site image (header.SnapAdd name) a)) (sym edits.answered)
-      (edited image (header.SnapAdd name) _ owns (with_snap name) (λ h owner. refl) (λ h. refl) there.view (there.still.exact (alone_unshared owns.sharing owns.meets.0)) refl edits.is)
+      (edited image (header.SnapAdd name) _ owns (with_snap name) (λ h owner. refl) (λ h. refl) there.view (there.still.exact (inl (alone_unshared owns.sharing owns.meets.0))) refl edits.is)
 
   removed : (image snap : ℕ) → OwnsAlone k site image (MayRemove snap)
       → IsTrueAt site (doing image (header.SnapRemove snap)) me (learned_of_header k site image (header.SnapRemove snap) (header_answer me (r.headers image) (r.watchers image) (header.SnapRemove snap)))
@@ -424,7 +424,7 @@ module _ (site : SiteId) (r : Records) (me : Instance) (k : Knowledge) (t : IsTr
       let there = owned_there site r me k image _ t free owns in
       let edits = removes image snap owns in
       subst (λ a. IsTrueAt site (doing image (header.SnapRemove snap)) me (learned_of_header k site image (header.SnapRemove snap) a)) (sym edits.answered)
-      (edited image (header.SnapRemove snap) _ owns (without_snap snap) (λ h owner. refl) (λ h. refl) there.view (there.still.exact (alone_unshared owns.sharing owns.meets.0)) refl edits.is)
+      (edited image (header.SnapRemove snap) _ owns (without_snap snap) (λ h owner. refl) (λ h. refl) there.view (there.still.exact (inl (alone_unshared owns.sharing owns.meets.0))) refl edits.is)
 
   -- ---- its size, and its end
 
@@ -433,7 +433,7 @@ module _ (site : SiteId) (r : Records) (me : Instance) (k : Knowledge) (t : IsTr
   sized image to owns =
       let there = owned_there site r me k image _ t free owns in
       subst (λ a. IsTrueAt site (doing image (header.SetSize to)) me (learned_of_header k site image (header.SetSize to) a)) (sym (ap (λ h. header_answer me h (r.watchers image) (header.SetSize to)) there.is))
-      (edited image (header.SetSize to) _ owns (with_size to) (λ h owner. refl) (λ h. refl) there.view (there.still.exact (alone_unshared owns.sharing owns.meets.0)) refl (ap (λ h. header_after me h (header.SetSize to)) there.is))
+      (edited image (header.SetSize to) _ owns (with_size to) (λ h owner. refl) (λ h. refl) there.view (there.still.exact (inl (alone_unshared owns.sharing owns.meets.0))) refl (ap (λ h. header_after me h (header.SetSize to)) there.is))
 
   -- It has no header any more, but its id was drawn, and its head's map is still there.
   gone : (image : ℕ) → IsDrawn r image → IsSome (r.maps image None) → OwnsAlone k site image (λ h. h.snaps ≡ [])

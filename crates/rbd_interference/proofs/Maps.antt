@@ -268,7 +268,7 @@ module _ (site : SiteId) (r : Records) (f : Flat) (k : Knowledge) (you : Instanc
         same =
             let there = owned_there site r you k image _ t free owns in
             let at : h ≡ there.view = same_Some h there.view (sym is ∙ there.is) in
-            at ∙ there.still.exact (alone_unshared owns.sharing owns.meets.0) ∙ ap (λ (v : HeaderView). record owns.header { owner = v.owner }) (sym at)
+            at ∙ there.still.exact (inl (alone_unshared owns.sharing owns.meets.0)) ∙ ap (λ (v : HeaderView). record owns.header { owner = v.owner }) (sym at)
 
         grown : (x : ℕ) → x < to → owns.header.size < to → object_of owns.header.layout x < map_len (r.maps image None)
         grown x inside more =

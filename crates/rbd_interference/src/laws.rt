@@ -156,9 +156,9 @@ pub fn what_is_told_is_true()
         → AreToldTrue site r f seen told → AreToldTrue site r f (e ∷ seen) told }
     ensures kept { (site : Site) (r : Records) (f : Flat) (k : Knowledge) (me : Instance) (op : Op) (most : ℕ)
         → StandsFor [] r f → AreInForm r most → AreStandalone r → AreMapped r → IsTrueAt site r me k
-        → Permits k site op → AreToldTrue site r f k.seen k.told
-        → AreToldTrue site (after r me op) (changed_by f (effect_of r (done.Op op) (answer_to r me op)))
-        (learned k site op (answer_to r me op)).seen (learned k site op (answer_to r me op)).told }
+        → Permits k site op → HasReadTruly site r f k
+        → HasReadTruly site (after r me op) (changed_by f (effect_of r (done.Op op) (answer_to r me op)))
+        (learned k site op (answer_to r me op)) }
 {}
 
 /// A byte that is known of a snapshot, by what was read of it and of those below it at several

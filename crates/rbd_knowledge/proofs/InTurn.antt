@@ -6,7 +6,6 @@ use Rattle.std.proofs.lemmas.Bool.{true≢false, and_parts}
 use Rattle.std.proofs.lemmas.Option.{none-some}
 use Rattle.rbd_machine.specs.Course.{looks_under_lock_at, is_waiting}
 use Rattle.rbd_machine.specs.Orderly.{MayWait}
-use Rattle.rbd_machine.specs.declared.stage.Stage.TheVariants as stage
 use Rattle.rbd_kinds.specs.declared.answer.Answer.{Answer}
 use Rattle.rbd_kinds.specs.declared.id.SiteId.{SiteId}
 use Rattle.rbd_kinds.specs.declared.layout.Extent.{Extent}

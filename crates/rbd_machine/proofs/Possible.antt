@@ -1,5 +1,5 @@
 -- What a later look tells beside an earlier one, and beside the header of an own image.
-use Rattle.std.proofs.Common.{◌≡◌, ◌≢◌, inl, ℕ, ◌≤◌, Option, Some, None, refl, sym, ap, ◌∙◌, subst}
+use Rattle.std.proofs.Common.{◌≡◌, ◌≢◌, ◌⊎◌, inl, ℕ, ◌≤◌, Option, Some, None, refl, sym, ap, ◌∙◌, subst}
 use Rattle.std.proofs.lemmas.Option.{same_Some}
 use Rattle.rbd_kinds.specs.declared.answer.Answer.TheVariants as answer
 use Rattle.rbd_kinds.specs.declared.header.HeaderView.{HeaderView}
@@ -34,7 +34,7 @@ module _ (k : Knowledge) (site : SiteId) (image : ℕ) (was now : HeaderView)
       listed.size ∙ ap (λ (s : SnapView). s.size) (same_Some listed.was old (sym listed.listed ∙ there))
 
 -- the header of an own image is told again
-pub own_again : (k : Knowledge) (site : SiteId) (image : ℕ) (sharing : Sharing) (known now : HeaderView) → sharing ≢ Shared
+pub own_again : (k : Knowledge) (site : SiteId) (image : ℕ) (sharing : Sharing) (known now : HeaderView) → (sharing ≢ Shared) ⊎ (now.parent ≡ known.parent)
     → own_of k.owns site image ≡ Some (record { site = site; image = image; sharing = sharing; header = Some known })
     → IsPossible k site (op.Header image header.Get) (answer.Header now) → now ≡ record known { owner = now.owner }
-own_again k site image sharing known now exact is possible = let again = subst (λ own. IsOwnAgain own now) is possible.1 in again.exact exact
+own_again k site image sharing known now either is possible = let again = subst (λ own. IsOwnAgain own now) is possible.1 in again.exact either

@@ -20,11 +20,12 @@ use Rattle.rbd_machine.specs.Plan.{Plan, Ask}
 
 -- The header that is there is the one that is known, but for the owner of its lock, which may have
 -- changed. Of an image on which a request goes beside all that aren't alone, so beside a flatten
--- too, the parent may have gone, and with it the generation changed.
+-- too, the parent may have gone, and with it the generation changed: but neither, as long as the
+-- parent is the one that is known, be it none.
 pub record IsStillAs (sharing : Sharing) (known there : HeaderView) : Type 0 where
   pub same : there ≡ record known { owner = there.owner; generation = there.generation; parent = there.parent }
   pub parent : (there.parent ≡ known.parent) ⊎ (there.parent ≡ None)
-  pub exact : sharing ≢ Shared → there ≡ record known { owner = there.owner }
+  pub exact : (sharing ≢ Shared) ⊎ (there.parent ≡ known.parent) → there ≡ record known { owner = there.owner }
 
 -- so is one that is told, where a request waited for the lock and knows the header
 abbrev pub IsOwnAgain : Option Own → HeaderView → Type 0

@@ -251,7 +251,7 @@ pub fn fences_serve_once()
 /// A later look at a header agrees with each earlier one: a parent that was gone doesn't come back,
 /// and a snapshot that is listed still has its size. Who waited for the lock of an image, and knows
 /// its header, is told that one again, but for the owner of the lock; beside a flatten the parent
-/// may have gone.
+/// may have gone, and where it hasn't, nothing has changed.
 pub fn later_looks_agree()
     ensures parent { (k : Knowledge) (site : SiteId) (image : ℕ) (was now : HeaderView)
         → IsPossible (learned k site (Header image Get) (Told was)) site (Header image Get) (Told now)
@@ -261,7 +261,7 @@ pub fn later_looks_agree()
         → (snap : ℕ) (old new : SnapView) → snap ≤ was.snap_seq → snap_in was.snaps snap ≡ Some old
         → snap_in now.snaps snap ≡ Some new → new.size ≡ old.size }
     ensures own { (k : Knowledge) (site : SiteId) (image : ℕ) (sharing : Sharing) (known now : HeaderView)
-        → sharing ≢ Shared
+        → (sharing ≢ Shared) ⊎ (now.parent ≡ known.parent)
         → own_of k.owns site image ≡ Some
         (record { site = site; image = image; sharing = sharing; header = Some known })
         → IsPossible k site (Header image Get) (Told now) → now ≡ record known { owner = now.owner } }

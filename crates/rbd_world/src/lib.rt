@@ -69,7 +69,8 @@
 //! Each world is sound, whatever events came (`IsSoundWorld`):
 //!
 //! - Its calls, history, logs and mail are those of one *run*. At each place of the run each site's
-//!   records stand for its flat site: that of the effects so far.
+//!   records stand for its flat site: that of the effects so far. A parent is less deep than its
+//!   child.
 //! - A line of the script is begun once, by an instance that runs. Each operation for it comes
 //!   between its start and its end, with the answer and the effect that its site has for it there.
 //!   Its one reply is the command's behind these operations (`IsMeantBy` of `rbd_meaning`); where
@@ -80,9 +81,10 @@
 //!   slot.
 //! - The operations on a command's way to the lock of its image are a way of `rbd_lock`, while its
 //!   own walk wants its look under the lock.
-//! - Whoever does an operation is permitted it by what it knows, and what it knows is true. What
-//!   changes an image is its owner's, and a lock is broken only where its owner is fenced. A client
-//!   counts its locks by its own operations alone.
+//! - Whoever does an operation is permitted it by what it knows, and what it knows is true. So is
+//!   what it read of snapshots, as long as they are listed. What changes an image is its owner's,
+//!   and a lock is broken only where its owner is fenced. A client counts its locks by its own
+//!   operations alone.
 //! - Of two `write`, `fill` or `discard` requests of one instance, the one that found an image
 //!   first changes each of its objects first.
 //! - As long as nobody is stopped or fenced, object maps tell exactly which objects exist, but for
