@@ -217,7 +217,7 @@ module _ {R : Type 0} (stands : R → Standing) (s : SessionView R) (knows : ℕ
     -- a removal breaks what is there
     removing : (context : SnapContext) → PermitsOnObject (knows slot) site image number (object.Remove context)
         → BreaksNothing site image records me you (knows slot) (knows other) (KnowsThere (knows other) site image number)
-    removing context (inl over) free mine others is = true≢false (sym mine ∙ ap (λ o. is_some (header_of_own o)) over.unowned)
+    removing context (inl over) = λ free mine others is. true≢false (sym mine ∙ ap (λ o. is_some (header_of_own o)) over.unowned)
     removing context (inr owns) =
         leaves_known slot other differ r runs goes site image number records me you (at_turn _ (λ sharing h may. may.at_turn) owns)
         (λ some. zeros_by slot site image number _ owns owns.meets.zeros) (KnowsThere (knows other) site image number) (λ is. inr (inr is))
@@ -228,7 +228,7 @@ module _ {R : Type 0} (stands : R → Standing) (s : SessionView R) (knows : ℕ
     lowering zero owns =
         leaves_known slot other differ r runs goes site image number records me you (at_turn _ (λ sharing h may. may.at_turn) owns)
         (λ some. zeros_by slot site image number _ owns (owns.meets.zeros refl)) (KnowsRaised (knows other) site image number) (λ raised. inl raised)
-    lowering (suc state) owns free mine others broken = broken
+    lowering (suc state) owns = λ free mine others broken. broken
 
   pub may_act : (slot other : ℕ) (r : Running R) (site : SiteId) (why : Reason) (o : Op) (next : Answer → Plan) → slot ≢ other → running_at slot s ≡ Some r → waits slot (track_of r s.lines) ≡ false
       → (stands r.request).plan ≡ Ask site why o next → (records : Records) (me you : Instance) → MayAct site records me you (knows slot) (knows other) o
