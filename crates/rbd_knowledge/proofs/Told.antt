@@ -99,6 +99,7 @@ module _ (site : SiteId) (image : ℕ) (k : Knowledge) where
   of_header on header.Remove answer.Done some = inl (own_before site image (removed_header site on k) k (left_own site site image on k.owns) some)
   of_header on (header.SnapAdd name) (answer.Snap snap) some = inl (edited on _ some)
   of_header on (header.SnapRemove snap) answer.Done some = inl (edited on _ some)
+  of_header on (header.SnapStatus snap status) answer.Done some = inl (edited on _ some)
   of_header on (header.LockBreak owner) answer.Done some = inl some
   of_header on (header.LockBreak owner) answer.Changed some = inl some
   of_header on _ _ some = inl some

@@ -42,7 +42,7 @@ module _ (at : Label → Knowledge) (k : Knowledge) where
   lawful_gather (p ∷ pieces) site image snap read next lawful = (
     tt,
     λ a can.
-        lawful_by_more at (on_bytes p.parts (λ bytes. gather site image snap pieces (read ++ bytes) next) a) (learned k site (data_read image snap p) a) k (learned_at_least k site (data_read image snap p) a)
+        lawful_by_more at (on_bytes p.parts (λ bytes. gather site image snap pieces (read ++ bytes) next) a) (learned k site (data_read image snap p) a) k (learned_at_least k site (data_read image snap p) a refl)
         (lawful_on_bytes p.parts (λ bytes. gather site image snap pieces (read ++ bytes) next)
         (λ bytes. lawful_gather pieces site image snap (read ++ bytes) next lawful) a),
   )

@@ -58,7 +58,7 @@ module _ (at : Label → Knowledge) (site : SiteId) (image : ℕ) (snap : ℕ) (
     tt,
     λ a can.
         lawful_by_more at (on_bytes p.parts (λ bytes. gather site image (Some snap) [] bytes (λ read. full_piece site image seen p read next)) a) (learned k site (data_read image (Some snap) p) a) k
-        (learned_at_least k site (data_read image (Some snap) p) a) (on a can),
+        (learned_at_least k site (data_read image (Some snap) p) a refl) (on a can),
   )
     where
       on : (a : Answer) → CanTell (data_read image (Some snap) p) a → IsLawful at k (on_bytes p.parts (λ bytes. gather site image (Some snap) [] bytes (λ read. full_piece site image seen p read next)) a)

@@ -146,6 +146,7 @@ module _ (k : Knowledge) (s t : SiteId) (image : ℕ) where
   header_drawn i header.Remove answer.Done drawn = drawn
   header_drawn i (header.SnapAdd name) (answer.Snap snap) drawn = drawn
   header_drawn i (header.SnapRemove snap) answer.Done drawn = drawn
+  header_drawn i (header.SnapStatus snap status) answer.Done drawn = drawn
   header_drawn i (header.LockBreak owner) answer.Done drawn = drawn
   header_drawn i (header.LockBreak owner) answer.Changed drawn = drawn
   header_drawn i header.Get _ drawn = drawn
@@ -154,6 +155,7 @@ module _ (k : Knowledge) (s t : SiteId) (image : ℕ) where
   header_drawn i header.Remove _ drawn = drawn
   header_drawn i (header.SnapAdd name) _ drawn = drawn
   header_drawn i (header.SnapRemove snap) _ drawn = drawn
+  header_drawn i (header.SnapStatus snap status) _ drawn = drawn
   header_drawn i (header.LockBreak owner) _ drawn = drawn
   header_drawn i _ a drawn = drawn
 
