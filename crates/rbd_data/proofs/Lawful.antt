@@ -107,7 +107,7 @@ lawful_viewing site image h e (Some view) =
       tt,
       λ a can.
           lawful_by_more nothing_at (on_closing (seen_at h e) read a) (learned nothing_known site (op.Header image header.Get) a) (learned_own nothing_known site (op.Header image header.Get) a)
-          (learned_at_least nothing_known site (op.Header image header.Get) a) (lawful_closing site image (seen_at h e) read a),
+          (learned_at_least nothing_known site (op.Header image header.Get) a refl) (lawful_closing site image (seen_at h e) read a),
     )))
 
 pub lawful_pass : (site : SiteId) (name : List ℕ) (snap : Option (List ℕ)) (e : Extent) → IsLawful nothing_at nothing_known (pass site name snap e)

@@ -1,11 +1,14 @@
 -- What is permitted may be done, and is answered as it can be.
 use Rattle.std.proofs.Common.{◌≡◌, inl, inr, ℕ, ◌+◌, ◌*◌, ◌^◌, ◌≤◌, ◌||◌, cond, not, Bool, true, false, List, [], ◌∷◌, length, length-append, Option, Some, None, is_some, refl, sym, ap, ◌∙◌, subst, arith, true≢false}
 use Rattle.std.proofs.lemmas.Option.{slice_get_within, get_or_from_slice_get}
+use Rattle.std.specs.FinSet as finset
 use Rattle.std.specs.Prelude.{All, IsFalse, IsSome}
 use Rattle.rbd_layout.proofs.Limits.{shape_of}
 use Rattle.rbd_parts.proofs.ContentsLemmas.{length-window}
 use Rattle.rbd_parts.specs.Contents.{window}
 use Rattle.rbd_kinds.specs.declared.answer.Answer.TheVariants as answer
+use Rattle.rbd_kinds.specs.declared.children_op.ChildrenOp.{ChildrenOp}
+use Rattle.rbd_kinds.specs.declared.children_op.ChildrenOp.TheVariants as child
 use Rattle.rbd_kinds.specs.declared.data_op.DataOp.{DataOp}
 use Rattle.rbd_kinds.specs.declared.data_op.DataOp.TheVariants as object
 use Rattle.rbd_kinds.specs.declared.directory_op.DirectoryOp.{DirectoryOp}
@@ -42,6 +45,7 @@ use Rattle.rbd_map.specs.States.{states_of}
 use Rattle.rbd_map.proofs.Packing.{hold_states, length-states_of}
 use Rattle.rbd_site.specs.DataStep.{finds, parts_read}
 use Rattle.rbd_site.specs.DataStep as step
+use Rattle.rbd_site.specs.ChildrenStep.{entry}
 use Rattle.rbd_site.specs.DirectoryStep.{name_added, name_changed, image_found}
 use Rattle.rbd_site.specs.Found.{done_where}
 use Rattle.rbd_site.specs.HeaderStep.{MayDoOnHeader, header_answer, is_owner, lock_taken}
@@ -53,7 +57,7 @@ use Rattle.rbd_interference.specs.Truth.{AreMapped, HasAtLeast, IsCountTrue, IsT
 use Rattle.rbd_interference.proofs.Fenced.{where_free}
 use Rattle.rbd_interference.proofs.Headers.{own_known, owned_there, same_layout}
 use Rattle.rbd_interference.proofs.MapsLearned.{within_map}
-use Rattle.rbd_interference.proofs.Learned.{takes, removes}
+use Rattle.rbd_interference.proofs.Learned.{marks, takes, removes}
 
 -- ---- the site's condition
 
@@ -81,6 +85,7 @@ map_fence_given k site image o permits = record { word = refl; form = tt }
 
 fence_given : (k : Knowledge) (site : SiteId) (o : Op) → Permits k site o → CanGive o answer.Fenced
 fence_given k site (op.Directory o) permits = record { word = refl; form = tt }
+fence_given k site (op.Children o) permits = record { word = refl; form = tt }
 fence_given k site (op.BlockAdd i) permits = record { word = refl; form = tt }
 fence_given k site (op.Header image header.Get) permits = record { word = refl; form = tt }
 fence_given k site (op.Header image o) permits = record { word = refl; form = tt }
@@ -147,6 +152,7 @@ module _ (site : SiteId) (r : Records) (me : Instance) (k : Knowledge) (most : �
 
   may_serve : (o : Op) → Permits k site o → MayServe r o
   may_serve (op.Directory o) permits = tt
+  may_serve (op.Children o) permits = tt
   may_serve (op.BlockAdd i) permits = tt
   may_serve (op.Header image header.Get) permits = tt
   may_serve (op.Header image (header.Create view)) permits = permits.new
@@ -154,6 +160,7 @@ module _ (site : SiteId) (r : Records) (me : Instance) (k : Knowledge) (most : �
   may_serve (op.Header image header.Remove) permits = tt
   may_serve (op.Header image (header.SnapAdd name)) permits = tt
   may_serve (op.Header image (header.SnapRemove snap)) permits = tt
+  may_serve (op.Header image (header.SnapStatus snap status)) permits = tt
   may_serve (op.Header image header.LockTake) permits = tt
   may_serve (op.Header image header.LockDrop) permits = tt
   may_serve (op.Header image (header.LockBreak owner)) permits = tt
@@ -199,6 +206,15 @@ module _ (site : SiteId) (r : Records) (me : Instance) (k : Knowledge) (most : �
       by true = refl
       by false = refl
 
+  children_give_it : (o : ChildrenOp) → CanGive (op.Children o) (answer_served r me (op.Children o))
+  children_give_it (child.Add parent snap image) = record { word = refl; form = tt }
+  children_give_it (child.Remove parent snap image) = record { word = by (finset.contains r.children (entry parent snap image)); form = tt }
+    where
+      by : (there : Bool) → gives (op.Children (child.Remove parent snap image)) (done_where there) ≡ true
+      by true = refl
+      by false = refl
+  children_give_it (child.List parent snap) = record { word = refl; form = tt }
+
   header_gives_it : (image : ℕ) (o : HeaderOp) → PermitsOnHeader k site image o → CanGive (op.Header image o) (answer_served r me (op.Header image o))
   header_gives_it image header.Get permits = by (r.headers image) refl
     where
@@ -221,6 +237,8 @@ module _ (site : SiteId) (r : Records) (me : Instance) (k : Knowledge) (most : �
       subst (CanGive (op.Header image (header.SnapAdd name))) (sym (takes site r me k t free image name permits).answered) (record { word = refl; form = tt })
   header_gives_it image (header.SnapRemove snap) permits =
       subst (CanGive (op.Header image (header.SnapRemove snap))) (sym (removes site r me k t free image snap permits).answered) (record { word = refl; form = tt })
+  header_gives_it image (header.SnapStatus snap status) permits =
+      subst (CanGive (op.Header image (header.SnapStatus snap status))) (sym (marks site r me k t free image snap status permits).answered) (record { word = refl; form = tt })
   header_gives_it image header.LockTake permits = lock_gives_it (r.headers image)
     where
       by : (same : Bool) (owner : Instance) → CanGive (op.Header image header.LockTake) (cond same answer.Done (answer.Held owner))
@@ -324,6 +342,7 @@ module _ (site : SiteId) (r : Records) (me : Instance) (k : Knowledge) (most : �
 
   served_gives_it : (o : Op) → Permits k site o → CanGive o (answer_served r me o)
   served_gives_it (op.Directory o) permits = directory_gives_it o
+  served_gives_it (op.Children o) permits = children_give_it o
   served_gives_it (op.BlockAdd i) permits = record { word = refl; form = tt }
   served_gives_it (op.Header image o) permits = header_gives_it image o permits
   served_gives_it (op.Data image number o) permits = object_gives_it image number o permits

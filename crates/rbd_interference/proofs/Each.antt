@@ -13,7 +13,7 @@ use Rattle.rbd_site.specs.Records.{Records, object_at}
 use Rattle.rbd_site.specs.Step.{is_fenced}
 use Rattle.rbd_stands.specs.Covering.{Maps}
 use Rattle.rbd_interference.specs.Ancestors.{IsSeenTrue}
-use Rattle.rbd_interference.specs.Truth.{AreMapsTrue, AreObjectsTrue, AreZeros, HasNoStates, IsCountTrue, IsGoneAt, IsTrueAt, IsWaiting, KnowsNoHeader, header_of_own, is_alone_on, is_own_alone, known_header, IsStillOwn}
+use Rattle.rbd_interference.specs.Truth.{AreChildrenTrue, AreMapsTrue, AreObjectsTrue, AreZeros, HasNoStates, IsCountTrue, IsGoneAt, IsTrueAt, IsWaiting, KnowsNoHeader, header_of_own, is_alone_on, is_own_alone, known_header, IsStillOwn}
 use Rattle.rbd_interference.proofs.MapsBehind.{at_each}
 use Rattle.rbd_interference.proofs.Seen.{seen_there}
 
@@ -42,19 +42,27 @@ of_image site r me k t image = record {
   strange = t.strange image;
 }
 
-pub of_all : (site : SiteId) (r : Records) (me : Instance) (k : Knowledge) → ((i : Instance) → is_fenced_by k.fenced site i ≡ true → is_fenced r i ≡ true)
-    → ((image : ℕ) → IsTrueOfImage site r me k image) → IsTrueAt site r me k
-of_all site r me k fenced each = record {
-  owned = λ free image. (each image).owned free;
-  drawn = λ image. (each image).drawn;
-  fenced = fenced;
-  mapped = λ free image. (each image).mapped free;
-  objects = λ free image. (each image).objects free;
-  gone = λ image. (each image).gone;
-  apart = λ image. (each image).apart;
-  counted = λ image. (each image).counted;
-  seen = λ image. (each image).seen;
-  strange = λ image. (each image).strange;
+-- What is known of each image, and of fences, is true: all but what is known of children.
+pub record AreImagesTrue (site : SiteId) (r : Records) (me : Instance) (k : Knowledge) : Type 0 where
+  pub fenced : (i : Instance) → is_fenced_by k.fenced site i ≡ true → is_fenced r i ≡ true
+  pub each : (image : ℕ) → IsTrueOfImage site r me k image
+
+pub of_images : (site : SiteId) (r : Records) (me : Instance) (k : Knowledge) → IsTrueAt site r me k → AreImagesTrue site r me k
+of_images site r me k t = record { fenced = t.fenced; each = of_image site r me k t }
+
+pub of_all : (site : SiteId) (r : Records) (me : Instance) (k : Knowledge) → AreImagesTrue site r me k → AreChildrenTrue site r me k → IsTrueAt site r me k
+of_all site r me k images children = record {
+  owned = λ free image. (images.each image).owned free;
+  drawn = λ image. (images.each image).drawn;
+  fenced = images.fenced;
+  mapped = λ free image. (images.each image).mapped free;
+  objects = λ free image. (images.each image).objects free;
+  gone = λ image. (images.each image).gone;
+  apart = λ image. (images.each image).apart;
+  counted = λ image. (images.each image).counted;
+  seen = λ image. (images.each image).seen;
+  strange = λ image. (images.each image).strange;
+  children = children;
 }
 
 -- ---- images that nothing was done to
@@ -138,13 +146,14 @@ module _ (site : SiteId) (r new : Records) (me : Instance) (k learnt : Knowledge
 -- What is done to one image, and learned of it, leaves the others.
 pub each_true : (site : SiteId) (r new : Records) (me : Instance) (k learnt : Knowledge) (image : ℕ) → IsTrueAt site r me k → (IsFalse (is_fenced new me) → IsFalse (is_fenced r me))
     → ((i : Instance) → is_fenced_by learnt.fenced site i ≡ true → is_fenced new i ≡ true) → IsTrueOfImage site new me learnt image
-    → ((i : ℕ) → i ≢ image → IsKnownAs site learnt k i) → ((i : ℕ) → i ≢ image → IsThereAs r new i) → IsTrueAt site new me learnt
-each_true site r new me k learnt image t was fenced here known there =
-    of_all site new me learnt fenced
-    (at_each (IsTrueOfImage site new me learnt) image here (λ i other. true_as site r new me k learnt i (of_image site r me k t i) (known i other) (there i other) was))
+    → ((i : ℕ) → i ≢ image → IsKnownAs site learnt k i) → ((i : ℕ) → i ≢ image → IsThereAs r new i) → AreImagesTrue site new me learnt
+each_true site r new me k learnt image t was fenced here known there = record {
+  fenced = fenced;
+  each = at_each (IsTrueOfImage site new me learnt) image here (λ i other. true_as site r new me k learnt i (of_image site r me k t i) (known i other) (there i other) was);
+}
 
 -- where no image was changed
 pub alike_true : (site : SiteId) (r new : Records) (me : Instance) (k : Knowledge) → IsTrueAt site r me k → (IsFalse (is_fenced new me) → IsFalse (is_fenced r me))
-    → ((i : Instance) → is_fenced_by k.fenced site i ≡ true → is_fenced new i ≡ true) → ((i : ℕ) → IsThereAs r new i) → IsTrueAt site new me k
+    → ((i : Instance) → is_fenced_by k.fenced site i ≡ true → is_fenced new i ≡ true) → ((i : ℕ) → IsThereAs r new i) → AreImagesTrue site new me k
 alike_true site r new me k t was fenced there =
-    of_all site new me k fenced (λ i. true_as site r new me k k i (of_image site r me k t i) (known_as_itself site k i) (there i) was)
+    record { fenced = fenced; each = λ i. true_as site r new me k k i (of_image site r me k t i) (known_as_itself site k i) (there i) was }

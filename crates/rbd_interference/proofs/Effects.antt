@@ -1,14 +1,19 @@
 -- What is permitted has its effect.
 use Rattle.std.proofs.Common.{◌≡◌, ◌⊎◌, inl, inr, ℕ, ◌+◌, Bool, true, false, List, [], unwrap_or, Option, Some, None, is_some, refl, sym, ap, ◌∙◌, subst, true≢false}
+use Rattle.std.specs.FinSet as finset
 use Rattle.std.specs.Prelude.{All, IsFalse, slice_index}
 use Rattle.std.proofs.lemmas.List.Elements.{All-weaker}
+use Rattle.std.proofs.lemmas.Option.{none-some, same_Some}
 use Rattle.rbd_kinds.specs.declared.answer.Answer.{Answer}
 use Rattle.rbd_kinds.specs.declared.answer.Answer.TheVariants as answer
+use Rattle.rbd_kinds.specs.declared.children_op.ChildrenOp.{ChildrenOp}
+use Rattle.rbd_kinds.specs.declared.children_op.ChildrenOp.TheVariants as child
 use Rattle.rbd_kinds.specs.declared.data_op.DataOp.{DataOp}
 use Rattle.rbd_kinds.specs.declared.data_op.DataOp.TheVariants as object
 use Rattle.rbd_kinds.specs.declared.directory_op.DirectoryOp.{DirectoryOp}
 use Rattle.rbd_kinds.specs.declared.directory_op.DirectoryOp.TheVariants as directory
 use Rattle.rbd_kinds.specs.declared.header.HeaderView.{HeaderView}
+use Rattle.rbd_kinds.specs.declared.header.ParentLink.{ParentLink}
 use Rattle.rbd_kinds.specs.declared.header.SnapContext.{SnapContext}
 use Rattle.rbd_kinds.specs.declared.header_op.HeaderOp.{HeaderOp}
 use Rattle.rbd_kinds.specs.declared.header_op.HeaderOp.TheVariants as header
@@ -30,7 +35,8 @@ use Rattle.rbd_flat.specs.Flat.{Flat, FlatImage, image_at}
 use Rattle.rbd_flat.specs.declared.effect.Effect.{Effect}
 use Rattle.rbd_flat.specs.declared.effect.Effect.TheVariants as effect
 use Rattle.rbd_machine.specs.Knowledge.{Blank, Knowledge, maps_of, objects_known_of}
-use Rattle.rbd_machine.specs.Permits.{Permits, PermitsOnHeader, PermitsOnObject, IsInParts, IsZeroByChange, IsZeroByState, LiesBelow, MayEmpty, MayReplace, MaySize, MayWrite, MayZero, OwnsAlone, OwnsBy}
+use Rattle.rbd_machine.specs.Permits.{Permits, PermitsOnChildren, PermitsOnHeader, PermitsOnObject, IsInParts, IsOtherThan, IsZeroByChange, IsZeroByState, LiesBelow, MayEmpty, MayReplace, MaySize, MayUnlink, MayWrite, MayZero, OwnsAlone, OwnsBy}
+use Rattle.rbd_site.specs.ChildrenStep.{entry}
 use Rattle.rbd_site.specs.DataStep.{finds}
 use Rattle.rbd_site.specs.DirectoryStep.{name_added, name_changed}
 use Rattle.rbd_site.specs.Found.{done_where}
@@ -42,17 +48,19 @@ use Rattle.rbd_site.specs.Step.{is_fenced, after, answer_to, answer_served}
 use Rattle.rbd_site.specs.declared.done.DoneOp.TheVariants as done
 use Rattle.rbd_site.proofs.GenerationLemmas.{looked_at}
 use Rattle.rbd_site.proofs.StepLemmas.{refused}
-use Rattle.rbd_stands.specs.Condition.{IsContextOf, ArePartsBelow, AreWhole, IsPartBelow, IsZeroPast, IsZeroedFrom, extents_of}
+use Rattle.rbd_stands.specs.Condition.{IsContextOf, IsFree, ArePartsBelow, AreWhole, IsPartBelow, NamesOther, IsZeroPast, IsZeroedFrom, extents_of}
 use Rattle.rbd_stands.specs.Covering.{IsCovered, exists_at}
 use Rattle.rbd_stands.specs.Effect.{effect_of, effect_of_data, effect_of_op, effect_of_making}
 use Rattle.rbd_stands.specs.Image.{IsInside}
 use Rattle.rbd_stands.specs.Shown.{IsInOverlap, snapshots_of, links_of}
 use Rattle.rbd_stands.specs.Site.{StandsFor, StandsAt}
 use Rattle.rbd_stands.specs.Unseen.{is_unseen}
+use Rattle.rbd_stands.specs.View.{EachView}
+use Rattle.rbd_stands.proofs.ChildSteps.{link_stands, unlink_stands}
 use Rattle.rbd_stands.proofs.Contexts.{reversed_context}
 use Rattle.rbd_stands.proofs.DataSteps.{empty_stands, remove_stands, replace_stands, write_stands, zero_stands}
 use Rattle.rbd_stands.proofs.DirectorySteps.{free_stands, name_stands, rename_stands}
-use Rattle.rbd_stands.proofs.EditSteps.{gone_stands, size_stands, unnamed}
+use Rattle.rbd_stands.proofs.EditSteps.{gone_stands, size_stands, status_stands, unnamed}
 use Rattle.rbd_stands.proofs.EffectLemmas.{empty_effect, remove_effect, replace_effect, write_effect, zero_effect}
 use Rattle.rbd_stands.proofs.ImageSteps.{create_stands, snap_stands, unsnap_stands}
 use Rattle.rbd_stands.proofs.MapSteps.{map_stands}
@@ -62,7 +70,7 @@ use Rattle.rbd_stands.proofs.StoreSteps.{data_of_none, listed_stands, unseen_cha
 use Rattle.rbd_interference.specs.Truth.{AreMapped, AreStatesOf, AreZeros, IsTrueAt, AreStandalone, changed_by, is_alone_on, is_own_alone, known_header}
 use Rattle.rbd_interference.proofs.Done.{may_write}
 use Rattle.rbd_interference.proofs.Headers.{IsThere, own_known, owned_there}
-use Rattle.rbd_interference.proofs.Learned.{takes, removes}
+use Rattle.rbd_interference.proofs.Learned.{marks, takes, removes}
 use Rattle.rbd_interference.proofs.Sharing.{alone_unshared}
 
 module _ (site : SiteId) (r : Records) (f : Flat) (k : Knowledge) (me : Instance) (most : ℕ) (stands : StandsFor [] r f) (form : AreInForm r most) (standalone : AreStandalone r) (mapped : AreMapped r) (t : IsTrueAt site r me k) where
@@ -121,6 +129,45 @@ module _ (site : SiteId) (r : Records) (f : Flat) (k : Knowledge) (me : Instance
       by : (there : Option FlatImage) → StandsAt (snapshots_of f) (links_of f image) None (object_at r image) there → there ≡ None
       by None at = refl
       by (Some i) at = elim at [ ]
+
+  -- a parent that is no view's
+  other_parent : (image snap : ℕ) (parent : Option ParentLink) → IsOtherThan image snap parent → NamesOther image snap parent
+  other_parent image snap None other = tt
+  other_parent image snap (Some link) other = other link refl
+
+  -- Who takes a link away makes the child, and so it has no header yet; or removed its header; or
+  -- knows its header, but for a parent that is gone.
+  link_is_free : IsFalse (is_fenced r me) → (parent snap image : ℕ) → MayUnlink k site parent snap image → IsFree [] r parent snap image
+  link_is_free free parent snap image may = record { views = by may; awaited = λ n p is. cc }
+    where
+      by : MayUnlink k site parent snap image → (h : HeaderView) → r.headers image ≡ Some h → EachView h (λ v shape. NamesOther parent snap shape.parent)
+      by (inl makes) h is = absurd (none-some h (sym (t.drawn image makes).header ∙ is))
+      by (inr (inl gone)) h is = absurd (none-some h (sym (t.gone image gone).header ∙ is))
+      by (inr (inr owns)) h is =
+          let there = owned_there site r me k image _ t free owns in
+          let same : h ≡ there.view = same_Some h there.view (sym is ∙ there.is) in
+          subst (λ v. EachView v (λ w shape. NamesOther parent snap shape.parent)) (sym same) (record {
+            head = head there.view.parent there.still.parent;
+            snap = λ n s listed. other_parent parent snap s.parent (owns.meets.snaps n s (ap (λ (v : HeaderView). snap_in v.snaps n) (sym there.still.same) ∙ listed));
+          })
+        where
+          head : (now : Option ParentLink) → (now ≡ owns.header.parent) ⊎ (now ≡ None) → NamesOther parent snap now
+          head now (inl same) = subst (NamesOther parent snap) (sym same) (other_parent parent snap owns.header.parent owns.meets.head)
+          head now (inr none) = subst (NamesOther parent snap) (sym none) tt
+
+  unlink_effect : (parent snap image : ℕ) → MayUnlink k site parent snap image → IsFalse (is_fenced r me) → (there : Bool)
+      → answer_to r me (op.Children (child.Remove parent snap image)) ≡ done_where there → HasItsEffect (op.Children (child.Remove parent snap image))
+  unlink_effect parent snap image may free false answered = refused_effect (op.Children (child.Remove parent snap image)) answer.Absent answered refl
+  unlink_effect parent snap image may free true answered =
+      effects (op.Children (child.Remove parent snap image)) answer.Done (Some (effect.Unlink parent snap image)) answered refl
+      (unlink_stands [] r f me parent snap image stands (link_is_free free parent snap image may) answered)
+
+  children_effect : (o : ChildrenOp) → PermitsOnChildren k site o → HasItsEffect (op.Children o)
+  children_effect (child.Add parent snap image) permits = where_served (op.Children (child.Add parent snap image)) (λ free served.
+      effects (op.Children (child.Add parent snap image)) answer.Done (Some (effect.Link parent snap image)) served refl (link_stands [] r f me parent snap image stands served))
+  children_effect (child.Remove parent snap image) permits = where_served (op.Children (child.Remove parent snap image)) (λ free served.
+      unlink_effect parent snap image permits free (finset.contains r.children (entry parent snap image)) served)
+  children_effect (child.List parent snap) permits = look_effect (op.Children (child.List parent snap)) refl
 
   -- a flat site has neither locks nor watchers, nor a blocklist
   unseen_effect : (image : ℕ) (o : HeaderOp) → is_unseen o ≡ true → HasItsEffect (op.Header image o)
@@ -223,6 +270,10 @@ module _ (site : SiteId) (r : Records) (f : Flat) (k : Knowledge) (me : Instance
       (unsnap_stands [] r f me image snap stands
       (unnamed [] r f image snap there.view may.view stands there.is (ap (λ (h : HeaderView). snap_in h.snaps snap) there.still.same ∙ may.listed) may.unprotected)
       (served ∙ edits.answered)))
+  header_effect image (header.SnapStatus snap status) permits = where_served (op.Header image (header.SnapStatus snap status)) (λ free served.
+      let edits = marks site r me k t free image snap status permits in
+      effects (op.Header image (header.SnapStatus snap status)) answer.Done (Some (effect.Status image snap status)) (served ∙ edits.answered) refl
+      (status_stands [] r f me image snap status stands (λ freed. (t.children.childless free image snap (permits.meets.1.frees freed)).unnamed) (served ∙ edits.answered)))
   header_effect image header.LockTake permits = unseen_effect image header.LockTake refl
   header_effect image header.LockDrop permits = unseen_effect image header.LockDrop refl
   header_effect image (header.LockBreak owner) permits = unseen_effect image (header.LockBreak owner) refl
@@ -348,6 +399,7 @@ module _ (site : SiteId) (r : Records) (f : Flat) (k : Knowledge) (me : Instance
 
   pub has_its_effect : (o : Op) → Permits k site o → HasItsEffect o
   has_its_effect (op.Directory o) permits = directory_effect o
+  has_its_effect (op.Children o) permits = children_effect o permits
   has_its_effect (op.BlockAdd i) permits = listed_effect i
   has_its_effect (op.Header image o) permits = header_effect image o permits
   has_its_effect (op.Data image number o) permits = object_effect image number o permits

@@ -1,13 +1,15 @@
 -- What is learned at one site says nothing of the other.
-use Rattle.std.proofs.Common.{◌≡◌, inl, inr, ℕ, ◌==◌, ◌&&◌, not, cond, Bool, true, false, List, [], ◌∷◌, filter, Option, Some, None, option_map, refl, sym, ap, ◌∙◌, subst}
+use Rattle.std.proofs.Common.{◌≡◌, ◌⊎◌, inl, inr, ℕ, ◌==◌, ◌&&◌, not, cond, Bool, true, false, List, [], ◌∷◌, filter, Option, Some, None, option_map, refl, sym, ap, ◌∙◌, subst}
 use Rattle.std.proofs.lemmas.Bool.{true≢false, and_parts}
 use Rattle.rbd_kinds.specs.declared.answer.Answer.{Answer}
 use Rattle.rbd_kinds.specs.declared.answer.Answer.TheVariants as answer
+use Rattle.rbd_kinds.specs.declared.children_op.ChildrenOp.TheVariants as child
 use Rattle.rbd_kinds.specs.declared.data_op.DataOp.{DataOp}
 use Rattle.rbd_kinds.specs.declared.data_op.DataOp.TheVariants as object
 use Rattle.rbd_kinds.specs.declared.directory_op.DirectoryOp.{DirectoryOp}
 use Rattle.rbd_kinds.specs.declared.directory_op.DirectoryOp.TheVariants as directory
 use Rattle.rbd_kinds.specs.declared.header.HeaderView.{HeaderView}
+use Rattle.rbd_kinds.specs.declared.header.ParentLink.{ParentLink}
 use Rattle.rbd_kinds.specs.declared.header_op.HeaderOp.{HeaderOp}
 use Rattle.rbd_kinds.specs.declared.header_op.HeaderOp.TheVariants as header
 use Rattle.rbd_kinds.specs.declared.id.Instance.{Instance}
@@ -18,14 +20,16 @@ use Rattle.rbd_kinds.specs.declared.map_op.MapOp.TheVariants as states
 use Rattle.rbd_kinds.specs.declared.operation.Op.{Op}
 use Rattle.rbd_kinds.specs.declared.operation.Op.TheVariants as op
 use Rattle.rbd_kinds.specs.Instances.{same_instance}
-use Rattle.rbd_kinds.proofs.Images.{at_itself}
-use Rattle.rbd_header.specs.Header.{detached, with_size, with_snap, without_snap}
-use Rattle.rbd_machine.specs.Ancestors.{HeaderSeen, IsAmong, ObjectTold, has_seen, seen_by, told_by}
-use Rattle.rbd_machine.specs.Knowledge.{ImageMaps, Knowledge, MapsKnown, ObjectsKnown, Own, ImagePlace, detached_header, first_told, found, header_told, is_at, is_drawn, is_fenced_by, is_gone, knows_head, learned, learned_of_directory, learned_of_header, learned_of_listing, learned_of_map, learned_of_object, learned_own, looked_behind, looked_by, looked_under_lock, maps_of, maps_told, objects_known_of, only_there, own_of, removed_header, same_site, unmapped, with_drawn, with_objects, with_objects_where, without_drawn, without_there}
-use Rattle.rbd_machine.proofs.AtLeast.{own_as_before}
+use Rattle.rbd_kinds.proofs.Images.{at_itself, same_site_is, same_site_itself}
+use Rattle.rbd_header.specs.Header.{detached, with_size, with_snap, without_snap, with_status}
+use Rattle.rbd_machine.specs.Ancestors.{HeaderSeen, IsAmong, has_seen, seen_by, ChildBase, ChildLink, SnapPlace}
+use Rattle.rbd_machine.specs.Knowledge.{ImageMaps, Knowledge, MapsKnown, ObjectsKnown, Own, ImagePlace, detached_header, first_told, found, header_told, is_at, is_drawn, is_fenced_by, is_gone, knows_head, learned, learned_of_directory, learned_of_header, learned_of_listing, learned_of_map, learned_of_object, learned_own, looked_behind, looked_by, looked_under_lock, maps_of, maps_told, objects_known_of, only_there, own_of, removed_header, same_site, unmapped, with_drawn, with_objects, with_objects_where, without_drawn, without_there, header_alone}
+use Rattle.rbd_machine.proofs.AtLeast.{own_as_before, IsNewBase, among_left, base_was}
+use Rattle.rbd_machine.specs.Children.{based_by, childless_by, is_base, is_link, is_snap, linked_by, lists_unprotecting, with_childless}
 use Rattle.rbd_site.specs.Records.{Records}
 use Rattle.rbd_interference.specs.Beside.{AreBeside}
 use Rattle.rbd_interference.specs.Truth.{IsTrueAt}
+use Rattle.rbd_interference.proofs.Children.{same_children}
 use Rattle.rbd_interference.proofs.Told.{told_apart}
 use Rattle.rbd_interference.proofs.Less.{IsLess, afresh_less, as_maps, left_there, less_beside, less_itself, less_then, less_true, same_maps, unfenced_less}
 use Rattle.rbd_interference.proofs.Seen.{IsSeenLess, same_seen}
@@ -43,6 +47,9 @@ module _ (s t : SiteId) (differ : same_site s t ≡ false) where
   not_at : (image i : ℕ) (there : SiteId) (place : ℕ) → is_at s image there place ≡ true → is_at t i there place ≡ false
   not_at image i there place here =
       ap (λ b. b && (place == i)) (apart_sites s t there differ (and_parts (same_site there s) (place == image) here).0)
+
+  other_site : s ≡ t → ⊥
+  other_site same = true≢false (sym (same_site_itself s) ∙ ap (same_site s) same ∙ differ)
 
   not_there : (image i : ℕ) → is_at t i s image ≡ false
   not_there image i = ap (λ b. b && (image == i)) differ
@@ -87,6 +94,7 @@ module _ (s t : SiteId) (differ : same_site s t ≡ false) where
     objects = λ i. inl refl;
     gone = λ i gone. gone;
     seen = same_seen t k.seen;
+    children = same_children t _ k refl refl refl refl refl;
   }
 
   map_same : (k : Knowledge) (image : ℕ) (o : MapOp) (a : Answer) → IsLess t (learned_of_map k s image o a) k
@@ -106,6 +114,7 @@ module _ (s t : SiteId) (differ : same_site s t ≡ false) where
     objects = λ i. inl (ap (λ b. cond b o (objects_known_of k.objects t i)) (not_there image i));
     gone = λ i gone. gone;
     seen = same_seen t k.seen;
+    children = same_children t _ k refl refl refl refl refl;
   }
 
   object_same : (k : Knowledge) (image number : ℕ) (o : DataOp) (a : Answer) → IsLess t (learned_of_object k s image number o a) k
@@ -132,6 +141,13 @@ module _ (s t : SiteId) (differ : same_site s t ≡ false) where
     objects = λ i. inl refl;
     gone = λ i gone. gone;
     seen = same_seen t k.seen;
+    children = record {
+      linked = λ parent snap child among. among;
+      based = λ child link among. among;
+      childless = λ i snap among. among;
+      makes = λ child makes. makes;
+      owns = λ i snap among. told_apart s t image i change (not_there image i) k.owns;
+    };
   }
 
   drawn_same : (k : Knowledge) (image : ℕ) → IsLess t (with_drawn s image k) k
@@ -143,6 +159,13 @@ module _ (s t : SiteId) (differ : same_site s t ≡ false) where
     objects = λ i. inl refl;
     gone = λ i gone. gone;
     seen = same_seen t k.seen;
+    children = record {
+      linked = λ parent snap child among. among;
+      based = λ child link among. among;
+      childless = λ i snap among. among;
+      makes = λ child makes. ap (λ b. cond b true (is_drawn k.drawn t child)) (not_there image child) ∙ makes;
+      owns = λ i snap among. refl;
+    };
   }
 
   made_same : (k : Knowledge) (image : ℕ) → IsLess t (without_drawn s image k) k
@@ -154,6 +177,13 @@ module _ (s t : SiteId) (differ : same_site s t ≡ false) where
     objects = λ i. inl refl;
     gone = λ i gone. gone;
     seen = same_seen t k.seen;
+    children = record {
+      linked = λ parent snap child among. among;
+      based = λ child link among. among;
+      childless = λ i snap among. among;
+      makes = λ child makes. left_drawn image child k.drawn ∙ makes;
+      owns = λ i snap among. refl;
+    };
   }
 
   removed_same : (k : Knowledge) (image : ℕ) → IsLess t (removed_header s image k) k
@@ -165,6 +195,13 @@ module _ (s t : SiteId) (differ : same_site s t ≡ false) where
     objects = λ i. inl refl;
     gone = λ i gone. sym (ap (λ b. cond b true (is_gone k.gone t i)) (not_there image i)) ∙ gone;
     seen = same_seen t k.seen;
+    children = record {
+      linked = λ parent snap child among. among;
+      based = λ child link among. among;
+      childless = λ i snap among. among;
+      makes = λ child makes. makes;
+      owns = λ i snap among. left_there s t image i (not_there image i) k.owns;
+    };
   }
 
   directory_same : (k : Knowledge) (o : DirectoryOp) (a : Answer) → IsLess t (learned_of_directory k s o a) k
@@ -182,6 +219,7 @@ module _ (s t : SiteId) (differ : same_site s t ≡ false) where
   header_same k image header.Detach answer.Done =
       less_then t (detached_header s image k) (with_objects s image without_there k) k (told_same (with_objects s image without_there k) image (option_map detached))
       (objects_same k image (without_there (objects_known_of k.objects s image)))
+  header_same k image (header.SnapStatus snap status) answer.Done = told_same k image (option_map (with_status snap status))
   header_same k image (header.LockBreak owner) answer.Done = unfenced_less t s owner k
   header_same k image (header.LockBreak owner) answer.Changed = unfenced_less t s owner k
   header_same k image _ _ = less_itself t k
@@ -195,6 +233,7 @@ module _ (s t : SiteId) (differ : same_site s t ≡ false) where
     objects = λ image. inl refl;
     gone = λ image gone. gone;
     seen = same_seen t k.seen;
+    children = same_children t _ k refl refl refl refl refl;
   }
   listing_same k i _ = less_itself t k
 
@@ -218,24 +257,67 @@ module _ (s t : SiteId) (differ : same_site s t ≡ false) where
       unlisted i k (inr among) = among
   seen_same seen _ _ = same_seen t seen
 
-  -- what is told of any image adds nothing here
-  telling_same : (k : Knowledge) (seen : List HeaderSeen) (told : List ObjectTold) → IsSeenLess t seen k.seen → IsLess t (record k { seen = seen; told = told }) k
-  telling_same k seen told less = record {
-    owns = λ i some. refl;
-    drawn = λ i drawn. drawn;
-    fenced = λ i known. known;
-    maps = λ i. same_maps (maps_of k.maps t i);
-    objects = λ i. inl refl;
-    gone = λ i gone. gone;
-    seen = less;
-  }
+  -- nor is a child at this site one at the other
+  module _ (k : Knowledge) where
+    link_there : (l : ChildLink) → l.site ≡ s → (parent snap child : ℕ) → l ≡ record { site = t; parent = parent; snap = snap; child = child } → ⊥
+    link_there l here parent snap child same = other_site (sym here ∙ ap (λ (x : ChildLink). x.site) same)
 
+    linked_same : (o : Op) (a : Answer) (parent snap child : ℕ) → IsAmong (record { site = t; parent = parent; snap = snap; child = child }) (linked_by k.linked s o a)
+        → IsAmong (record { site = t; parent = parent; snap = snap; child = child }) k.linked
+    linked_same (op.Children (child.Add p n c)) answer.Done parent snap image (inl same) = absurd (link_there (record { site = s; parent = p; snap = n; child = c }) refl parent snap image same)
+    linked_same (op.Children (child.Add p n c)) answer.Done parent snap image (inr among) = among
+    linked_same (op.Children (child.Remove p n c)) answer.Done parent snap image among = (among_left (λ l. not (is_link s p n c l)) (record { site = t; parent = parent; snap = snap; child = image }) k.linked among).0
+    linked_same (op.Children (child.Remove p n c)) answer.Absent parent snap image among = (among_left (λ l. not (is_link s p n c l)) (record { site = t; parent = parent; snap = snap; child = image }) k.linked among).0
+    linked_same (op.Header i (header.Create view)) answer.Done parent snap image among = (among_left (λ l. not (is_at s i l.site l.child)) (record { site = t; parent = parent; snap = snap; child = image }) k.linked among).0
+    linked_same _ _ parent snap image among = among
+
+    based_same : (o : Op) (a : Answer) (child : ℕ) (link : ParentLink) → IsAmong (record { site = t; child = child; link = link }) (based_by k.linked k.based s o a) → IsAmong (record { site = t; child = child; link = link }) k.based
+    based_same (op.Header i header.Get) (answer.Header h) image link among = by (base_was k.linked s i h k.based (record { site = t; child = image; link = link }) among)
+      where
+        by : IsAmong (record { site = t; child = image; link = link }) k.based ⊎ IsNewBase k.linked s i h (record { site = t; child = image; link = link }) → IsAmong (record { site = t; child = image; link = link }) k.based
+        by (inl before) = before
+        by (inr new) =
+            let here : new.link.site ≡ s = same_site_is new.link.site s (and_parts (same_site new.link.site s) (new.link.parent == i) new.here).0 in
+            absurd (other_site (sym here ∙ ap (λ (b : ChildBase). b.site) new.is))
+    based_same (op.Children (child.Remove p n c)) answer.Done image link among = (among_left (λ b. not (is_base s p n c b)) (record { site = t; child = image; link = link }) k.based among).0
+    based_same (op.Children (child.Remove p n c)) answer.Absent image link among = (among_left (λ b. not (is_base s p n c b)) (record { site = t; child = image; link = link }) k.based among).0
+    based_same (op.Header i (header.Create view)) answer.Done image link among = (among_left (λ b. not (is_at s i b.site b.child)) (record { site = t; child = image; link = link }) k.based among).0
+    based_same _ _ image link among = among
+
+    childless_same : (o : Op) (a : Answer) (image snap : ℕ) → IsAmong (record { site = t; image = image; snap = snap }) (childless_by (λ i. header_alone (own_of k.owns s i)) k.childless s o a)
+        → IsAmong (record { site = t; image = image; snap = snap }) k.childless
+    childless_same (op.Children (child.List p n)) (answer.Ids []) image snap among = by (lists_unprotecting (header_alone (own_of k.owns s p)) n) among
+      where
+        by : (counts : Bool) → IsAmong (record { site = t; image = image; snap = snap }) (with_childless counts (record { site = s; image = p; snap = n }) k.childless) → IsAmong (record { site = t; image = image; snap = snap }) k.childless
+        by false among = among
+        by true (inr among) = among
+        by true (inl same) = absurd (other_site (ap (λ (x : SnapPlace). x.site) same))
+    childless_same (op.Header i (header.SnapStatus n status)) answer.Done image snap among = (among_left (λ p. not (is_snap s i n p)) (record { site = t; image = image; snap = snap }) k.childless among).0
+    childless_same (op.Header i header.Remove) answer.Done image snap among = (among_left (λ p. not (is_at s i p.site p.image)) (record { site = t; image = image; snap = snap }) k.childless among).0
+    childless_same _ _ image snap among = among
+
+  -- what is told of any image and of children adds nothing here
   pub learned_same : (k : Knowledge) (o : Op) (a : Answer) → IsLess t (learned k s o a) k
-  learned_same k o a =
-      let own : Knowledge = learned_own k s o a in
-      less_then t (learned k s o a) own k
-      (telling_same own (seen_by k.seen s o a) (told_by k.seen k.told s o a) (subst (IsSeenLess t (seen_by k.seen s o a)) (sym (own_as_before k s o a).0) (seen_same k.seen o a)))
-      (own_same k o a)
+  learned_same k o a = record {
+    owns = own.owns;
+    drawn = own.drawn;
+    fenced = own.fenced;
+    maps = own.maps;
+    objects = own.objects;
+    gone = own.gone;
+    seen = seen_same k.seen o a;
+    children = record {
+      linked = linked_same k o a;
+      based = based_same k o a;
+      childless = childless_same k o a;
+      makes = own.children.makes;
+      owns = λ image snap among.
+          own.children.owns image snap (subst (IsAmong (record { site = t; image = image; snap = snap })) (sym (own_as_before k s o a).4) (childless_same k o a image snap among));
+    };
+  }
+    where
+      own : IsLess t (learned_own k s o a) k
+      own = own_same k o a
 
   pub true_elsewhere : (r : Records) (me : Instance) (k : Knowledge) (o : Op) (a : Answer) → IsTrueAt t r me k → IsTrueAt t r me (learned k s o a)
   true_elsewhere r me k o a holds = less_true t (learned k s o a) k (learned_same k o a) r me holds

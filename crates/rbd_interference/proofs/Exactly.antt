@@ -6,9 +6,10 @@ use Rattle.std.proofs.lemmas.List.{get_or-set_same, get_or-set_other}
 use Rattle.std.proofs.lemmas.Option.{none-some, same_Some}
 use Rattle.rbd_kinds.specs.declared.header.HeaderView.{HeaderView}
 use Rattle.rbd_kinds.specs.declared.header.SnapContext.{SnapContext}
+use Rattle.rbd_kinds.specs.declared.header.SnapStatus.{SnapStatus}
 use Rattle.rbd_kinds.specs.declared.header.SnapView.{SnapView}
 use Rattle.rbd_kinds.specs.declared.id.Instance.{Instance}
-use Rattle.rbd_header.specs.Header.{snap_in, snap_taken, with_size, with_snap, without_snap}
+use Rattle.rbd_header.specs.Header.{snap_in, snap_taken, status_marked, with_size, with_snap, with_status, without_snap}
 use Rattle.rbd_header.proofs.Changed.{removed_is_unlisted}
 use Rattle.rbd_object.specs.Mapped.{Mapped, versioned, mapped_blank, mapped_change}
 use Rattle.rbd_object.specs.Versioned.{IsTidy, view}
@@ -17,7 +18,7 @@ use Rattle.rbd_object.proofs.StepLemmas.{view-change}
 use Rattle.rbd_site.specs.Records.{or_blank, put}
 use Rattle.rbd_stands.specs.Condition.{IsContextOf}
 use Rattle.rbd_stands.specs.Covering.{Maps, exists_at}
-use Rattle.rbd_stands.proofs.Lookups.{header_left, older_or_last}
+use Rattle.rbd_stands.proofs.Lookups.{a_value, header_left, header_marked, older_or_last}
 use Rattle.rbd_stands.proofs.ObjectSteps.{put_both}
 use Rattle.rbd_interference.specs.Truth.{HasNoStates, IsPutAs, map_len, map_state_in}
 use Rattle.rbd_interference.proofs.MapsBehind.{with_view}
@@ -106,6 +107,13 @@ module _ (owed : ℕ → ℕ → Type 0) (maps : Maps) (objects : ℕ → Mapped
   -- whoever owns it
   pub exact_owned : (h : HeaderView) (owner : Option Instance) → AreExactBut owed h maps objects → AreExactBut owed (record h { owner = owner }) maps objects
   exact_owned h owner all = record { head = all.head; snaps = all.snaps }
+
+  -- whatever the status of a snapshot
+  pub exact_marked : (snap : ℕ) (status : SnapStatus) (h : HeaderView) → AreExactBut owed h maps objects → AreExactBut owed (with_status snap status h) maps objects
+  exact_marked snap status h all = record {
+    head = all.head;
+    snaps = λ t s is. let was = a_value (status_marked snap status) (snap_in h.snaps t) s (sym (header_marked snap status h.snaps t) ∙ is) in all.snaps t was.0 was.1;
+  }
 
   -- however long it is
   pub exact_sized : (size : ℕ) (h : HeaderView) → AreExactBut owed h maps objects → AreExactBut owed (with_size size h) maps objects

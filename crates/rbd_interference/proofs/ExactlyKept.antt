@@ -21,7 +21,7 @@ use Rattle.rbd_kinds.specs.declared.operation.Op.TheVariants as op
 use Rattle.rbd_kinds.specs.declared.sharing.Sharing.{Sharing}
 use Rattle.rbd_kinds.specs.Sharing.{is_alone}
 use Rattle.rbd_kinds.specs.Header.{snap_named}
-use Rattle.rbd_header.specs.Header.{context_of, is_full, snap_in, with_size, with_snap, without_snap}
+use Rattle.rbd_header.specs.Header.{context_of, is_full, snap_in, with_size, with_snap, with_status, without_snap}
 use Rattle.rbd_machine.specs.Knowledge.{Knowledge, is_gone, maps_of, objects_known_of}
 use Rattle.rbd_machine.specs.Permits.{HasState, Permits, PermitsOnHeader, PermitsOnMap, PermitsOnObject, OwnsAlone, OwnsBy, MayPut, MaySet, MayTakeSnap}
 use Rattle.rbd_map.specs.States.{states_of}
@@ -51,7 +51,7 @@ use Rattle.rbd_interference.proofs.MapsLearned.{within_map}
 use Rattle.rbd_interference.proofs.States.{lengthened_state}
 use Rattle.rbd_interference.specs.Exact.{AreExactBut, KeepsWhatIsOwed, IsExactBut, makes_object, sets_state}
 use Rattle.rbd_interference.specs.Owed.{makes}
-use Rattle.rbd_interference.proofs.Exactly.{AreMore, exact_added, exact_again, exact_changed, exact_either, exact_head, exact_made, exact_more, exact_next, exact_owned, exact_removed, exact_set, exact_shown, exact_sized, exact_still, exact_told, exact_unlisted, exact_written}
+use Rattle.rbd_interference.proofs.Exactly.{AreMore, exact_added, exact_again, exact_changed, exact_either, exact_head, exact_made, exact_marked, exact_more, exact_next, exact_owned, exact_removed, exact_set, exact_shown, exact_sized, exact_still, exact_told, exact_unlisted, exact_written}
 
 -- ---- an empty site
 
@@ -192,6 +192,11 @@ module _ (site : SiteId) (r : Records) (f : Flat) (k : Knowledge) (you : Instanc
         exact_told (later image) (r.maps image) (object_at r image) (cond (is_some (snap_in h.snaps snap)) (without_snap snap h) h) g at
         (exact_either (later image) (r.maps image) (object_at r image) (is_some (snap_in h.snaps snap)) (without_snap snap h) h
         (exact_removed (later image) (r.maps image) (object_at r image) snap h all) all)
+    header_exact (header.SnapStatus snap status) permits goes s (Some h) is g at =
+        let all = s.images image h is in
+        exact_told (later image) (r.maps image) (object_at r image) (cond (is_some (snap_in h.snaps snap)) (with_status snap status h) h) g at
+        (exact_either (later image) (r.maps image) (object_at r image) (is_some (snap_in h.snaps snap)) (with_status snap status h) h
+        (exact_marked (later image) (r.maps image) (object_at r image) snap status h all) all)
     header_exact (header.SetSize to) permits goes s (Some h) is g at =
         exact_told (later image) (r.maps image) (object_at r image) (with_size to h) g at (exact_sized (later image) (r.maps image) (object_at r image) to h (s.images image h is))
     header_exact header.Remove permits goes s (Some h) is g at = absurd (none-some g at)
@@ -372,6 +377,7 @@ module _ (site : SiteId) (r : Records) (f : Flat) (k : Knowledge) (you : Instanc
 
   served_exact : (o : Op) → Permits k site o → KeepsWhatIsOwed r.headers o owed later → IsExactBut later (after_served r you o)
   served_exact (op.Directory o) permits goes = let s = still (op.Directory o) goes (λ i n. refl) (λ i n. refl) in record { images = s.images }
+  served_exact (op.Children o) permits goes = let s = still (op.Children o) goes (λ i n. refl) (λ i n. refl) in record { images = s.images }
   served_exact (op.BlockAdd i) permits goes = let s = still (op.BlockAdd i) goes (λ i n. refl) (λ i n. refl) in record { images = s.images }
   served_exact (op.Header image o) permits goes = record { images = λ i g at. by i g (i == image) refl at }
     where

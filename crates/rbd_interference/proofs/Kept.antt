@@ -37,8 +37,9 @@ use Rattle.rbd_stands.proofs.StoreSteps.{blank_trimmed}
 use Rattle.rbd_flat.specs.Flat.{no_images}
 use Rattle.rbd_interference.specs.Ancestors.{AreSeenTrue, DrewNoneOf}
 use Rattle.rbd_interference.specs.Beside.{AreBeside, GoTogether, MayAct}
-use Rattle.rbd_interference.specs.Truth.{AreMapsTrue, AreObjectsTrue, HasNoStates, is_alone_on, IsCountTrue, IsGoneAt, IsStill, IsTrueAt, IsWaiting, known_header, sharing_of_own, sharing_on, IsStillOwn}
-use Rattle.rbd_interference.proofs.Each.{alike_true, objects_alike}
+use Rattle.rbd_interference.specs.Truth.{AreMapsTrue, AreObjectsTrue, HasNoStates, is_alone_on, IsCountTrue, IsGoneAt, IsStill, IsTrueAt, IsWaiting, known_header, sharing_of_own, sharing_on, IsStillOwn, IsStillAs}
+use Rattle.rbd_interference.proofs.Each.{alike_true, objects_alike, of_all}
+use Rattle.rbd_interference.proofs.Children.{children_beside_locks, children_kept, children_there, keeps_header, none_behind}
 use Rattle.rbd_interference.proofs.Fenced.{after_free, was_free}
 use Rattle.rbd_interference.proofs.Headers.{not_waiting, own_known, unknown_of_none}
 use Rattle.rbd_interference.proofs.MapsKept.{counted_kept, mapped_kept}
@@ -64,17 +65,6 @@ alone_beside site k j image condition shared owns there = go (known_header k sit
         absurd (alone_beside_none (sharing_on k site image) (sharing_on j site image) (ap sharing_of_own owns.is ∙ owns.meets.0) (shared image mine others))
 
 -- ---- what leaves a header but for its owner
-
--- operations on the lock and the watchers of an image, and looks at them
-abbrev pub keeps_header : HeaderOp → Bool
-keeps_header header.LockTake = true
-keeps_header header.LockDrop = true
-keeps_header (header.LockBreak owner) = true
-keeps_header header.Watch = true
-keeps_header header.Unwatch = true
-keeps_header header.WatchersGet = true
-keeps_header (header.Notify kind) = true
-keeps_header _ = false
 
 module _ (sharing : Sharing) where
   either_still : (known : HeaderView) (b : Bool) (one other : HeaderView) → IsStillAs sharing known one → IsStillAs sharing known other → IsStillAs sharing known (cond b one other)
@@ -103,11 +93,6 @@ module _ (sharing : Sharing) where
   still_behind you header.WatchersGet keeps (Some known) (Some h) still = still
   still_behind you (header.Notify kind) keeps (Some known) (Some h) still = still
   still_behind you o keeps (Some known) (Some h) still = absurd (true≢false (sym keeps))
-
--- where there is no header it makes none
-none_behind : (you : Instance) (o : HeaderOp) → keeps_header o ≡ true → header_after you None o ≡ None
-none_behind you (header.Create view) keeps = absurd (true≢false (sym keeps))
-none_behind you o keeps = refl
 
 -- an id that waits still does
 waits_by : (r : Records) (you : Instance) (other : ℕ) (o : HeaderOp) → keeps_header o ≡ true → (image : ℕ) → IsWaiting r image → IsWaiting (after r you (op.Header other o)) image
@@ -151,6 +136,7 @@ kept_by site r me you k other o keeps t = record {
       let was = t.seen image h among in
       seen_after r you (op.Header other o) image h (λ none. (gone_by r you other o keeps image (record { drawn = was.drawn; header = none })).header) was;
   strange = t.strange;
+  children = children_beside_locks site r me you k other o keeps t.children;
 }
   where
     by : (image : ℕ) (b : Bool) → (image == other) ≡ b → ((i : ℕ) → IsStillOwn (own_of k.owns site i) (r.headers i)) → IsStillOwn (own_of k.owns site image) (cond b (header_after you (r.headers other) o) (r.headers image))
@@ -177,6 +163,7 @@ module _ (site : SiteId) (r : Records) (k j : Knowledge) (you : Instance) (still
   header_kept image header.Remove permits = alone_beside site k j image _ shared permits (header_after you (r.headers image) header.Remove)
   header_kept image (header.SnapAdd name) permits = alone_beside site k j image _ shared permits (header_after you (r.headers image) (header.SnapAdd name))
   header_kept image (header.SnapRemove snap) permits = alone_beside site k j image _ shared permits (header_after you (r.headers image) (header.SnapRemove snap))
+  header_kept image (header.SnapStatus snap status) permits = alone_beside site k j image _ shared permits (header_after you (r.headers image) (header.SnapStatus snap status))
   header_kept image header.LockTake permits = still_behind (sharing_on k site image) you header.LockTake refl (known_header k site image) (r.headers image) (still image)
   header_kept image header.LockDrop permits = still_behind (sharing_on k site image) you header.LockDrop refl (known_header k site image) (r.headers image) (still image)
   header_kept image (header.LockBreak owner) permits = still_behind (sharing_on k site image) you (header.LockBreak owner) refl (known_header k site image) (r.headers image) (still image)
@@ -188,6 +175,7 @@ module _ (site : SiteId) (r : Records) (k j : Knowledge) (you : Instance) (still
 
   owned_served : (o : Op) → Permits j site o → (image : ℕ) → IsStillOwn (own_of k.owns site image) ((after_served r you o).headers image)
   owned_served (op.Directory o) permits image = still image
+  owned_served (op.Children o) permits image = still image
   owned_served (op.BlockAdd i) permits image = still image
   owned_served (op.Data other number o) permits image = still image
   owned_served (op.Map other o) permits image = still image
@@ -245,6 +233,8 @@ module _ (site : SiteId) (r : Records) (j : Knowledge) (you : Instance) (u : IsT
   waits_header other header.Remove permits apart = waits_owned (op.Header other header.Remove) (λ free. owned_is_other site r you j other image _ u free permits w) w.unraised
   waits_header other (header.SnapAdd name) permits apart = waits_owned (op.Header other (header.SnapAdd name)) (λ free. owned_is_other site r you j other image _ u free permits w) w.unraised
   waits_header other (header.SnapRemove snap) permits apart = waits_owned (op.Header other (header.SnapRemove snap)) (λ free. owned_is_other site r you j other image _ u free permits w) w.unraised
+  waits_header other (header.SnapStatus snap status) permits apart =
+      waits_owned (op.Header other (header.SnapStatus snap status)) (λ free. owned_is_other site r you j other image _ u free permits w) w.unraised
   waits_header other header.LockTake permits apart = waits_by r you other header.LockTake refl image w
   waits_header other header.LockDrop permits apart = waits_by r you other header.LockDrop refl image w
   waits_header other (header.LockBreak owner) permits apart = waits_by r you other (header.LockBreak owner) refl image w
@@ -284,6 +274,7 @@ module _ (site : SiteId) (r : Records) (j : Knowledge) (you : Instance) (u : IsT
 
   pub waits_still : (o : Op) → Permits j site o → is_drawn j.drawn site image ≡ false → is_gone j.gone site image ≡ false → IsWaiting (after r you o) image
   waits_still (op.Directory o) permits apart remains = waits_on r you (op.Directory o) image refl w.unraised w
+  waits_still (op.Children o) permits apart remains = waits_on r you (op.Children o) image refl w.unraised w
   waits_still (op.BlockAdd i) permits apart remains = waits_on r you (op.BlockAdd i) image refl w.unraised w
   waits_still (op.Header other o) permits apart remains = waits_header other o permits apart
   waits_still (op.Data other number o) permits apart remains = waits_object other number o permits remains
@@ -298,6 +289,7 @@ module _ (site : SiteId) (j : Knowledge) (image : ℕ) (undrawn : is_drawn j.dra
 
   pub still_none : (r : Records) (you : Instance) (o : Op) → Permits j site o → r.headers image ≡ None → (after_served r you o).headers image ≡ None
   still_none r you (op.Directory o) permits none = none
+  still_none r you (op.Children o) permits none = none
   still_none r you (op.BlockAdd i) permits none = none
   still_none r you (op.Data other number o) permits none = none
   still_none r you (op.Map other o) permits none = none
@@ -344,6 +336,7 @@ others_keep site r k j me you o t u beside permits may = record {
   counted = counted_kept site r k j me you t u beside o permits;
   seen = seen_kept site r you j o permits k.seen beside.unseen t.seen;
   strange = t.strange;
+  children = children_kept site r k j me you t u beside.apart beside.gone_there beside.unbased o permits;
 }
 
 -- ---- the store
@@ -415,7 +408,11 @@ trims_keep site r me k image number t = record {
   counted = t.counted;
   seen = seen_trimmed site r k.seen image number t.seen;
   strange = t.strange;
+  children = children_there site r (trimmed image number r) me k (record { children = refl; headers = λ i. refl }) (λ free. free) t.children;
 }
 
 pub expiries_keep : (site : SiteId) (r : Records) (me : Instance) (k : Knowledge) (image : ℕ) (i : Instance) → IsTrueAt site r me k → IsTrueAt site (expired image i r) me k
-expiries_keep site r me k image i t = alike_true site r (expired image i r) me k t (λ f. f) t.fenced (λ n. record { header = refl; maps = refl; objects = λ m. refl; drawn = omega arith })
+expiries_keep site r me k image i t =
+    of_all site (expired image i r) me k
+    (alike_true site r (expired image i r) me k t (λ f. f) t.fenced (λ n. record { header = refl; maps = refl; objects = λ m. refl; drawn = omega arith }))
+    (children_there site r (expired image i r) me k (record { children = refl; headers = λ n. refl }) (λ free. free) t.children)

@@ -1,16 +1,17 @@
 -- What a request learns by its own operations, and behind its waits, is true.
-use Rattle.std.proofs.Common.{◌≡◌, ◌≢◌, ◌⊎◌, inl, inr, ℕ, ◌<◌, ◌≤◌, ◌==◌, ◌+◌, ◌&&◌, cond, not, Bool, true, false, List, [], ◌∷◌, Option, Some, None, option_map, refl, sym, ap, ◌∙◌, subst, arith}
-use Rattle.std.specs.List.{filter}
+use Rattle.std.proofs.Common.{◌≡◌, ◌≢◌, ◌⊎◌, inl, inr, ℕ, ◌<◌, ◌≤◌, ◌==◌, ◌+◌, cond, Bool, true, false, List, [], Option, Some, None, option_map, refl, sym, ap, ◌∙◌, subst, arith}
 use Rattle.std.specs.Prelude.{IsFalse, IsSome, is_some}
-use Rattle.std.proofs.lemmas.Bool.{true≢false, cases_lt, eqb-true, ne_eqb, and_parts}
+use Rattle.std.proofs.lemmas.Bool.{true≢false, cases_lt, eqb-true, and_parts}
 use Rattle.std.proofs.lemmas.Option.{none-some, same_Some}
 use Rattle.rbd_kinds.specs.declared.answer.Answer.{Answer}
 use Rattle.rbd_kinds.specs.declared.answer.Answer.TheVariants as answer
+use Rattle.rbd_kinds.specs.declared.children_op.ChildrenOp.TheVariants as child
 use Rattle.rbd_kinds.specs.declared.data_op.DataOp.{DataOp}
 use Rattle.rbd_kinds.specs.declared.data_op.DataOp.TheVariants as object
 use Rattle.rbd_kinds.specs.declared.directory_op.DirectoryOp.{DirectoryOp}
 use Rattle.rbd_kinds.specs.declared.directory_op.DirectoryOp.TheVariants as directory
 use Rattle.rbd_kinds.specs.declared.header.HeaderView.{HeaderView}
+use Rattle.rbd_kinds.specs.declared.header.SnapStatus.{SnapStatus}
 use Rattle.rbd_kinds.specs.declared.header_op.HeaderOp.{HeaderOp}
 use Rattle.rbd_kinds.specs.declared.header_op.HeaderOp.TheVariants as header
 use Rattle.rbd_kinds.specs.declared.id.Instance.{Instance}
@@ -19,16 +20,17 @@ use Rattle.rbd_kinds.specs.declared.map_op.MapOp.{MapOp}
 use Rattle.rbd_kinds.specs.declared.map_op.MapOp.TheVariants as states
 use Rattle.rbd_kinds.specs.declared.operation.Op.{Op}
 use Rattle.rbd_kinds.specs.declared.operation.Op.TheVariants as op
-use Rattle.rbd_machine.specs.Ancestors.{HeaderSeen, ObjectTold, has_seen, seen_by, told_by}
-use Rattle.rbd_machine.specs.Knowledge.{Knowledge, Own, ImagePlace, afresh, first_told, header_told, is_at, is_drawn, is_fence_of, is_fenced_by, is_gone, learned, learned_of_directory, learned_of_header, learned_of_listing, learned_of_map, learned_of_object, learned_own, looked_by, looked_under_lock, maps_of, objects_known_of, only_there, own_of, removed_header, same_site, unmapped, unmarked, with_drawn, with_fence, without_drawn, without_fence}
+use Rattle.rbd_machine.specs.Ancestors.{ChildBase, ChildLink, HeaderSeen, ObjectTold, SnapPlace, has_seen, seen_by, told_by}
+use Rattle.rbd_machine.specs.Children.{based_by, childless_by, linked_by}
+use Rattle.rbd_machine.specs.Knowledge.{Knowledge, Own, afresh, first_told, header_alone, header_told, is_at, is_drawn, is_fence_of, is_fenced_by, is_gone, learned, learned_of_directory, learned_of_header, learned_of_listing, learned_of_map, learned_of_object, learned_own, looked_by, looked_under_lock, maps_of, objects_known_of, only_there, own_of, removed_header, same_site, unmapped, unmarked, with_drawn, with_fence, without_drawn, without_fence}
 use Rattle.rbd_kinds.specs.declared.sharing.Sharing.{Sharing}
 use Rattle.rbd_kinds.specs.Sharing.{is_alone}
-use Rattle.rbd_machine.specs.Permits.{Permits, PermitsOnHeader, OwnsBy, OwnsAlone, MayMake, MaySize, MayTakeSnap, MayRemove}
+use Rattle.rbd_machine.specs.Permits.{Permits, PermitsOnHeader, OwnsBy, OwnsAlone, MayMake, MayMark, MaySize, MayTakeSnap, MayRemove}
 use Rattle.rbd_kinds.specs.Header.{snap_named}
 use Rattle.rbd_kinds.specs.Instances.{same_instance}
 use Rattle.rbd_kinds.proofs.Images.{at_itself}
 use Rattle.rbd_kinds.proofs.Instances.{same_instance_is}
-use Rattle.rbd_header.specs.Header.{with_size, with_snap, without_snap, snap_in, is_full}
+use Rattle.rbd_header.specs.Header.{with_size, with_snap, with_status, without_snap, snap_in, is_full}
 use Rattle.rbd_header.specs.Later.{IsLaterOf}
 use Rattle.rbd_header.proofs.Later.{later_itself}
 use Rattle.rbd_machine.proofs.AtLeast.{own_as_before}
@@ -51,26 +53,21 @@ use Rattle.rbd_stands.specs.Shown.{links_of, snapshots_of}
 use Rattle.rbd_stands.proofs.SiteSteps.{here}
 use Rattle.rbd_stands.proofs.EditSteps.{drawn_served}
 use Rattle.rbd_interference.specs.Ancestors.{AreSeenTrue, DrewNoneOf, IsSeenTrue}
-use Rattle.rbd_interference.specs.Truth.{AreMapped, AreMapsTrue, AreObjectsTrue, HasAtLeast, IsCountTrue, IsGoneAt, IsStill, IsTrueAt, IsWaiting, KnowsNoHeader, header_of_own, is_alone_on, is_own_alone, known_header, sharing_of_own, sharing_on, IsStillOwn}
-use Rattle.rbd_interference.proofs.Each.{IsKnownAs, IsThereAs, IsTrueOfImage, alike_true, each_true, of_all, of_image, true_as}
+use Rattle.rbd_interference.specs.Truth.{AreChildrenTrue, AreMapped, AreMapsTrue, AreObjectsTrue, HasAtLeast, IsCountTrue, IsGoneAt, IsStill, IsTrueAt, IsWaiting, KnowsNoHeader, header_of_own, is_alone_on, is_own_alone, known_header, sharing_of_own, sharing_on, IsStillOwn}
+use Rattle.rbd_interference.proofs.Children.{keeps_header}
+use Rattle.rbd_interference.proofs.ChildrenLearned.{children_served}
+use Rattle.rbd_interference.proofs.Drawn.{drawn_elsewhere, drawn_left}
+use Rattle.rbd_interference.proofs.Each.{AreImagesTrue, IsKnownAs, IsThereAs, IsTrueOfImage, alike_true, each_true, of_image, of_images, true_as}
 use Rattle.rbd_interference.proofs.Fenced.{served_is, where_free, is_put_up, stays_put_up}
 use Rattle.rbd_interference.proofs.Headers.{own_known, owned_there, not_waiting, unknown_of_none, still_exactly}
 use Rattle.rbd_interference.proofs.Kept.{kept_by, seen_kept}
-use Rattle.rbd_interference.proofs.Less.{afresh_less, left_there, less_true, nothing_of, telling_true, unfenced_less}
+use Rattle.rbd_interference.proofs.Less.{Told, afresh_less, left_there, less_true, nothing_of, telling_true, told_then, unfenced_less, with_told}
 use Rattle.rbd_interference.proofs.MapsBehind.{nothing_mapped}
 use Rattle.rbd_interference.proofs.MapsLearned.{at_no_other, map_taught, told_of_others}
 use Rattle.rbd_interference.proofs.ObjectsLearned.{object_taught}
-use Rattle.rbd_interference.proofs.Seen.{among_seen, seen_after, seen_drawn}
+use Rattle.rbd_interference.proofs.Seen.{among_seen, header_got, seen_after, seen_drawn}
 use Rattle.rbd_interference.proofs.Told.{header_changed, told_sharing, told_apart, told_here}
 use Rattle.rbd_interference.proofs.Sharing.{alone_unshared}
-
--- ---- where
-
--- a place is that of at most one image
-at_one : (site : SiteId) (image other : ℕ) (there : SiteId) (place : ℕ) → image ≢ other → is_at site image there place ≡ true → is_at site other there place ≡ false
-at_one site image other there place differ is =
-    let parts = and_parts (same_site there site) (place == image) is in
-    ap (λ b. b && (place == other)) parts.0 ∙ ne_eqb place other (λ e. differ (sym (eqb-true place image parts.1) ∙ e))
 
 -- ---- what it is told of a header
 
@@ -87,7 +84,7 @@ module _ (site : SiteId) (r new : Records) (me : Instance) (k : Knowledge) (t : 
   pub told_true : (is_drawn k.drawn site image ≡ true → IsWaiting new image) → (is_gone k.gone site image ≡ true → IsGoneAt new image)
       → ((h : HeaderView) → IsSeenTrue r image h → IsSeenTrue new image h)
       → new.maps image ≡ r.maps image → ((h : HeaderView) → header_changed change o ≡ Some h → IsTold site new k image (sharing_of_own o) h)
-      → IsTrueAt site new me (header_told site image change k)
+      → AreImagesTrue site new me (header_told site image change k)
   told_true waits goes sees maps told =
       each_true site r new me k learnt image t was fences it
       (λ i other. record { own = told_apart site site image i change (at_no_other site image i other) k.owns; drawn = refl; maps = refl; objects = refl; gone = refl; seen = refl })
@@ -151,7 +148,7 @@ module _ (site : SiteId) (r : Records) (f : Flat) (me : Instance) (k : Knowledge
   not_seen : has_seen k.seen site fresh ≡ true → ⊥
   not_seen saw = let before = seen_drawn site r k.seen t.seen fresh saw in omega (arith, before)
 
-  drawn_true : (name : List ℕ) → IsTrueAt site (with_directory (added name r.directory) r) me (with_drawn site fresh k)
+  drawn_true : (name : List ℕ) → AreImagesTrue site (with_directory (added name r.directory) r) me (with_drawn site fresh k)
   drawn_true name =
       each_true site r new me k learnt fresh t (λ f. f) t.fenced it
       (λ i other. record {
@@ -187,57 +184,26 @@ module _ (site : SiteId) (r : Records) (f : Flat) (me : Instance) (k : Knowledge
       }
 
   added_true : (name : List ℕ) (held : Option ℕ) (full : Bool)
-      → IsTrueAt site (with_directory (where_added (name_added held full (r.directory.drawn + 1)) (added name r.directory) r.directory) r) me
+      → AreImagesTrue site (with_directory (where_added (name_added held full (r.directory.drawn + 1)) (added name r.directory) r.directory) r) me
       (learned_of_directory k site (directory.Add name) (name_added held full (r.directory.drawn + 1)))
-  added_true name (Some image) full = t
-  added_true name None true = t
+  added_true name (Some image) full = of_images site r me k t
+  added_true name None true = of_images site r me k t
   added_true name None false = drawn_true name
 
   -- a change of names draws no id
-  renamed_true : (o : DirectoryOp) → IsTrueAt site (after_served r me (op.Directory o)) me k
+  renamed_true : (o : DirectoryOp) → AreImagesTrue site (after_served r me (op.Directory o)) me k
   renamed_true o =
       alike_true site r (after_served r me (op.Directory o)) me k t (λ f. f) t.fenced
       (λ i. record { header = refl; maps = refl; objects = λ n. refl; drawn = drawn_served r me (op.Directory o) r.directory.drawn (omega arith) })
 
-  directory_learned : (o : DirectoryOp) → IsTrueAt site (after_served r me (op.Directory o)) me (learned_of_directory k site o (answer_served r me (op.Directory o)))
-  directory_learned (directory.Find name) = t
-  directory_learned directory.List = t
+  directory_learned : (o : DirectoryOp) → AreImagesTrue site (after_served r me (op.Directory o)) me (learned_of_directory k site o (answer_served r me (op.Directory o)))
+  directory_learned (directory.Find name) = of_images site r me k t
+  directory_learned directory.List = of_images site r me k t
   directory_learned (directory.Add name) = added_true name (id_of r.directory name) (listing.is_full r.directory)
   directory_learned (directory.Rename from to) = renamed_true (directory.Rename from to)
   directory_learned (directory.Remove image) = renamed_true (directory.Remove image)
 
 -- ---- headers
-
--- an id that is left behind is another than the one that got its header
-pub drawn_left : (site : SiteId) (image i : ℕ) (drawn : List ImagePlace) → is_drawn (filter (λ d. not (is_at site image d.site d.image)) drawn) site i ≡ true
-    → (is_drawn drawn site i ≡ true) × (i ≢ image)
-drawn_left site image i [] is = absurd (true≢false (sym is))
-drawn_left site image i (d ∷ drawn) is = by (is_at site image d.site d.image) refl (is_at site i d.site d.image) refl is (drawn_left site image i drawn)
-  where
-    rest : List ImagePlace
-    rest = filter (λ d. not (is_at site image d.site d.image)) drawn
-
-    by : (a : Bool) → is_at site image d.site d.image ≡ a → (b : Bool) → is_at site i d.site d.image ≡ b
-        → is_drawn (cond (not a) (d ∷ rest) rest) site i ≡ true
-        → (is_drawn rest site i ≡ true → (is_drawn drawn site i ≡ true) × (i ≢ image))
-        → (cond b true (is_drawn drawn site i) ≡ true) × (i ≢ image)
-    by true here true there is more = (refl, (more is).1)
-    by true here false there is more = more is
-    by false here true there is more = (refl, λ same. true≢false (sym there ∙ ap (λ n. is_at site n d.site d.image) same ∙ here))
-    by false here false there is more = more (sym (ap (λ b. cond b true (is_drawn rest site i)) there) ∙ is)
-
--- another one is left behind if it was drawn
-pub drawn_elsewhere : (site : SiteId) (image i : ℕ) → i ≢ image → (drawn : List ImagePlace) → is_drawn (filter (λ d. not (is_at site image d.site d.image)) drawn) site i ≡ is_drawn drawn site i
-drawn_elsewhere site image i other [] = refl
-drawn_elsewhere site image i other (d ∷ drawn) = by (is_at site image d.site d.image) refl (drawn_elsewhere site image i other drawn)
-  where
-    rest : List ImagePlace
-    rest = filter (λ d. not (is_at site image d.site d.image)) drawn
-
-    by : (b : Bool) → is_at site image d.site d.image ≡ b → is_drawn rest site i ≡ is_drawn drawn site i
-        → is_drawn (cond (not b) (d ∷ rest) rest) site i ≡ cond (is_at site i d.site d.image) true (is_drawn drawn site i)
-    by true here more = more ∙ sym (ap (λ c. cond c true (is_drawn drawn site i)) (at_one site image i d.site d.image (λ same. other (sym same)) here))
-    by false there more = ap (λ c. cond (is_at site i d.site d.image) true c) more
 
 -- of an instance that isn't fenced
 module _ (site : SiteId) (r : Records) (me : Instance) (k : Knowledge) (t : IsTrueAt site r me k) (free : IsFalse (is_fenced r me)) where
@@ -248,12 +214,12 @@ module _ (site : SiteId) (r : Records) (me : Instance) (k : Knowledge) (t : IsTr
   elsewhere image o i differ = put_elsewhere r.headers image (header_after me (r.headers image) o) i differ
 
   -- what a look teaches of an image that it owns, or doesn't
-  got : (image : ℕ) (there : Option HeaderView) → r.headers image ≡ there → IsTrueAt site r me (learned_of_header k site image header.Get (header_answer me there (r.watchers image) header.Get))
-  got image None is = t
+  got : (image : ℕ) (there : Option HeaderView) → r.headers image ≡ there → AreImagesTrue site r me (learned_of_header k site image header.Get (header_answer me there (r.watchers image) header.Get))
+  got image None is = of_images site r me k t
   got image (Some h) is = by (own_of k.owns site image) refl
     where
       look : (known : Knowledge) → IsTrueAt site r me known → (o : Option Own) → own_of known.owns site image ≡ o
-          → ((v : HeaderView) → header_changed (first_told h) o ≡ Some v → IsTold site r known image (sharing_of_own o) v) → IsTrueAt site r me (header_told site image (first_told h) known)
+          → ((v : HeaderView) → header_changed (first_told h) o ≡ Some v → IsTold site r known image (sharing_of_own o) v) → AreImagesTrue site r me (header_told site image (first_told h) known)
       look known true_of_it o at told =
           told_true site r r me known true_of_it (λ f. f) true_of_it.fenced image (λ i other. record { header = refl; maps = refl; objects = λ n. refl; drawn = omega arith }) (first_told h) o at
           (true_of_it.drawn image) (true_of_it.gone image) (λ v saw. saw) refl told
@@ -283,11 +249,11 @@ module _ (site : SiteId) (r : Records) (me : Instance) (k : Knowledge) (t : IsTr
             objects = nothing_of (is_alone o.sharing) v.layout (object_at r image);
           }
 
-      owning : (o : Own) (header : Option HeaderView) → o.header ≡ header → own_of k.owns site image ≡ Some o → IsTrueAt site r me (header_told site image (first_told h) (looked_by header site image k))
+      owning : (o : Own) (header : Option HeaderView) → o.header ≡ header → own_of k.owns site image ≡ Some o → AreImagesTrue site r me (header_told site image (first_told h) (looked_by header site image k))
       owning o None unknown at = look (afresh site image k) (less_true site (afresh site image k) k (afresh_less site site image k) r me t) (Some o) at (first o unknown)
       owning o (Some own) had at = look k t (Some o) at (again o own had at)
 
-      by : (o : Option Own) → own_of k.owns site image ≡ o → IsTrueAt site r me (header_told site image (first_told h) (looked_under_lock o site image k))
+      by : (o : Option Own) → own_of k.owns site image ≡ o → AreImagesTrue site r me (header_told site image (first_told h) (looked_under_lock o site image k))
       by None at = look k t None at (λ v told. absurd (none-some v told))
       by (Some o) at = owning o o.header refl at
 
@@ -295,7 +261,7 @@ module _ (site : SiteId) (r : Records) (me : Instance) (k : Knowledge) (t : IsTr
   others_there : (image : ℕ) (o : HeaderOp) (i : ℕ) → i ≢ image → IsThereAs r (doing image o) i
   others_there image o i other = record { header = elsewhere image o i other; maps = refl; objects = λ n. refl; drawn = omega arith }
 
-  made : (image : ℕ) (view : HeaderView) → MayMake k site image view → IsTrueAt site (doing image (header.Create view)) me (without_drawn site image k)
+  made : (image : ℕ) (view : HeaderView) → MayMake k site image view → AreImagesTrue site (doing image (header.Create view)) me (without_drawn site image k)
   made image view may =
       each_true site r (doing image (header.Create view)) me k (without_drawn site image k) image t (λ f. f) t.fenced it
       (λ i other. record { own = refl; drawn = drawn_elsewhere site image i other k.drawn; maps = refl; objects = refl; gone = refl; seen = refl })
@@ -341,7 +307,7 @@ module _ (site : SiteId) (r : Records) (me : Instance) (k : Knowledge) (t : IsTr
   edited : (image : ℕ) (o : HeaderOp) (condition : Sharing → HeaderView → Type 0) (owns : OwnsBy k site image condition) (edit : HeaderView → HeaderView)
       → ((h : HeaderView) (owner : Option Instance) → edit (record h { owner = owner }) ≡ record (edit h) { owner = owner }) → ((h : HeaderView) → (edit h).layout ≡ h.layout)
       → (v : HeaderView) → v ≡ record owns.header { owner = v.owner } → (edit v).owner ≡ v.owner
-      → header_after me (r.headers image) o ≡ Some (edit v) → IsTrueAt site (doing image o) me (header_told site image (option_map edit) k)
+      → header_after me (r.headers image) o ≡ Some (edit v) → AreImagesTrue site (doing image o) me (header_told site image (option_map edit) k)
   edited image o condition owns edit keeps laid v same owner is =
       told_true site r (doing image o) me k t (λ f. f) t.fenced image (others_there image o) (option_map edit) (Some own) owns.is
       (λ drawn. absurd (owned_undrawn image condition owns drawn)) (λ gone. absurd (owned_remains image condition owns gone)) sees refl told
@@ -411,36 +377,56 @@ module _ (site : SiteId) (r : Records) (me : Instance) (k : Knowledge) (t : IsTr
       }
 
   taken : (image : ℕ) (name : List ℕ) → OwnsAlone k site image (MayTakeSnap (maps_of k.maps site image) name)
-      → IsTrueAt site (doing image (header.SnapAdd name)) me (learned_of_header k site image (header.SnapAdd name) (header_answer me (r.headers image) (r.watchers image) (header.SnapAdd name)))
+      → AreImagesTrue site (doing image (header.SnapAdd name)) me (learned_of_header k site image (header.SnapAdd name) (header_answer me (r.headers image) (r.watchers image) (header.SnapAdd name)))
   taken image name owns =
       let there = owned_there site r me k image _ t free owns in
       let edits = takes image name owns in
-      subst (λ a. IsTrueAt site (doing image (header.SnapAdd name)) me (learned_of_header k site image (header.SnapAdd name) a)) (sym edits.answered)
+      subst (λ a. AreImagesTrue site (doing image (header.SnapAdd name)) me (learned_of_header k site image (header.SnapAdd name) a)) (sym edits.answered)
       (edited image (header.SnapAdd name) _ owns (with_snap name) (λ h owner. refl) (λ h. refl) there.view (there.still.exact (inl (alone_unshared owns.sharing owns.meets.0))) refl edits.is)
 
   removed : (image snap : ℕ) → OwnsAlone k site image (MayRemove snap)
-      → IsTrueAt site (doing image (header.SnapRemove snap)) me (learned_of_header k site image (header.SnapRemove snap) (header_answer me (r.headers image) (r.watchers image) (header.SnapRemove snap)))
+      → AreImagesTrue site (doing image (header.SnapRemove snap)) me (learned_of_header k site image (header.SnapRemove snap) (header_answer me (r.headers image) (r.watchers image) (header.SnapRemove snap)))
   removed image snap owns =
       let there = owned_there site r me k image _ t free owns in
       let edits = removes image snap owns in
-      subst (λ a. IsTrueAt site (doing image (header.SnapRemove snap)) me (learned_of_header k site image (header.SnapRemove snap) a)) (sym edits.answered)
+      subst (λ a. AreImagesTrue site (doing image (header.SnapRemove snap)) me (learned_of_header k site image (header.SnapRemove snap) a)) (sym edits.answered)
       (edited image (header.SnapRemove snap) _ owns (without_snap snap) (λ h owner. refl) (λ h. refl) there.view (there.still.exact (inl (alone_unshared owns.sharing owns.meets.0))) refl edits.is)
+
+  pub marks : (image snap : ℕ) (status : SnapStatus) (owns : OwnsAlone k site image (MayMark k.childless site image snap status))
+      → Edits image (header.SnapStatus snap status) (with_status snap status) (owned_there site r me k image _ t free owns).view answer.Done
+  marks image snap status owns =
+      let there = owned_there site r me k image _ t free owns in
+      let listed : is_some (snap_in there.view.snaps snap) ≡ true =
+      ap (λ (h : HeaderView). is_some (snap_in h.snaps snap)) there.still.same ∙ ap is_some owns.meets.1.listed in
+      record {
+        answered = ap (λ h. header_answer me h (r.watchers image) (header.SnapStatus snap status)) there.is ∙ ap done_where listed;
+        is = ap (λ h. header_after me h (header.SnapStatus snap status)) there.is ∙ ap (λ b. Some (cond b (with_status snap status there.view) there.view)) listed;
+      }
+
+  marked : (image snap : ℕ) (status : SnapStatus) → OwnsAlone k site image (MayMark k.childless site image snap status)
+      → AreImagesTrue site (doing image (header.SnapStatus snap status)) me
+      (learned_of_header k site image (header.SnapStatus snap status) (header_answer me (r.headers image) (r.watchers image) (header.SnapStatus snap status)))
+  marked image snap status owns =
+      let there = owned_there site r me k image _ t free owns in
+      let edits = marks image snap status owns in
+      subst (λ a. AreImagesTrue site (doing image (header.SnapStatus snap status)) me (learned_of_header k site image (header.SnapStatus snap status) a)) (sym edits.answered)
+      (edited image (header.SnapStatus snap status) _ owns (with_status snap status) (λ h owner. refl) (λ h. refl) there.view (there.still.exact (alone_unshared owns.sharing owns.meets.0)) refl edits.is)
 
   -- ---- its size, and its end
 
   sized : (image to : ℕ) → OwnsAlone k site image (MaySize (maps_of k.maps site image) (objects_known_of k.objects site image) to)
-      → IsTrueAt site (doing image (header.SetSize to)) me (learned_of_header k site image (header.SetSize to) (header_answer me (r.headers image) (r.watchers image) (header.SetSize to)))
+      → AreImagesTrue site (doing image (header.SetSize to)) me (learned_of_header k site image (header.SetSize to) (header_answer me (r.headers image) (r.watchers image) (header.SetSize to)))
   sized image to owns =
       let there = owned_there site r me k image _ t free owns in
-      subst (λ a. IsTrueAt site (doing image (header.SetSize to)) me (learned_of_header k site image (header.SetSize to) a)) (sym (ap (λ h. header_answer me h (r.watchers image) (header.SetSize to)) there.is))
+      subst (λ a. AreImagesTrue site (doing image (header.SetSize to)) me (learned_of_header k site image (header.SetSize to) a)) (sym (ap (λ h. header_answer me h (r.watchers image) (header.SetSize to)) there.is))
       (edited image (header.SetSize to) _ owns (with_size to) (λ h owner. refl) (λ h. refl) there.view (there.still.exact (inl (alone_unshared owns.sharing owns.meets.0))) refl (ap (λ h. header_after me h (header.SetSize to)) there.is))
 
   -- It has no header any more, but its id was drawn, and its head's map is still there.
   gone : (image : ℕ) → IsDrawn r image → IsSome (r.maps image None) → OwnsAlone k site image (λ h. h.snaps ≡ [])
-      → IsTrueAt site (doing image header.Remove) me (learned_of_header k site image header.Remove (header_answer me (r.headers image) (r.watchers image) header.Remove))
+      → AreImagesTrue site (doing image header.Remove) me (learned_of_header k site image header.Remove (header_answer me (r.headers image) (r.watchers image) header.Remove))
   gone image drawn has_map owns =
       let there = owned_there site r me k image _ t free owns in
-      subst (λ a. IsTrueAt site (doing image header.Remove) me (learned_of_header k site image header.Remove a)) (sym (ap (λ h. header_answer me h (r.watchers image) header.Remove) there.is))
+      subst (λ a. AreImagesTrue site (doing image header.Remove) me (learned_of_header k site image header.Remove a)) (sym (ap (λ h. header_answer me h (r.watchers image) header.Remove) there.is))
       (each_true site r (doing image header.Remove) me k learnt image t (λ f. f) t.fenced (it there.view there.is) known_elsewhere (others_there image header.Remove))
     where
       learnt : Knowledge
@@ -495,17 +481,19 @@ module _ (site : SiteId) (r : Records) (me : Instance) (k : Knowledge) (t : IsTr
 -- ---- fences
 
 broken_true : (site : SiteId) (r : Records) (me : Instance) (k : Knowledge) (image : ℕ) (owner : Instance) (a : Answer) → IsTrueAt site r me k
-    → IsTrueAt site r me (learned_of_header k site image (header.LockBreak owner) a)
-broken_true site r me k image owner answer.Done t = less_true site (without_fence site owner k) k (unfenced_less site site owner k) r me t
-broken_true site r me k image owner answer.Changed t = less_true site (without_fence site owner k) k (unfenced_less site site owner k) r me t
-broken_true site r me k image owner _ t = t
+    → AreImagesTrue site r me (learned_of_header k site image (header.LockBreak owner) a)
+broken_true site r me k image owner answer.Done t = of_images site r me (without_fence site owner k) (less_true site (without_fence site owner k) k (unfenced_less site site owner k) r me t)
+broken_true site r me k image owner answer.Changed t = of_images site r me (without_fence site owner k) (less_true site (without_fence site owner k) k (unfenced_less site site owner k) r me t)
+broken_true site r me k image owner _ t = of_images site r me k t
 
 listed_true : (site : SiteId) (r : Records) (me : Instance) (k : Knowledge) (i : Instance) → IsTrueAt site r me k → IsFalse (is_fenced r me)
-    → IsTrueAt site (after_served r me (op.BlockAdd i)) me (with_fence site i k)
-listed_true site r me k i t free =
-    of_all site new me learnt (λ other known. by other (is_fence_of site other (record { site = site; instance = i })) refl known)
-    (λ image. true_as site r new me k learnt image (of_image site r me k t image) (record { own = refl; drawn = refl; maps = refl; objects = refl; gone = refl; seen = refl })
-    (record { header = refl; maps = refl; objects = λ n. refl; drawn = omega arith }) (λ f. free))
+    → AreImagesTrue site (after_served r me (op.BlockAdd i)) me (with_fence site i k)
+listed_true site r me k i t free = record {
+  fenced = λ other known. by other (is_fence_of site other (record { site = site; instance = i })) refl known;
+  each = λ image.
+      true_as site r new me k learnt image (of_image site r me k t image) (record { own = refl; drawn = refl; maps = refl; objects = refl; gone = refl; seen = refl })
+      (record { header = refl; maps = refl; objects = λ n. refl; drawn = omega arith }) (λ f. free);
+}
   where
     new : Records
     new = after_served r me (op.BlockAdd i)
@@ -531,36 +519,43 @@ has_drawn r f stands image h is = by (cases_lt r.directory.drawn image)
 
 module _ (site : SiteId) (r : Records) (f : Flat) (me : Instance) (k : Knowledge) (stands : StandsFor [] r f) (mapped : AreMapped r) (t : IsTrueAt site r me k) where
   abbrev HeaderTeaches : (image : ℕ) → HeaderOp → Answer → Records → Type 0
-  HeaderTeaches image o a s = IsTrueAt site s me (learned_of_header k site image o a)
+  HeaderTeaches image o a s = AreImagesTrue site s me (learned_of_header k site image o a)
+
+  -- what leaves the header but for its owner
+  lock_teaches : (image : ℕ) (o : HeaderOp) → keeps_header o ≡ true → AreImagesTrue site (after r me (op.Header image o)) me k
+  lock_teaches image o keeps = of_images site (after r me (op.Header image o)) me k (kept_by site r me me k image o keeps t)
 
   header_learned : (image : ℕ) (o : HeaderOp) → PermitsOnHeader k site image o
       → HeaderTeaches image o (answer_to r me (op.Header image o)) (after r me (op.Header image o))
   header_learned image header.Get permits =
       subst (HeaderTeaches image header.Get (answer_to r me (op.Header image header.Get))) (sym (looked_at r me (op.Header image header.Get) refl))
-      (where_free (λ a s. HeaderTeaches image header.Get a r) r me (op.Header image header.Get) t (λ free. got site r me k t free image (r.headers image) refl))
+      (where_free (λ a s. HeaderTeaches image header.Get a r) r me (op.Header image header.Get) (of_images site r me k t) (λ free. got site r me k t free image (r.headers image) refl))
   header_learned image (header.Create view) permits =
-      where_free (HeaderTeaches image (header.Create view)) r me (op.Header image (header.Create view)) t (λ free.
+      where_free (HeaderTeaches image (header.Create view)) r me (op.Header image (header.Create view)) (of_images site r me k t) (λ free.
       subst (λ h. HeaderTeaches image (header.Create view) (header_answer me h (r.watchers image) (header.Create view)) (after_served r me (op.Header image (header.Create view)))) (sym (t.drawn image permits.drawn).header)
       (made site r me k t free image view permits))
   header_learned image (header.SnapAdd name) permits =
-      where_free (HeaderTeaches image (header.SnapAdd name)) r me (op.Header image (header.SnapAdd name)) t (λ free. taken site r me k t free image name permits)
+      where_free (HeaderTeaches image (header.SnapAdd name)) r me (op.Header image (header.SnapAdd name)) (of_images site r me k t) (λ free. taken site r me k t free image name permits)
   header_learned image (header.SnapRemove snap) permits =
-      where_free (HeaderTeaches image (header.SnapRemove snap)) r me (op.Header image (header.SnapRemove snap)) t (λ free. removed site r me k t free image snap permits)
+      where_free (HeaderTeaches image (header.SnapRemove snap)) r me (op.Header image (header.SnapRemove snap)) (of_images site r me k t) (λ free. removed site r me k t free image snap permits)
+  header_learned image (header.SnapStatus snap status) permits =
+      where_free (HeaderTeaches image (header.SnapStatus snap status)) r me (op.Header image (header.SnapStatus snap status)) (of_images site r me k t)
+      (λ free. marked site r me k t free image snap status permits)
   header_learned image (header.SetSize to) permits =
-      where_free (HeaderTeaches image (header.SetSize to)) r me (op.Header image (header.SetSize to)) t (λ free. sized site r me k t free image to permits)
+      where_free (HeaderTeaches image (header.SetSize to)) r me (op.Header image (header.SetSize to)) (of_images site r me k t) (λ free. sized site r me k t free image to permits)
   header_learned image header.Remove permits =
-      where_free (HeaderTeaches image header.Remove) r me (op.Header image header.Remove) t (λ free.
+      where_free (HeaderTeaches image header.Remove) r me (op.Header image header.Remove) (of_images site r me k t) (λ free.
       let there = owned_there site r me k image _ t free permits in
       gone site r me k t free image (has_drawn r f stands image there.view there.is) (mapped.images image there.view there.is).there.head permits)
   header_learned image (header.LockBreak owner) permits =
       broken_true site (after r me (op.Header image (header.LockBreak owner))) me k image owner (answer_to r me (op.Header image (header.LockBreak owner)))
       (kept_by site r me me k image (header.LockBreak owner) refl t)
-  header_learned image header.LockTake permits = kept_by site r me me k image header.LockTake refl t
-  header_learned image header.LockDrop permits = kept_by site r me me k image header.LockDrop refl t
-  header_learned image header.Watch permits = kept_by site r me me k image header.Watch refl t
-  header_learned image header.Unwatch permits = kept_by site r me me k image header.Unwatch refl t
-  header_learned image header.WatchersGet permits = kept_by site r me me k image header.WatchersGet refl t
-  header_learned image (header.Notify kind) permits = kept_by site r me me k image (header.Notify kind) refl t
+  header_learned image header.LockTake permits = lock_teaches image header.LockTake refl
+  header_learned image header.LockDrop permits = lock_teaches image header.LockDrop refl
+  header_learned image header.Watch permits = lock_teaches image header.Watch refl
+  header_learned image header.Unwatch permits = lock_teaches image header.Unwatch refl
+  header_learned image header.WatchersGet permits = lock_teaches image header.WatchersGet refl
+  header_learned image (header.Notify kind) permits = lock_teaches image (header.Notify kind) refl
   header_learned image _ permits = elim permits [ ]
 
 -- ---- all operations
@@ -594,6 +589,7 @@ own_of_fence k site (op.Header image header.Remove) = refl
 own_of_fence k site (op.Header image (header.SnapAdd name)) = refl
 own_of_fence k site (op.Header image (header.SnapRemove snap)) = refl
 own_of_fence k site (op.Header image header.Detach) = refl
+own_of_fence k site (op.Header image (header.SnapStatus snap status)) = refl
 own_of_fence k site (op.Header image (header.LockBreak owner)) = refl
 own_of_fence k site (op.Header image o) = refl
 own_of_fence k site (op.BlockAdd i) = refl
@@ -613,43 +609,69 @@ told_of_fence seen told site (op.Data image number (object.Read None parts)) = r
 told_of_fence seen told site (op.Data image number o) = refl
 told_of_fence seen told site o = refl
 
-abbrev with_told : List HeaderSeen → List ObjectTold → Knowledge → Knowledge
-with_told seen told k = record k { seen = seen; told = told }
+linked_of_fence : (linked : List ChildLink) (site : SiteId) (o : Op) → linked_by linked site o answer.Fenced ≡ linked
+linked_of_fence linked site (op.Children (child.Add parent snap image)) = refl
+linked_of_fence linked site (op.Children (child.Remove parent snap image)) = refl
+linked_of_fence linked site (op.Children (child.List parent snap)) = refl
+linked_of_fence linked site (op.Header image (header.Create view)) = refl
+linked_of_fence linked site (op.Header image o) = refl
+linked_of_fence linked site o = refl
+
+based_of_fence : (linked : List ChildLink) (based : List ChildBase) (site : SiteId) (o : Op) → based_by linked based site o answer.Fenced ≡ based
+based_of_fence linked based site (op.Children (child.Add parent snap image)) = refl
+based_of_fence linked based site (op.Children (child.Remove parent snap image)) = refl
+based_of_fence linked based site (op.Children (child.List parent snap)) = refl
+based_of_fence linked based site (op.Header image header.Get) = refl
+based_of_fence linked based site (op.Header image (header.Create view)) = refl
+based_of_fence linked based site (op.Header image o) = refl
+based_of_fence linked based site o = refl
+
+childless_of_fence : (own : ℕ → Option HeaderView) (childless : List SnapPlace) (site : SiteId) (o : Op) → childless_by own childless site o answer.Fenced ≡ childless
+childless_of_fence own childless site (op.Children (child.Add parent snap image)) = refl
+childless_of_fence own childless site (op.Children (child.Remove parent snap image)) = refl
+childless_of_fence own childless site (op.Children (child.List parent snap)) = refl
+childless_of_fence own childless site (op.Header image (header.SnapStatus snap status)) = refl
+childless_of_fence own childless site (op.Header image header.Remove) = refl
+childless_of_fence own childless site (op.Header image o) = refl
+childless_of_fence own childless site o = refl
+
+same_told : (x y : Told) → x.seen ≡ y.seen → x.told ≡ y.told → x.linked ≡ y.linked → x.based ≡ y.based → x.childless ≡ y.childless → (k : Knowledge) → with_told x k ≡ with_told y k
+same_told x y seen told linked based childless k =
+    ap (λ s. record k { seen = s; told = x.told; linked = x.linked; based = x.based; childless = x.childless }) seen
+    ∙ ap (λ s. record k { seen = y.seen; told = s; linked = x.linked; based = x.based; childless = x.childless }) told
+    ∙ ap (λ s. record k { seen = y.seen; told = y.told; linked = s; based = x.based; childless = x.childless }) linked
+    ∙ ap (λ s. record k { seen = y.seen; told = y.told; linked = y.linked; based = s; childless = x.childless }) based
+    ∙ ap (λ s. record k { seen = y.seen; told = y.told; linked = y.linked; based = y.based; childless = s }) childless
 
 pub learned_of_fence : (k : Knowledge) (site : SiteId) (o : Op) → learned k site o answer.Fenced ≡ k
 learned_of_fence k site o =
-    ap (with_told (seen_by k.seen site o answer.Fenced) (told_by k.seen k.told site o answer.Fenced)) (own_of_fence k site o)
-    ∙ ap (λ seen. with_told seen (told_by k.seen k.told site o answer.Fenced) k) (seen_of_fence k.seen site o)
-    ∙ ap (λ told. with_told k.seen told k) (told_of_fence k.seen k.told site o)
+    ap (with_told (told_then k site o answer.Fenced)) (own_of_fence k site o)
+    ∙ same_told (told_then k site o answer.Fenced) (record { seen = k.seen; told = k.told; linked = k.linked; based = k.based; childless = k.childless })
+    (seen_of_fence k.seen site o) (told_of_fence k.seen k.told site o) (linked_of_fence k.linked site o) (based_of_fence k.linked k.based site o)
+    (childless_of_fence (λ image. header_alone (own_of k.owns site image)) k.childless site o) k
 
 own_taught : (site : SiteId) (r : Records) (f : Flat) (k : Knowledge) (me : Instance) (o : Op) (most : ℕ) → StandsFor [] r f → AreInForm r most → AreMapped r → IsTrueAt site r me k → Permits k site o
-    → IsTrueAt site (after r me o) me (learned_own k site o (answer_to r me o))
+    → AreImagesTrue site (after r me o) me (learned_own k site o (answer_to r me o))
 own_taught site r f k me (op.Directory o) most stands form mapped t permits =
-    where_either (λ a s. IsTrueAt site s me (learned_own k site (op.Directory o) a)) r me (op.Directory o)
-    (subst (IsTrueAt site r me) (sym (own_of_fence k site (op.Directory o))) t) (directory_learned site r f me k stands mapped t o)
+    where_either (λ a s. AreImagesTrue site s me (learned_own k site (op.Directory o) a)) r me (op.Directory o)
+    (subst (AreImagesTrue site r me) (sym (own_of_fence k site (op.Directory o))) (of_images site r me k t)) (directory_learned site r f me k stands mapped t o)
+own_taught site r f k me (op.Children o) most stands form mapped t permits =
+    where_free (λ a s. AreImagesTrue site s me k) r me (op.Children o) (of_images site r me k t) (λ free.
+    alike_true site r (after_served r me (op.Children o)) me k t (λ f. f) t.fenced (λ i. record { header = refl; maps = refl; objects = λ n. refl; drawn = omega arith }))
 own_taught site r f k me (op.BlockAdd i) most stands form mapped t permits =
-    where_free (λ a s. IsTrueAt site s me (learned_of_listing k site i a)) r me (op.BlockAdd i) t (λ free. listed_true site r me k i t free)
+    where_free (λ a s. AreImagesTrue site s me (learned_of_listing k site i a)) r me (op.BlockAdd i) (of_images site r me k t) (λ free. listed_true site r me k i t free)
 own_taught site r f k me (op.Header image o) most stands form mapped t permits = header_learned site r f me k stands mapped t image o permits
 own_taught site r f k me (op.Data image number o) most stands form mapped t permits =
-    where_free (λ a s. IsTrueAt site s me (learned_of_object k site image number o a)) r me (op.Data image number o) (subst (IsTrueAt site r me) (sym (object_of_fence k site image number o)) t)
-    (λ free. object_taught site r me k most form t free image number o permits)
+    of_images site (after r me (op.Data image number o)) me (learned_of_object k site image number o (answer_to r me (op.Data image number o)))
+    (where_free (λ a s. IsTrueAt site s me (learned_of_object k site image number o a)) r me (op.Data image number o) (subst (IsTrueAt site r me) (sym (object_of_fence k site image number o)) t)
+    (λ free. object_taught site r me k most form t free image number o permits))
 own_taught site r f k me (op.Map image o) most stands form mapped t permits =
-    where_free (λ a s. IsTrueAt site s me (learned_of_map k site image o a)) r me (op.Map image o) (subst (IsTrueAt site r me) (sym (map_of_fence k site image o)) t)
-    (λ free. map_taught site r me k most form mapped t free image o permits)
+    of_images site (after r me (op.Map image o)) me (learned_of_map k site image o (answer_to r me (op.Map image o)))
+    (where_free (λ a s. IsTrueAt site s me (learned_of_map k site image o a)) r me (op.Map image o) (subst (IsTrueAt site r me) (sym (map_of_fence k site image o)) t)
+    (λ free. map_taught site r me k most form mapped t free image o permits))
 own_taught site r f k me _ most stands form mapped t permits = elim permits [ ]
 
 -- ---- headers that were told
-
--- the header that is there
-header_got : (r : Records) (me : Instance) (image : ℕ) (h : HeaderView) → answer_to r me (op.Header image header.Get) ≡ answer.Header h → r.headers image ≡ Some h
-header_got r me image h = by (is_fenced r me) (r.headers image) refl
-  where
-    by : (b : Bool) (there : Option HeaderView) → r.headers image ≡ there → cond b answer.Fenced (header_answer me (r.headers image) (r.watchers image) header.Get) ≡ answer.Header h → r.headers image ≡ Some h
-    by true there at answered = absurd (cc)
-    by false None at answered = absurd (let e = sym (ap (λ p. header_answer me p (r.watchers image) header.Get) at) ∙ answered in cc)
-    by false (Some k) at answered =
-        let e : answer.Header k ≡ answer.Header h = sym (ap (λ p. header_answer me p (r.watchers image) header.Get) at) ∙ answered in
-        at ∙ ap Some (let same : k ≡ h = cc in same)
 
 module _ (site : SiteId) (r : Records) (f : Flat) (me : Instance) (stands : StandsFor [] r f) where
   header_true : (image : ℕ) (h : HeaderView) → r.headers image ≡ Some h → IsSeenTrue r image h
@@ -697,6 +719,12 @@ strange_taught site s seen j (op.Header image header.Get) (answer.Header h) ther
     by false at found true drawn = absurd (true≢false (sym drawn ∙ was i found))
 strange_taught site s seen j _ _ there waits was i saw = was i saw
 
+children_taught : (site : SiteId) (r : Records) (f : Flat) (k : Knowledge) (me : Instance) (o : Op) → StandsFor [] r f → IsTrueAt site r me k → Permits k site o
+    → AreChildrenTrue site (after r me o) me (learned k site o (answer_to r me o))
+children_taught site r f k me o stands t permits =
+    where_free (λ a s. AreChildrenTrue site s me (learned k site o a)) r me o (subst (AreChildrenTrue site r me) (sym (learned_of_fence k site o)) t.children)
+    (λ free. children_served site r f me k stands t free o permits)
+
 pub own_learned : (site : SiteId) (r : Records) (f : Flat) (k : Knowledge) (me : Instance) (o : Op) (most : ℕ) → StandsFor [] r f → AreInForm r most → AreMapped r → IsTrueAt site r me k → Permits k site o
     → IsTrueAt site (after r me o) me (learned k site o (answer_to r me o))
 own_learned site r f k me o most stands form mapped t permits =
@@ -704,7 +732,8 @@ own_learned site r f k me o most stands form mapped t permits =
     let own : Knowledge = learned_own k site o a in
     let taught = own_taught site r f k me o most stands form mapped t permits in
     let before = own_as_before k site o a in
-    let strange : DrewNoneOf site k.seen own = subst (λ seen. DrewNoneOf site seen own) before.0 taught.strange in
-    telling_true site (after r me o) me own (seen_by k.seen site o a) (told_by k.seen k.told site o a)
+    let strange : DrewNoneOf site k.seen own = subst (λ seen. DrewNoneOf site seen own) before.0 (λ image. (taught.each image).strange) in
+    telling_true site (after r me o) me own (told_then k site o a)
     (seen_taught site r f me stands k.seen o a refl t.seen (seen_kept site r me k o permits k.seen t.strange t.seen))
-    (strange_taught site (after r me o) k.seen own o a (told_behind r me o a refl) (λ image drawn. (taught.drawn image drawn).header) strange) taught
+    (strange_taught site (after r me o) k.seen own o a (told_behind r me o a refl) (λ image drawn. ((taught.each image).drawn drawn).header) strange)
+    (children_taught site r f k me o stands t permits) taught

@@ -4,26 +4,32 @@ use Rattle.std.proofs.Common.{◌≡◌, ◌⊎◌, inl, inr, ℕ, ◌==◌, con
 use Rattle.std.specs.Prelude.{Any, IsFalse, IsSome}
 use Rattle.std.proofs.lemmas.Bool.{true≢false, eqb-true, and_parts}
 use Rattle.std.proofs.lemmas.List.Elements.{All-nil}
+use Rattle.rbd_kinds.specs.declared.answer.Answer.{Answer}
 use Rattle.rbd_kinds.specs.declared.header.HeaderView.{HeaderView}
 use Rattle.rbd_kinds.specs.declared.id.Instance.{Instance}
 use Rattle.rbd_kinds.specs.declared.id.SiteId.{SiteId}
 use Rattle.rbd_kinds.specs.declared.layout.Layout.{Layout}
 use Rattle.rbd_kinds.specs.Sharing.{go_together}
-use Rattle.rbd_kinds.proofs.Images.{same_site_is}
+use Rattle.rbd_kinds.proofs.Images.{same_site_is, at_itself}
 use Rattle.rbd_object.specs.Mapped.{Mapped}
 use Rattle.rbd_flat.specs.Flat.{Flat}
-use Rattle.rbd_machine.specs.Ancestors.{HeaderSeen, ObjectTold}
-use Rattle.rbd_machine.specs.Knowledge.{Blank, Fence, ImageMaps, Knowledge, MapsKnown, ObjectsKnown, Own, afresh, owns_when_held, is_absent, is_at, is_drawn, is_fence_of, is_fenced_by, is_gone, is_raised, is_there, owns_without, maps_of, objects_known_of, own_of, known_after_wait, same_site, unfenced, unmapped, unmarked, untouched, without_fence}
+use Rattle.rbd_machine.specs.Ancestors.{HeaderSeen, ObjectTold, ChildBase, ChildLink, IsAmong, SnapPlace, seen_by, told_by}
+use Rattle.rbd_machine.specs.Knowledge.{Blank, Fence, ImageMaps, Knowledge, MapsKnown, ObjectsKnown, Own, afresh, owns_when_held, is_absent, is_at, is_drawn, is_fence_of, is_fenced_by, is_gone, is_raised, is_there, owns_without, maps_of, objects_known_of, own_of, known_after_wait, same_site, unfenced, unmapped, unmarked, untouched, without_fence, header_alone}
+use Rattle.rbd_kinds.specs.declared.operation.Op.{Op}
+use Rattle.rbd_machine.specs.Children.{based_by, childless_by, linked_by, snaps_of_others}
 use Rattle.rbd_machine.specs.Wait.{Wait}
 use Rattle.rbd_machine.specs.Wait as wait
+use Rattle.rbd_machine.proofs.AtLeast.{among_left}
 use Rattle.rbd_machine.proofs.Lawful.{left_here}
 use Rattle.rbd_site.specs.Records.{Records, object_at}
 use Rattle.rbd_site.specs.Step.{is_fenced}
 use Rattle.rbd_stands.specs.Covering.{Maps}
 use Rattle.rbd_interference.specs.Ancestors.{AreSeenTrue, DrewNoneOf, HasReadTruly}
 use Rattle.rbd_interference.specs.Beside.{AreBeside}
-use Rattle.rbd_interference.specs.Truth.{AreMapsTrue, AreObjectsTrue, AreZeros, IsCountTrue, IsStill, IsTrueAt, KnowsNoHeader, header_of_own, is_alone_on, is_own_alone, known_header, sharing_of_own, sharing_on, IsStillOwn}
+use Rattle.rbd_interference.specs.Truth.{AreMapsTrue, AreObjectsTrue, AreZeros, IsCountTrue, IsStill, IsTrueAt, KnowsNoHeader, header_of_own, is_alone_on, is_own_alone, known_header, sharing_of_own, sharing_on, IsStillOwn, AreBasedElsewhere, AreChildrenTrue}
 use Rattle.rbd_interference.specs.Turns.{KnowsAbsent, KnowsOf, KnowsThere}
+use Rattle.rbd_interference.proofs.Children.{IsLessOfBases, IsLessOfChildren, children_less, children_onward, same_children}
+use Rattle.rbd_interference.proofs.Each.{AreImagesTrue}
 use Rattle.rbd_interference.proofs.Seen.{IsSeenLess, same_seen}
 
 -- ---- less
@@ -50,6 +56,7 @@ pub record IsLess (site : SiteId) (new old : Knowledge) : Type 0 where
   pub objects : (image : ℕ) → AreObjectsLess (objects_known_of new.objects site image) (objects_known_of old.objects site image)
   pub gone : (image : ℕ) → is_gone new.gone site image ≡ true → is_gone old.gone site image ≡ true
   pub seen : IsSeenLess site new.seen old.seen
+  pub children : IsLessOfChildren site new old
 
 pub same_maps : (m : MapsKnown) → AreMapsLess m m
 same_maps m = record { raised = λ view object marked. marked; states = λ states told. told; count = λ count known. known; put = λ snap known. known }
@@ -66,6 +73,7 @@ less_itself site k = record {
   objects = λ image. inl refl;
   gone = λ image gone. gone;
   seen = same_seen site k.seen;
+  children = same_children site k k refl refl refl refl refl;
 }
 
 -- ---- less is true
@@ -162,6 +170,7 @@ module _ (site : SiteId) (new old : Knowledge) (less : IsLess site new old) wher
     counted = λ image without. count_less (maps_of new.maps site image).count (maps_of old.maps site image).count (r.maps image None) (less.maps image).count (t.counted image (was_without image without));
     seen = λ image h among. t.seen image h (less.seen.among image h among);
     strange = λ image saw. undrawn image (t.strange image (less.seen.has image saw));
+    children = children_less site r me new old less.children t.children;
   }
     where
       still : (image : ℕ) → IsFalse (is_fenced r me) → (known : Option HeaderView) → known_header new site image ≡ known → IsStill (sharing_on new site image) known (r.headers image)
@@ -173,8 +182,9 @@ module _ (site : SiteId) (new old : Knowledge) (less : IsLess site new old) wher
 -- Who knows no more of headers and ids stays beside the others.
 pub known_beside : (site : SiteId) (r : Records) (me you : Instance) (new old j : Knowledge) → ((image : ℕ) → IsOwnOf (own_of new.owns site image) (own_of old.owns site image))
     → ((image : ℕ) → is_drawn new.drawn site image ≡ true → is_drawn old.drawn site image ≡ true)
-    → ((image : ℕ) → is_gone new.gone site image ≡ true → is_gone old.gone site image ≡ true) → IsSeenLess site new.seen old.seen → AreBeside site r me you old j → AreBeside site r me you new j
-known_beside site r me you new old j owns drawn gone seen beside = record {
+    → ((image : ℕ) → is_gone new.gone site image ≡ true → is_gone old.gone site image ≡ true) → IsSeenLess site new.seen old.seen → IsLessOfBases site new old → AreBeside site r me you old j
+    → AreBeside site r me you new j
+known_beside site r me you new old j owns drawn gone seen bases beside = record {
   shared = λ free image some others.
       ap (λ o. go_together (sharing_of_own o) (sharing_on j site image)) (owns image some) ∙ beside.shared free image (before image some) others;
   gone = λ image g. beside.gone image (gone image g);
@@ -183,6 +193,8 @@ known_beside site r me you new old j owns drawn gone seen beside = record {
   apart = λ image d. beside.apart image (drawn image d);
   unseen = λ image saw. beside.unseen image (seen.has image saw);
   unseen_there = λ image saw. undrawn image (beside.unseen_there image saw);
+  unbased = λ free child link based childless. beside.unbased free child link (bases.based child link based) childless;
+  unbased_there = λ free child link based childless. beside.unbased_there free child link based (bases.childless link.image link.snap childless);
 }
   where
     before : (image : ℕ) → IsSome (header_of_own (own_of new.owns site image)) → IsSome (header_of_own (own_of old.owns site image))
@@ -196,29 +208,52 @@ known_beside site r me you new old j owns drawn gone seen beside = record {
         by true is = absurd (true≢false (sym (drawn image is) ∙ none))
 
 pub less_beside : (site : SiteId) (r : Records) (me you : Instance) (new old j : Knowledge) → IsLess site new old → AreBeside site r me you old j → AreBeside site r me you new j
-less_beside site r me you new old j less beside = known_beside site r me you new old j less.owns less.drawn less.gone less.seen beside
+less_beside site r me you new old j less beside =
+    known_beside site r me you new old j less.owns less.drawn less.gone less.seen (record { based = less.children.based; childless = less.children.childless }) beside
 
 -- ---- what is told of any image
 
--- Who was told more of other images knows the same of its own.
-pub telling_true : (site : SiteId) (r : Records) (me : Instance) (k : Knowledge) (seen : List HeaderSeen) (told : List ObjectTold) → AreSeenTrue site r seen → DrewNoneOf site seen k → IsTrueAt site r me k
-    → IsTrueAt site r me (record k { seen = seen; told = told })
-telling_true site r me k seen told are strange t = record {
-  owned = t.owned;
-  drawn = t.drawn;
-  fenced = t.fenced;
-  mapped = t.mapped;
-  objects = t.objects;
-  gone = t.gone;
-  apart = t.apart;
-  counted = t.counted;
-  seen = are;
-  strange = strange;
+-- what was told of any image, and of children
+pub record Told : Type 0 where
+  pub seen : List HeaderSeen
+  pub told : List ObjectTold
+  pub linked : List ChildLink
+  pub based : List ChildBase
+  pub childless : List SnapPlace
+
+abbrev pub with_told : Told → Knowledge → Knowledge
+with_told w k = record k { seen = w.seen; told = w.told; linked = w.linked; based = w.based; childless = w.childless }
+
+-- what an answer tells of them
+abbrev pub told_then : Knowledge → SiteId → Op → Answer → Told
+told_then k site o a = record {
+  seen = seen_by k.seen site o a;
+  told = told_by k.seen k.told site o a;
+  linked = linked_by k.linked site o a;
+  based = based_by k.linked k.based site o a;
+  childless = childless_by (λ image. header_alone (own_of k.owns site image)) k.childless site o a;
 }
 
-pub telling_beside : (site : SiteId) (r : Records) (me you : Instance) (k j : Knowledge) (seen : List HeaderSeen) (told : List ObjectTold) → DrewNoneOf site seen j → AreBeside site r me you k j
-    → AreBeside site r me you (record k { seen = seen; told = told }) j
-telling_beside site r me you k j seen told unseen beside = record {
+-- Who was told more of other images knows the same of its own.
+pub telling_true : (site : SiteId) (r : Records) (me : Instance) (k : Knowledge) (w : Told) → AreSeenTrue site r w.seen → DrewNoneOf site w.seen k → AreChildrenTrue site r me (with_told w k)
+    → AreImagesTrue site r me k → IsTrueAt site r me (with_told w k)
+telling_true site r me k w are strange children t = record {
+  owned = λ free image. (t.each image).owned free;
+  drawn = λ image. (t.each image).drawn;
+  fenced = t.fenced;
+  mapped = λ free image. (t.each image).mapped free;
+  objects = λ free image. (t.each image).objects free;
+  gone = λ image. (t.each image).gone;
+  apart = λ image. (t.each image).apart;
+  counted = λ image. (t.each image).counted;
+  seen = are;
+  strange = strange;
+  children = children;
+}
+
+pub telling_beside : (site : SiteId) (r : Records) (me you : Instance) (k j : Knowledge) (w : Told) → DrewNoneOf site w.seen j → (IsFalse (is_fenced r you) → AreBasedElsewhere site (with_told w k) j)
+    → (IsFalse (is_fenced r me) → AreBasedElsewhere site j (with_told w k)) → AreBeside site r me you k j → AreBeside site r me you (with_told w k) j
+telling_beside site r me you k j w unseen unbased unbased_there beside = record {
   shared = beside.shared;
   apart = beside.apart;
   gone = beside.gone;
@@ -226,6 +261,8 @@ telling_beside site r me you k j seen told unseen beside = record {
   removed = beside.removed;
   unseen = unseen;
   unseen_there = beside.unseen_there;
+  unbased = unbased;
+  unbased_there = unbased_there;
 }
 
 -- who knows less than one that knows less
@@ -246,6 +283,7 @@ less_then site a b c first then_less = record {
     among = λ image h among. then_less.seen.among image h (first.seen.among image h among);
     has = λ image saw. then_less.seen.has image (first.seen.has image saw);
   };
+  children = children_onward site a b c first.children then_less.children;
 }
   where
     objects : (x y z : ObjectsKnown) → AreObjectsLess x y → AreObjectsLess y z → AreObjectsLess x z
@@ -334,6 +372,42 @@ nothing_known_of maps turn k site image object (inl marked) = nothing_marked map
 nothing_known_of maps turn k site image object (inr (inl gone)) = nothing_absent object gone
 nothing_known_of maps turn k site image object (inr (inr there)) = true≢false (sym there)
 
+-- of an image that it gave up it knows no snapshot without children
+module _ (site there : SiteId) (place : ℕ) (k : Knowledge) where
+  -- another image
+  not_there : (image : ℕ) → not (is_at there place site image) ≡ true → is_at site image there place ≡ false
+  not_there image other = by (is_at site image there place) refl
+    where
+      by : (b : Bool) → is_at site image there place ≡ b → b ≡ false
+      by false is = refl
+      by true is =
+          let same = place_of site there image place is in
+          absurd (true≢false (sym other ∙ ap not (ap (λ s. is_at s place site image) (sym same.0) ∙ ap (λ i. is_at site i site image) (sym same.1) ∙ at_itself site image)))
+
+  apart_of : (image snap : ℕ) → IsAmong (record { site = site; image = image; snap = snap }) (snaps_of_others there place k.childless)
+      → IsAmong (record { site = site; image = image; snap = snap }) k.childless × (is_at site image there place ≡ false)
+  apart_of image snap among = let left = among_left (λ p. not (is_at there place p.site p.image)) (record { site = site; image = image; snap = snap }) k.childless among in (left.0, not_there image left.1)
+
+  held_children : IsLessOfChildren site (known_after_wait k (wait.Hold there place)) k
+  held_children = record {
+    linked = λ parent snap child among. among;
+    based = λ child link among. among;
+    childless = λ image snap among. (apart_of image snap among).0;
+    makes = λ child makes. makes;
+    owns = λ image snap among.
+        let other = (apart_of image snap among).1 in
+        ap (λ b. cond b (Some (waiting k there place)) (own_of (owns_without there place k.owns) site image)) other ∙ left_there there site place image other k.owns;
+  }
+
+  left_children : IsLessOfChildren site (known_after_wait k (wait.Leave there place)) k
+  left_children = record {
+    linked = λ parent snap child among. among;
+    based = λ child link among. among;
+    childless = λ image snap among. (apart_of image snap among).0;
+    makes = λ child makes. makes;
+    owns = λ image snap among. left_there there site place image (apart_of image snap among).1 k.owns;
+  }
+
 turned : (site : SiteId) (k : Knowledge) (turn : Option ℕ) → IsLess site (record k { turn = turn; maps = unmarked k.maps; objects = [] }) k
 turned site k turn = record {
   owns = λ image some. refl;
@@ -343,6 +417,7 @@ turned site k turn = record {
   objects = λ image. inr refl;
   gone = λ image gone. gone;
   seen = same_seen site k.seen;
+  children = same_children site _ k refl refl refl refl refl;
 }
 
 pub waited_less : (site : SiteId) (k : Knowledge) (w : Wait) → IsLess site (known_after_wait k w) k
@@ -354,6 +429,7 @@ waited_less site k (wait.Join there image sharing) = record {
   objects = λ image. inl refl;
   gone = λ image gone. gone;
   seen = same_seen site k.seen;
+  children = same_children site _ k refl refl refl refl refl;
 }
 waited_less site k (wait.Hold there place) = record {
   owns = λ image. held_own site there image place k;
@@ -363,6 +439,7 @@ waited_less site k (wait.Hold there place) = record {
   objects = λ image. inr refl;
   gone = λ image gone. gone;
   seen = same_seen site k.seen;
+  children = held_children site there place k;
 }
 waited_less site k (wait.Turn object) = turned site k (Some object)
 waited_less site k (wait.Applied there image) = turned site k None
@@ -374,6 +451,7 @@ waited_less site k (wait.Leave there place) = record {
   objects = λ image. inl refl;
   gone = λ image gone. gone;
   seen = same_seen site k.seen;
+  children = left_children site there place k;
 }
 
 pub waits_learned : (site : SiteId) (r : Records) (me : Instance) (k : Knowledge) → IsTrueAt site r me k → (w : Wait) → IsTrueAt site r me (known_after_wait k w)
@@ -406,6 +484,7 @@ afresh_less site there place k = record {
   objects = λ image. inr refl;
   gone = λ image gone. gone;
   seen = same_seen site k.seen;
+  children = same_children site _ k refl refl refl refl refl;
 }
   where
     maps : (image : ℕ) (b : Bool) → AreMapsLess (cond b unmapped (maps_of (unmarked k.maps) site image)) (maps_of k.maps site image)
@@ -434,4 +513,5 @@ unfenced_less site there owner k = record {
   objects = λ image. inl refl;
   gone = λ image gone. gone;
   seen = same_seen site k.seen;
+  children = same_children site _ k refl refl refl refl refl;
 }

@@ -16,6 +16,10 @@ pub mod Possible
 pub mod NoStates
 pub mod Nothing
 pub mod Each
+pub mod Parents
+pub mod Drawn
+pub mod Children
+pub mod ChildrenLearned
 pub mod Sharing
 pub mod Less
 pub mod Objects

@@ -23,7 +23,7 @@ use Rattle.rbd_stands.proofs.Locks.{EndsLock, EndsIt, operation_keeps}
 use Rattle.rbd_interference.specs.Ancestors.{DrewNoneOf}
 use Rattle.rbd_interference.specs.Beside.{AreBeside, AreUnfenced, BreaksNothing, SharesLock}
 use Rattle.rbd_interference.specs.Locks.{HasLockWhileFree, KnowsByLock, gives_up}
-use Rattle.rbd_interference.specs.Truth.{IsTrueAt}
+use Rattle.rbd_interference.specs.Truth.{AreBasedElsewhere, IsTrueAt}
 use Rattle.rbd_stands.proofs.Served.{fenced_after}
 use Rattle.rbd_interference.proofs.Fenced.{was_free, where_free}
 use Rattle.rbd_interference.proofs.Headers.{own_known}
@@ -42,9 +42,9 @@ one_owner r me you image free mine yours = same_owner r me you image (mine free.
 pub apart_by_locks : (site : SiteId) (r : Records) (me you : Instance) (k j : Knowledge) → me ≢ you → KnowsByLock site r me k → KnowsByLock site r you j
     → ((image : ℕ) → is_drawn k.drawn site image ≡ true → is_drawn j.drawn site image ≡ false) → ((image : ℕ) → is_gone k.gone site image ≡ true → is_drawn j.drawn site image ≡ false)
     → ((image : ℕ) → is_gone j.gone site image ≡ true → is_drawn k.drawn site image ≡ false) → ((image : ℕ) → is_gone k.gone site image ≡ true → is_gone j.gone site image ≡ false)
-    → DrewNoneOf site k.seen j → DrewNoneOf site j.seen k
+    → DrewNoneOf site k.seen j → DrewNoneOf site j.seen k → (IsFalse (is_fenced r you) → AreBasedElsewhere site k j) → (IsFalse (is_fenced r me) → AreBasedElsewhere site j k)
     → AreBeside site r me you k j
-apart_by_locks site r me you k j differ mine yours apart gone gone_there removed unseen unseen_there = record {
+apart_by_locks site r me you k j differ mine yours apart gone gone_there removed unseen unseen_there unbased unbased_there = record {
   shared = λ free image one other. absurd (differ (one_owner r me you image free (mine image one) (yours image other)));
   gone = gone;
   gone_there = gone_there;
@@ -52,6 +52,8 @@ apart_by_locks site r me you k j differ mine yours apart gone gone_there removed
   apart = apart;
   unseen = unseen;
   unseen_there = unseen_there;
+  unbased = unbased;
+  unbased_there = unbased_there;
 }
 
 -- who has the lock itself meets nobody else that knows the header

@@ -23,7 +23,7 @@ use Rattle.rbd_kinds.specs.Sharing.{is_alone}
 use Rattle.rbd_kinds.specs.Form.{IsOverlapWithin}
 use Rattle.rbd_kinds.specs.Header.{snap_named}
 use Rattle.rbd_kinds.specs.Striping.{object_of}
-use Rattle.rbd_header.specs.Header.{context_of, cut, is_full, snap_in, with_size, with_snap, without_snap}
+use Rattle.rbd_header.specs.Header.{context_of, cut, is_full, snap_in, with_size, with_snap, with_status, without_snap}
 use Rattle.rbd_header.proofs.Changed.{cut_within}
 use Rattle.rbd_machine.specs.Knowledge.{Knowledge, maps_of, objects_known_of}
 use Rattle.rbd_machine.specs.Permits.{HasRoomFor, HasState, IsLeftOver, Permits, PermitsOnHeader, PermitsOnMap, PermitsOnObject, OwnsAlone, OwnsBy, MayMake, MayPut, MaySet, MaySize, MayTakeSnap}
@@ -46,7 +46,7 @@ use Rattle.rbd_stands.proofs.EditSteps.{drawn_served}
 use Rattle.rbd_stands.proofs.Lookups.{a_value}
 use Rattle.rbd_stands.proofs.MapSteps.{cover_after, cover_trimmed}
 use Rattle.rbd_stands.proofs.SiteSteps.{here}
-use Rattle.rbd_stands.proofs.Views.{each_added, each_removed}
+use Rattle.rbd_stands.proofs.Views.{each_added, each_marked, each_removed}
 use Rattle.rbd_interference.specs.Truth.{AreMapped, HasAtLeast, HasNoStates, IsCountTrue, IsPutAs, IsTrueAt, is_own_alone, map_len, map_state_in}
 use Rattle.rbd_interference.proofs.Done.{may_do}
 use Rattle.rbd_interference.proofs.Fenced.{after_free}
@@ -312,6 +312,15 @@ module _ (site : SiteId) (r : Records) (f : Flat) (k : Knowledge) (you : Instanc
           room = each_removed snap h (λ p. p) (λ t s at other p. p) all.room;
           within = each_removed snap h (λ p. p) (λ t s at other p. p) all.within;
         }) all)
+    header_views (header.SnapStatus snap status) permits (Some h) is g at =
+        let all = views image h is in
+        told_views (r.maps image) (cond (is_some (snap_in h.snaps snap)) (with_status snap status h) h) g at
+        (either_views (r.maps image) (is_some (snap_in h.snaps snap)) (with_status snap status h) h
+        (record {
+          there = each_marked snap status h (λ p. p) (λ t s at p. p) all.there;
+          room = each_marked snap status h (λ p. p) (λ t s at p. p) all.room;
+          within = each_marked snap status h (λ p. p) (λ t s at p. p) all.within;
+        }) all)
     header_views header.LockTake permits (Some h) is g at =
         told_views (r.maps image) (record h { owner = cond (is_some h.owner) h.owner (Some you) }) g at (owner_views (r.maps image) h (cond (is_some h.owner) h.owner (Some you)) (views image h is))
     header_views header.LockDrop permits (Some h) is g at =
@@ -351,6 +360,7 @@ module _ (site : SiteId) (r : Records) (f : Flat) (k : Knowledge) (you : Instanc
 
   keeps_cover : (o : Op) → Permits k site o → IsFalse (is_fenced r you) → KeepsCover r o
   keeps_cover (op.Directory o) permits free = tt
+  keeps_cover (op.Children o) permits free = tt
   keeps_cover (op.BlockAdd i) permits free = tt
   keeps_cover (op.Header image o) permits free = header_covers free image o permits (r.headers image) refl
   keeps_cover (op.Data image number o) permits free = object_covers free image number o permits
@@ -362,6 +372,7 @@ module _ (site : SiteId) (r : Records) (f : Flat) (k : Knowledge) (you : Instanc
 
   served_views : IsFalse (is_fenced r you) → (o : Op) → Permits k site o → AllHaveViews (after_served r you o)
   served_views free (op.Directory o) permits = views
+  served_views free (op.Children o) permits = views
   served_views free (op.BlockAdd i) permits = views
   served_views free (op.Data image number o) permits = views
   served_views free (op.Map image o) permits =
@@ -376,6 +387,7 @@ module _ (site : SiteId) (r : Records) (f : Flat) (k : Knowledge) (you : Instanc
   -- what is kept of an id that wasn't drawn has no state
   served_fresh : IsFalse (is_fenced r you) → (o : Op) → Permits k site o → (image : ℕ) → r.directory.drawn < image → HasNoStates ((after_served r you o).maps image None)
   served_fresh free (op.Directory o) permits image past = mapped.fresh image past
+  served_fresh free (op.Children o) permits image past = mapped.fresh image past
   served_fresh free (op.BlockAdd i) permits image past = mapped.fresh image past
   served_fresh free (op.Header other o) permits image past = mapped.fresh image past
   served_fresh free (op.Data other number o) permits image past = mapped.fresh image past

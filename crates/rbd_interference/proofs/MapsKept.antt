@@ -94,6 +94,7 @@ module _ (site : SiteId) (r : Records) (k j : Knowledge) (me you : Instance) (t 
 
   mapped_served : IsFalse (is_fenced r me) → IsFalse (is_fenced r you) → (o : Op) → Permits j site o → MayAct site r you me j k o → (image : ℕ) → IsMapped image ((after_served r you o).maps image)
   mapped_served free served (op.Directory o) permits may image = t.mapped free image
+  mapped_served free served (op.Children o) permits may image = t.mapped free image
   mapped_served free served (op.BlockAdd i) permits may image = t.mapped free image
   mapped_served free served (op.Header other o) permits may image = t.mapped free image
   mapped_served free served (op.Data other number o) permits may image = t.mapped free image
@@ -144,6 +145,7 @@ module _ (site : SiteId) (r : Records) (k j : Knowledge) (me you : Instance) (t 
 
   counted_served : IsFalse (is_fenced r you) → (o : Op) → Permits j site o → (image : ℕ) → IsCounted image ((after_served r you o).maps image)
   counted_served served (op.Directory o) permits image = t.counted image
+  counted_served served (op.Children o) permits image = t.counted image
   counted_served served (op.BlockAdd i) permits image = t.counted image
   counted_served served (op.Header other o) permits image = t.counted image
   counted_served served (op.Data other number o) permits image = t.counted image

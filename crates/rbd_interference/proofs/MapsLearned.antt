@@ -27,7 +27,8 @@ use Rattle.rbd_site.specs.Records.{Records, object_at}
 use Rattle.rbd_site.specs.Step.{is_fenced, after_served, answer_served}
 use Rattle.rbd_site.proofs.MapLemmas.{with_map_same}
 use Rattle.rbd_interference.specs.Truth.{AreMapped, AreMapsTrue, AreStatesOf, HasAtLeast, HasNoStates, IsCountTrue, IsPutAs, IsTrueAt, KnowsNoHeader, is_alone_on, known_header, map_len, map_state_in, IsStillOwn}
-use Rattle.rbd_interference.proofs.Each.{IsKnownAs, IsTrueOfImage, each_true, objects_alike}
+use Rattle.rbd_interference.proofs.Children.{children_less, children_there, same_children}
+use Rattle.rbd_interference.proofs.Each.{IsKnownAs, IsTrueOfImage, each_true, objects_alike, of_all}
 use Rattle.rbd_interference.proofs.Headers.{not_waiting, owned_there}
 use Rattle.rbd_interference.proofs.MapsBehind.{maps_behind, maps_here, maps_there, nothing_mapped, with_view}
 use Rattle.rbd_interference.proofs.NoStates.{none_raised, none_there}
@@ -49,14 +50,16 @@ maps_known site k image m i other = record { own = refl; drawn = refl; maps = to
 -- What it learned of one image's maps, where all else is as it was.
 pub maps_are_true : (site : SiteId) (r new : Records) (me : Instance) (k : Knowledge) (image : ℕ) (m : MapsKnown) → IsTrueAt site r me k
     → (IsFalse (is_fenced new me) → IsFalse (is_fenced r me)) → ((i : Instance) → is_fenced_by k.fenced site i ≡ true → is_fenced new i ≡ true)
-    → ((i : ℕ) → new.headers i ≡ r.headers i) → ((i n : ℕ) → object_at new i n ≡ object_at r i n) → r.directory.drawn ≤ new.directory.drawn
+    → new.children ≡ r.children → ((i : ℕ) → new.headers i ≡ r.headers i) → ((i n : ℕ) → object_at new i n ≡ object_at r i n) → r.directory.drawn ≤ new.directory.drawn
     → ((i : ℕ) → i ≢ image → new.maps i ≡ r.maps i)
     → (IsFalse (is_fenced r me) → IsSome (known_header k site image) → AreMapsTrue (is_alone_on k site image) (new.maps image) m)
     → (KnowsNoHeader k site image → IsCountTrue m.count (new.maps image None))
     → (is_drawn k.drawn site image ≡ true → HasNoStates (new.maps image None))
     → IsTrueAt site new me (record k { maps = maps_told site image m k.maps })
-maps_are_true site r new me k image m t was fences headers objects drawn others here counts unraised =
-    each_true site r new me k learnt image t was fences it (maps_known site k image m) (λ i other. record { header = headers i; maps = others i other; objects = objects i; drawn = drawn })
+maps_are_true site r new me k image m t was fences children headers objects drawn others here counts unraised =
+    of_all site new me learnt
+    (each_true site r new me k learnt image t was fences it (maps_known site k image m) (λ i other. record { header = headers i; maps = others i other; objects = objects i; drawn = drawn }))
+    (children_less site new me learnt k (same_children site learnt k refl refl refl refl refl) (children_there site r new me k (record { children = children; headers = headers }) was t.children))
   where
     learnt : Knowledge
     learnt = record k { maps = maps_told site image m k.maps }
@@ -88,7 +91,7 @@ module _ (site : SiteId) (r : Records) (me : Instance) (k : Knowledge) (most : �
       → (KnowsNoHeader k site image → IsCountTrue m.count (maps_behind (r.maps image) o None))
       → IsTrueAt site (after_served r me (op.Map image o)) me (record k { maps = maps_told site image m k.maps })
   told_true o m permits here counts =
-      maps_are_true site r (after_served r me (op.Map image o)) me k image m t (λ f. f) t.fenced (λ i. refl) (λ i n. refl) (omega arith) (maps_there r me image o)
+      maps_are_true site r (after_served r me (op.Map image o)) me k image m t (λ f. f) t.fenced refl (λ i. refl) (λ i n. refl) (omega arith) (maps_there r me image o)
       (λ f known. subst (λ maps. AreMapsTrue (is_alone_on k site image) maps m) (sym (maps_here r me image o)) (here known))
       (λ without. subst (λ maps. IsCountTrue m.count (maps None)) (sym (maps_here r me image o)) (counts without))
       (λ drawn. let w = t.drawn image drawn in none_there r me image o image w.unraised (λ same. none_raised site r k me t free image o permits w.header w.unraised))
@@ -118,7 +121,7 @@ module _ (site : SiteId) (r : Records) (me : Instance) (k : Knowledge) (most : �
   got : (map : Option (List ℕ)) → r.maps image None ≡ map → IsTrueAt site r me (learned_of_map k site image (states.Get None) (step.states_answer map))
   got None is = t
   got (Some there) is =
-      maps_are_true site r r me k image (record known_of_it { states = Some (states_of (bits_of there) (4 * length (bits_of there))) }) t (λ f. f) t.fenced (λ i. refl) (λ i n. refl) (omega arith) (λ i other. refl)
+      maps_are_true site r r me k image (record known_of_it { states = Some (states_of (bits_of there) (4 * length (bits_of there))) }) t (λ f. f) t.fenced refl (λ i. refl) (λ i n. refl) (omega arith) (λ i other. refl)
       (λ f known. let was = t.mapped free image known in record {
         raised = was.raised;
         states = λ alone told e. subst (λ s. AreStatesOf s (r.maps image None)) (same_Some _ told e) (subst (AreStatesOf (states_of (bits_of there) (4 * length (bits_of there)))) (sym is) (states_told there (form.maps image None there is)));

@@ -9,6 +9,7 @@ use Rattle.rbd_site.specs.Records.{Records, no_records}
 use Rattle.rbd_interference.specs.Ancestors.{HasReadTruly}
 use Rattle.rbd_interference.specs.Beside.{AreBeside}
 use Rattle.rbd_interference.specs.Truth.{IsTrueAt, AreStandalone, KnowsNoHeader}
+use Rattle.rbd_interference.proofs.Children.{no_bases, no_children, none_childless}
 
 pub nothing_is_true : (s : SiteId) (r : Records) (me : Instance) → IsTrueAt s r me nothing_known
 nothing_is_true s r me = record {
@@ -22,6 +23,7 @@ nothing_is_true s r me = record {
   counted = λ image without. absurd (by image without);
   seen = λ image h among. absurd among;
   strange = λ image saw. absurd (true≢false (sym saw));
+  children = no_children s r me nothing_known refl refl refl;
 }
   where
     by : (image : ℕ) → KnowsNoHeader nothing_known s image → ⊥
@@ -40,6 +42,8 @@ nothing_is_beside s r me you j = record {
   apart = λ image drawn. absurd (true≢false (sym drawn));
   unseen = λ image saw. absurd (true≢false (sym saw));
   unseen_there = λ image saw. refl;
+  unbased = λ free. no_bases s nothing_known j refl;
+  unbased_there = λ free. none_childless s j nothing_known refl;
 }
 
 pub none_standalone : AreStandalone no_records

@@ -159,6 +159,7 @@ module _ (site : SiteId) (r : Records) (k j : Knowledge) (me you : Instance) (t 
 
   pub objects_kept : IsFalse (is_fenced r me) → (o : Op) → Permits j site o → MayAct site r you me j k o → (image : ℕ) → AreObjects image (object_at (after r you o) image)
   objects_kept free (op.Directory o) permits may image = after_free (λ s. AreObjects image (object_at s image)) r you (op.Directory o) (t.objects free image) (λ served. t.objects free image)
+  objects_kept free (op.Children o) permits may image = after_free (λ s. AreObjects image (object_at s image)) r you (op.Children o) (t.objects free image) (λ served. t.objects free image)
   objects_kept free (op.BlockAdd i) permits may image = after_free (λ s. AreObjects image (object_at s image)) r you (op.BlockAdd i) (t.objects free image) (λ served. t.objects free image)
   objects_kept free (op.Header other o) permits may image = after_free (λ s. AreObjects image (object_at s image)) r you (op.Header other o) (t.objects free image) (λ served. t.objects free image)
   objects_kept free (op.Data other number o) permits may image = data_kept free other number o permits may image

@@ -29,7 +29,8 @@ use Rattle.rbd_site.specs.Step.{is_fenced, after_served, answer_served}
 use Rattle.rbd_site.proofs.TrimLemmas.{with_object_same}
 use Rattle.rbd_stands.proofs.DataSteps.{done_after}
 use Rattle.rbd_interference.specs.Truth.{AreObjectsTrue, IsTrueAt, IsWaiting, is_alone_on, known_header, sharing_on}
-use Rattle.rbd_interference.proofs.Each.{IsTrueOfImage, each_true}
+use Rattle.rbd_interference.proofs.Each.{IsTrueOfImage, each_true, of_all}
+use Rattle.rbd_interference.proofs.Children.{children_less, children_there, same_children}
 use Rattle.rbd_interference.proofs.Headers.{find_there, not_waiting, own_known, same_layout}
 use Rattle.rbd_interference.proofs.MapsLearned.{at_no_other}
 use Rattle.rbd_interference.proofs.Objects.{emptied_true, found_true, made_true, removed_true, zeroed_true}
@@ -63,9 +64,12 @@ module _ (site : SiteId) (r : Records) (me : Instance) (k : Knowledge) (most : �
       → ((h : HeaderView) → known_header k site image ≡ Some h → AreObjectsTrue (is_alone_on k site image) h.layout (object_at (doing o) image) now)
       → IsTrueAt site (doing o) me (told now)
   known_true o now waits here =
-      each_true site r (doing o) me k (told now) image t (λ f. f) t.fenced it
+      of_all site (doing o) me (told now)
+      (each_true site r (doing o) me k (told now) image t (λ f. f) t.fenced it
       (λ i other. record { own = refl; drawn = refl; maps = refl; objects = told_of_others site image now k.objects i other; gone = refl; seen = refl })
-      (λ i other. record { header = refl; maps = refl; objects = λ n. other_image r me image number o i n other; drawn = omega arith })
+      (λ i other. record { header = refl; maps = refl; objects = λ n. other_image r me image number o i n other; drawn = omega arith }))
+      (children_less site (doing o) me (told now) k (same_children site (told now) k refl refl refl refl refl)
+      (children_there site r (doing o) me k (record { children = refl; headers = λ i. refl }) (λ f. f) t.children))
     where
       is : objects_known_of (told now).objects site image ≡ now
       is = told_of_it site image now k.objects

@@ -10,11 +10,11 @@ use Rattle.rbd_kinds.specs.declared.id.SiteId.{SiteId}
 use Rattle.rbd_kinds.specs.declared.operation.Op.{Op}
 use Rattle.rbd_kinds.specs.declared.operation.Op.TheVariants as op
 use Rattle.rbd_kinds.specs.Header.{snap_named}
-use Rattle.rbd_header.specs.Header.{cut, is_full, snap_in, with_role, with_snap, with_status, without_snap, in_step}
+use Rattle.rbd_header.specs.Header.{cut, is_full, snap_in, with_snap, with_status, without_snap}
 use Rattle.rbd_flat.specs.Flat.{Flat}
 use Rattle.rbd_machine.specs.Knowledge.{Knowledge}
 use Rattle.rbd_machine.specs.Permits.{Permits, PermitsOnHeader}
-use Rattle.rbd_site.specs.HeaderStep.{header_after, header_then, is_owner}
+use Rattle.rbd_site.specs.HeaderStep.{header_after, header_then, is_owner, where_made}
 use Rattle.rbd_site.specs.Log.{expired, trimmed}
 use Rattle.rbd_site.specs.Records.{Records, no_records}
 use Rattle.rbd_site.specs.Step.{is_fenced, after, after_served}
@@ -23,8 +23,8 @@ use Rattle.rbd_stands.specs.Site.{StandsFor}
 use Rattle.rbd_stands.specs.View.{EachView}
 use Rattle.rbd_stands.proofs.SiteSteps.{parents_there}
 use Rattle.rbd_stands.proofs.Told.{flat_listed, later_behind}
-use Rattle.rbd_stands.proofs.Views.{each_added, each_marked, each_removed}
 use Rattle.rbd_interference.specs.Truth.{AreRanked, IsLower}
+use Rattle.rbd_interference.proofs.Parents.{parents_then}
 
 -- ---- one header, by the records behind
 
@@ -35,34 +35,40 @@ cut_lower : (s : Records) (depth to : ℕ) (parent : Option ParentLink) → IsLo
 cut_lower s depth to None lower = tt
 cut_lower s depth to (Some link) lower = lower
 
-either_ranked : (s : Records) (b : Bool) (one other : HeaderView) → IsRanked s one → IsRanked s other → IsRanked s (cond b one other)
-either_ranked s true one other p q = p
-either_ranked s false one other p q = q
-
-same_views : (s : Records) (h g : HeaderView) → g.snaps ≡ h.snaps → g.parent ≡ h.parent → g.depth ≡ h.depth → IsRanked s h → IsRanked s g
-same_views s h g snaps parent depth ranked = record {
-  head = subst (λ d. IsLower s d g.parent) (sym depth) (subst (IsLower s h.depth) (sym parent) ranked.head);
-  snap = λ t u at. subst (λ d. IsLower s d u.parent) (sym depth) (ranked.snap t u (ap (λ us. snap_in us t) (sym snaps) ∙ at));
-}
+-- a change leaves the depth
+depth_then : (me : Instance) (h : HeaderView) (o : HeaderOp) → (header_then me h o).depth ≡ h.depth
+depth_then me h (header.SnapAdd name) = by (is_some (snap_named h.snaps name)) (is_full h)
+  where
+    by : (listed full : Bool) → (where_made listed full (with_snap name h) h).depth ≡ h.depth
+    by true full = refl
+    by false true = refl
+    by false false = refl
+depth_then me h (header.SnapRemove snap) = by (is_some (snap_in h.snaps snap))
+  where
+    by : (b : Bool) → (cond b (without_snap snap h) h).depth ≡ h.depth
+    by true = refl
+    by false = refl
+depth_then me h (header.SnapStatus snap status) = by (is_some (snap_in h.snaps snap))
+  where
+    by : (b : Bool) → (cond b (with_status snap status h) h).depth ≡ h.depth
+    by true = refl
+    by false = refl
+depth_then me h header.LockDrop = by (is_owner me h.owner)
+  where
+    by : (b : Bool) → (cond b (record h { owner = None }) h).depth ≡ h.depth
+    by true = refl
+    by false = refl
+depth_then me h (header.LockBreak owner) = by (is_owner owner h.owner)
+  where
+    by : (b : Bool) → (cond b (record h { owner = None }) h).depth ≡ h.depth
+    by true = refl
+    by false = refl
+depth_then me h o = refl
 
 ranked_then : (s : Records) (me : Instance) (h : HeaderView) (o : HeaderOp) → IsRanked s h → IsRanked s (header_then me h o)
-ranked_then s me h (header.SetSize to) ranked = record { head = cut_lower s h.depth to h.parent ranked.head; snap = ranked.snap }
-ranked_then s me h (header.SnapAdd name) ranked =
-    either_ranked s (is_some (snap_named h.snaps name)) h (cond (is_full h) h (with_snap name h)) ranked
-    (either_ranked s (is_full h) h (with_snap name h) ranked (each_added name h (λ p. p) (λ t u at p. p) (λ p. p) ranked))
-ranked_then s me h (header.SnapRemove snap) ranked =
-    either_ranked s (is_some (snap_in h.snaps snap)) (without_snap snap h) h (each_removed snap h (λ p. p) (λ t u at other p. p) ranked) ranked
-ranked_then s me h (header.SnapStatus snap status) ranked =
-    either_ranked s (is_some (snap_in h.snaps snap)) (with_status snap status h) h (each_marked snap status h (λ p. p) (λ t u at p. p) ranked) ranked
-ranked_then s me h header.Detach ranked = record { head = tt; snap = ranked.snap }
-ranked_then s me h (header.Role role) ranked = same_views s h (with_role role h) refl refl refl ranked
-ranked_then s me h header.Synced ranked = same_views s h (in_step h) refl refl refl ranked
-ranked_then s me h header.LockTake ranked = same_views s h (record h { owner = cond (is_some h.owner) h.owner (Some me) }) refl refl refl ranked
-ranked_then s me h header.LockDrop ranked =
-    either_ranked s (is_owner me h.owner) (record h { owner = None }) h (same_views s h (record h { owner = None }) refl refl refl ranked) ranked
-ranked_then s me h (header.LockBreak owner) ranked =
-    either_ranked s (is_owner owner h.owner) (record h { owner = None }) h (same_views s h (record h { owner = None }) refl refl refl ranked) ranked
-ranked_then s me h o ranked = ranked
+ranked_then s me h o ranked =
+    subst (λ d. EachView (header_then me h o) (λ v shape. IsLower s d shape.parent)) (sym (depth_then me h o))
+    (parents_then (IsLower s h.depth) tt (cut_lower s h.depth) me h o ranked)
 
 -- ---- all headers
 

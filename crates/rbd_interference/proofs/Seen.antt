@@ -2,17 +2,21 @@
 use Rattle.std.proofs.Common.{◌≡◌, inl, inr, ℕ, ◌≤◌, ◌==◌, cond, Bool, true, false, List, [], ◌∷◌, Option, Some, None, refl, sym, ap, ◌∙◌, subst, arith}
 use Rattle.std.proofs.lemmas.Bool.{and_parts, eqb-true, true≢false}
 use Rattle.std.proofs.lemmas.Option.{none-some}
+use Rattle.rbd_kinds.specs.declared.answer.Answer.TheVariants as answer
 use Rattle.rbd_kinds.specs.declared.header.HeaderView.{HeaderView}
+use Rattle.rbd_kinds.specs.declared.header_op.HeaderOp.TheVariants as header
 use Rattle.rbd_kinds.specs.declared.id.Instance.{Instance}
 use Rattle.rbd_kinds.specs.declared.id.SiteId.{SiteId}
 use Rattle.rbd_kinds.specs.declared.operation.Op.{Op}
+use Rattle.rbd_kinds.specs.declared.operation.Op.TheVariants as op
 use Rattle.rbd_kinds.proofs.Images.{at_itself, same_site_is}
 use Rattle.rbd_header.specs.Later.{IsLaterOf}
 use Rattle.rbd_header.proofs.Later.{later_onward}
 use Rattle.rbd_machine.specs.Ancestors.{HeaderSeen, IsAmong, has_seen}
 use Rattle.rbd_machine.specs.Knowledge.{is_at, same_site}
+use Rattle.rbd_site.specs.HeaderStep.{header_answer}
 use Rattle.rbd_site.specs.Records.{Records}
-use Rattle.rbd_site.specs.Step.{after}
+use Rattle.rbd_site.specs.Step.{after, answer_to, is_fenced}
 use Rattle.rbd_stands.specs.Condition.{IsDrawn}
 use Rattle.rbd_stands.proofs.EditSteps.{drawn_stays}
 use Rattle.rbd_stands.proofs.Told.{later_behind}
@@ -81,3 +85,16 @@ seen_after r you o image h still was = record { drawn = drawn_stays r you o imag
     by : (now : HeaderView) → (after r you o).headers image ≡ Some now → (before : Option HeaderView) → r.headers image ≡ before → IsLaterOf h now
     by now is None none = absurd (none-some now (sym (still none) ∙ is))
     by now is (Some mid) there = later_onward h mid now (was.later mid there) (later_behind r you o image mid now there is)
+
+-- ---- what a look tells
+
+-- it tells the header that is there
+pub header_got : (r : Records) (me : Instance) (image : ℕ) (h : HeaderView) → answer_to r me (op.Header image header.Get) ≡ answer.Header h → r.headers image ≡ Some h
+header_got r me image h = by (is_fenced r me) (r.headers image) refl
+  where
+    by : (b : Bool) (there : Option HeaderView) → r.headers image ≡ there → cond b answer.Fenced (header_answer me (r.headers image) (r.watchers image) header.Get) ≡ answer.Header h → r.headers image ≡ Some h
+    by true there at answered = absurd (cc)
+    by false None at answered = absurd (let e = sym (ap (λ p. header_answer me p (r.watchers image) header.Get) at) ∙ answered in cc)
+    by false (Some k) at answered =
+        let e : answer.Header k ≡ answer.Header h = sym (ap (λ p. header_answer me p (r.watchers image) header.Get) at) ∙ answered in
+        at ∙ ap Some (let same : k ≡ h = cc in same)

@@ -22,7 +22,7 @@ use Rattle.rbd_kinds.specs.declared.map_op.MapOp.TheVariants as states
 use Rattle.rbd_kinds.specs.declared.operation.Op.{Op}
 use Rattle.rbd_kinds.specs.declared.operation.Op.TheVariants as op
 use Rattle.rbd_kinds.specs.Header.{snap_named}
-use Rattle.rbd_header.specs.Header.{cut, is_full, snap_in, with_size, with_snap, without_snap}
+use Rattle.rbd_header.specs.Header.{cut, is_full, snap_in, with_size, with_snap, with_status, without_snap}
 use Rattle.rbd_machine.specs.Answers.{children_give, directory_gives, gives, header_gives, journal_gives, map_gives, object_gives}
 use Rattle.rbd_machine.specs.Knowledge.{Knowledge}
 use Rattle.rbd_machine.specs.Permits.{Permits, PermitsOnHeader}
@@ -70,6 +70,10 @@ module _ (site : SiteId) (r : Records) (k : Knowledge) (you : Instance) (standal
   header_stays image (header.SnapRemove snap) permits (Some v) is h at =
       edited v (cond (is_some (snap_in v.snaps snap)) (without_snap snap v) v) image is
       (left_alike (is_some (snap_in v.snaps snap)) (without_snap snap v) v (refl, refl)) h at
+  header_stays image (header.SnapStatus snap status) permits None is h at = absurd (none-some h at)
+  header_stays image (header.SnapStatus snap status) permits (Some v) is h at =
+      edited v (cond (is_some (snap_in v.snaps snap)) (with_status snap status v) v) image is
+      (left_alike (is_some (snap_in v.snaps snap)) (with_status snap status v) v (refl, refl)) h at
   header_stays image header.LockTake permits None is h at = absurd (none-some h at)
   header_stays image header.LockTake permits (Some v) is h at = edited v (record v { owner = cond (is_some v.owner) v.owner (Some you) }) image is (refl, refl) h at
   header_stays image header.LockDrop permits None is h at = absurd (none-some h at)
@@ -90,6 +94,7 @@ module _ (site : SiteId) (r : Records) (k : Knowledge) (you : Instance) (standal
 
   served_stays : (o : Op) → Permits k site o → AreStandalone (after_served r you o)
   served_stays (op.Directory o) permits = standalone
+  served_stays (op.Children o) permits = standalone
   served_stays (op.BlockAdd i) permits = standalone
   served_stays (op.Data image number o) permits = standalone
   served_stays (op.Map image o) permits = standalone

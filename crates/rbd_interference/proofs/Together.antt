@@ -1,6 +1,6 @@
 -- Two requests stay beside each other.
 use Rattle.std.proofs.Common.{◌≡◌, ℕ, ◌==◌, ◌+◌, cond, Bool, true, false, List, ◌∷◌, Option, Some, None, option_map, refl, sym, ap, ◌∙◌, subst, arith}
-use Rattle.std.specs.Prelude.{IsSome, is_some}
+use Rattle.std.specs.Prelude.{IsFalse, IsSome, is_some}
 use Rattle.std.proofs.lemmas.Bool.{true≢false, eqb-true, eq-eqb, and_parts}
 use Rattle.std.proofs.lemmas.Option.{none-some}
 use Rattle.rbd_kinds.specs.declared.answer.Answer.{Answer}
@@ -20,8 +20,8 @@ use Rattle.rbd_kinds.specs.declared.operation.Op.{Op}
 use Rattle.rbd_kinds.specs.declared.operation.Op.TheVariants as op
 use Rattle.rbd_kinds.specs.declared.sharing.Sharing.TheVariants.{Alone}
 use Rattle.rbd_kinds.specs.Sharing.{go_together}
-use Rattle.rbd_header.specs.Header.{with_size, with_snap, without_snap}
-use Rattle.rbd_machine.specs.Ancestors.{has_seen, seen_by, told_by}
+use Rattle.rbd_header.specs.Header.{with_size, with_snap, without_snap, with_status}
+use Rattle.rbd_machine.specs.Ancestors.{has_seen}
 use Rattle.rbd_machine.specs.Knowledge.{Fence, ImageMaps, ImageObjects, Knowledge, Own, afresh, first_told, found, header_told, is_at, is_drawn, is_gone, knows_head, learned, learned_of_directory, learned_of_header, learned_of_listing, learned_of_map, learned_of_object, learned_own, owns_without, looked_behind, looked_by, looked_under_lock, maps_told, only_there, own_of, known_after_wait, removed_header, same_site, unfenced, with_drawn, with_objects_where, without_drawn}
 use Rattle.rbd_machine.specs.Permits.{Permits, PermitsOnHeader, HoldsUnlooked, OwnsAlone}
 use Rattle.rbd_machine.specs.Wait.{Wait}
@@ -30,16 +30,19 @@ use Rattle.rbd_registry.specs.Directory as listing
 use Rattle.rbd_site.specs.DirectoryStep.{name_added}
 use Rattle.rbd_site.specs.HeaderStep.{header_answer}
 use Rattle.rbd_site.specs.Records.{Records}
-use Rattle.rbd_site.specs.Step.{after, answer_to}
+use Rattle.rbd_site.specs.Step.{after, answer_to, is_fenced}
 use Rattle.rbd_stands.proofs.Served.{where_either}
 use Rattle.rbd_interference.specs.Beside.{AreBeside, AreUnfenced, GoTogether, MayAct, SharesLock}
 use Rattle.rbd_interference.specs.Truth.{IsTrueAt, header_of_own, known_header, sharing_of_own, sharing_on}
 use Rattle.rbd_interference.proofs.Fenced.{was_free}
 use Rattle.rbd_interference.proofs.Headers.{own_known}
-use Rattle.rbd_interference.proofs.Learned.{drawn_left, strange_taught, told_there}
+use Rattle.rbd_interference.proofs.Children.{same_bases}
+use Rattle.rbd_interference.proofs.ChildrenLearned.{based_elsewhere, childless_elsewhere}
+use Rattle.rbd_interference.proofs.Drawn.{drawn_left}
+use Rattle.rbd_interference.proofs.Learned.{strange_taught, told_there}
 use Rattle.rbd_interference.proofs.MapsLearned.{at_no_other}
 use Rattle.rbd_interference.proofs.Told.{header_changed, told_sharing, told_apart, told_here}
-use Rattle.rbd_interference.proofs.Less.{known_beside, left_own, less_beside, telling_beside, waited_less}
+use Rattle.rbd_interference.proofs.Less.{known_beside, left_own, less_beside, telling_beside, told_then, waited_less}
 use Rattle.rbd_interference.proofs.Seen.{same_seen, seen_drawn}
 use Rattle.rbd_interference.proofs.Sharing.{alone_beside_none, together_turned}
 
@@ -55,6 +58,8 @@ module _ (site : SiteId) (r : Records) (me you : Instance) (k j : Knowledge) (be
     apart = beside.apart;
     unseen = beside.unseen;
     unseen_there = beside.unseen_there;
+    unbased = beside.unbased;
+    unbased_there = beside.unbased_there;
   }
     where
       told : Knowledge
@@ -86,7 +91,7 @@ module _ (site : SiteId) (r : Records) (me you : Instance) (k j : Knowledge) (be
       by (Some o) some = of o.header some
 
   made_beside : (image : ℕ) → AreBeside site r me you (without_drawn site image k) j
-  made_beside image = known_beside site r me you (without_drawn site image k) k j (λ i some. refl) (λ i drawn. (drawn_left site image i k.drawn drawn).0) (λ i gone. gone) (same_seen site k.seen) beside
+  made_beside image = known_beside site r me you (without_drawn site image k) k j (λ i some. refl) (λ i drawn. (drawn_left site image i k.drawn drawn).0) (λ i gone. gone) (same_seen site k.seen) (same_bases site _ k refl refl) beside
 
   drawn_beside : IsTrueAt site r you j → AreBeside site r me you (with_drawn site (r.directory.drawn + 1) k) j
   drawn_beside u = record {
@@ -97,6 +102,8 @@ module _ (site : SiteId) (r : Records) (me you : Instance) (k j : Knowledge) (be
     apart = λ i drawn. by i (is_at site i site (r.directory.drawn + 1)) refl (is_drawn j.drawn site i) refl drawn;
     unseen = beside.unseen;
     unseen_there = λ i saw. undrawn i (is_at site i site (r.directory.drawn + 1)) refl saw;
+    unbased = beside.unbased;
+    unbased_there = beside.unbased_there;
   }
     where
       is_fresh : (i : ℕ) → is_at site i site (r.directory.drawn + 1) ≡ true → r.directory.drawn + 1 ≡ i
@@ -141,14 +148,14 @@ module _ (site : SiteId) (r : Records) (me you : Instance) (k j : Knowledge) (be
 
   -- whatever it knows of fences
   fence_beside : (fenced : List Fence) → AreBeside site r me you (record k { fenced = fenced }) j
-  fence_beside fenced = known_beside site r me you (record k { fenced = fenced }) k j (λ i some. refl) (λ i drawn. drawn) (λ i gone. gone) (same_seen site k.seen) beside
+  fence_beside fenced = known_beside site r me you (record k { fenced = fenced }) k j (λ i some. refl) (λ i drawn. drawn) (λ i gone. gone) (same_seen site k.seen) (same_bases site _ k refl refl) beside
 
   -- whatever it knows of maps and objects
   maps_beside : (maps : List ImageMaps) → AreBeside site r me you (record k { maps = maps }) j
-  maps_beside maps = known_beside site r me you (record k { maps = maps }) k j (λ i some. refl) (λ i drawn. drawn) (λ i gone. gone) (same_seen site k.seen) beside
+  maps_beside maps = known_beside site r me you (record k { maps = maps }) k j (λ i some. refl) (λ i drawn. drawn) (λ i gone. gone) (same_seen site k.seen) (same_bases site _ k refl refl) beside
 
   objects_beside : (objects : List ImageObjects) → AreBeside site r me you (record k { objects = objects }) j
-  objects_beside objects = known_beside site r me you (record k { objects = objects }) k j (λ i some. refl) (λ i drawn. drawn) (λ i gone. gone) (same_seen site k.seen) beside
+  objects_beside objects = known_beside site r me you (record k { objects = objects }) k j (λ i some. refl) (λ i drawn. drawn) (λ i gone. gone) (same_seen site k.seen) (same_bases site _ k refl refl) beside
 
   map_beside : (image : ℕ) (o : MapOp) (a : Answer) → AreBeside site r me you (learned_of_map k site image o a) j
   map_beside image (states.Resize count) answer.Done = maps_beside _
@@ -183,13 +190,15 @@ module _ (site : SiteId) (r : Records) (me you : Instance) (k j : Knowledge) (be
     apart = less.apart;
     unseen = less.unseen;
     unseen_there = less.unseen_there;
+    unbased = less.unbased;
+    unbased_there = less.unbased_there;
   }
     where
       there : Knowledge
       there = record k { owns = owns_without site image k.owns; maps = maps_told site image only_there k.maps }
 
       less : AreBeside site r me you there j
-      less = known_beside site r me you there k j (λ i some. left_own site site i image k.owns some) (λ i drawn. drawn) (λ i gone. gone) (same_seen site k.seen) beside
+      less = known_beside site r me you there k j (λ i some. left_own site site i image k.owns some) (λ i drawn. drawn) (λ i gone. gone) (same_seen site k.seen) (same_bases site _ k refl refl) beside
 
       header_there : (i : ℕ) → is_at site i site image ≡ true → r.headers i ≡ None → ⊥
       header_there i at none = none-some h (sym (ap r.headers (eqb-true image i (and_parts (same_site site site) (image == i) at).1) ∙ none) ∙ is)
@@ -220,7 +229,7 @@ looked_beside site r me you k j beside image h may = by (own_of k.owns site imag
     first : (o : Own) → own_of k.owns site image ≡ Some o → AreBeside site r me you (header_told site image (first_told h) (afresh site image k)) j
     first o at =
         told_beside site r me you (afresh site image k) j
-        (known_beside site r me you (afresh site image k) k j (λ i some. refl) (λ i drawn. drawn) (λ i gone. gone) (same_seen site k.seen) beside)
+        (known_beside site r me you (afresh site image k) k j (λ i some. refl) (λ i drawn. drawn) (λ i gone. gone) (same_seen site k.seen) (same_bases site _ k refl refl) beside)
         image (first_told h) (λ free mine others. may free (ap is_some at) others)
 
     again : (o : Own) (own : HeaderView) → o.header ≡ Some own → own_of k.owns site image ≡ Some o → AreBeside site r me you (header_told site image (first_told h) k) j
@@ -244,12 +253,14 @@ module _ (site : SiteId) (r : Records) (me you : Instance) (k j : Knowledge) (be
   header_beside image (header.SetSize to) answer.Done permits may removal = edited_beside site r me you k j beside image (with_size to)
   header_beside image (header.SnapAdd name) (answer.Snap snap) permits may removal = edited_beside site r me you k j beside image (with_snap name)
   header_beside image (header.SnapRemove snap) answer.Done permits may removal = edited_beside site r me you k j beside image (without_snap snap)
+  header_beside image (header.SnapStatus snap status) answer.Done permits may removal = edited_beside site r me you k j beside image (with_status snap status)
   header_beside image header.Remove a permits may removal = removal refl
   header_beside image header.Get _ permits may removal = beside
   header_beside image (header.Create view) _ permits may removal = beside
   header_beside image (header.SetSize to) _ permits may removal = beside
   header_beside image (header.SnapAdd name) _ permits may removal = beside
   header_beside image (header.SnapRemove snap) _ permits may removal = beside
+  header_beside image (header.SnapStatus snap status) _ permits may removal = beside
   header_beside image (header.LockBreak owner) answer.Done permits may removal = fence_beside site r me you k j beside (unfenced site owner k.fenced)
   header_beside image (header.LockBreak owner) answer.Changed permits may removal = fence_beside site r me you k j beside (unfenced site owner k.fenced)
   header_beside image (header.LockBreak owner) _ permits may removal = beside
@@ -267,6 +278,7 @@ module _ (site : SiteId) (r : Records) (me you : Instance) (k j : Knowledge) (be
 
   own_beside : (o : Op) → IsTrueAt site r you j → Permits k site o → MayAct site r me you k j o → AreBeside site r me you (learned_own k site o (answer_to r me o)) j
   own_beside (op.Directory o) u permits may = directory_beside site r me you k j beside o u
+  own_beside (op.Children o) u permits may = beside
   own_beside (op.BlockAdd i) u permits may = listing_beside i (answer_to r me (op.BlockAdd i))
   own_beside (op.Header image o) u permits may =
       header_beside image o (answer_to r me (op.Header image o)) permits may
@@ -282,24 +294,23 @@ module _ (site : SiteId) (r : Records) (me you : Instance) (k j : Knowledge) (be
 
 -- ---- whatever is done meanwhile
 
--- who isn't fenced behind an operation wasn't before it
-were_free : (r : Records) (him me you : Instance) (o : Op) → AreUnfenced (after r him o) me you → AreUnfenced r me you
-were_free r him me you o free = (was_free r him me o free.0, was_free r him you o free.1)
-
 -- Where no fence is taken away, it doesn't depend on the records.
-pub still_beside : (site : SiteId) (r new : Records) (me you : Instance) (k j : Knowledge) → (AreUnfenced new me you → AreUnfenced r me you) → AreBeside site r me you k j → AreBeside site new me you k j
-still_beside site r new me you k j were beside = record {
-  shared = λ free. beside.shared (were free);
+pub still_beside : (site : SiteId) (r new : Records) (me you : Instance) (k j : Knowledge) → ((i : Instance) → IsFalse (is_fenced new i) → IsFalse (is_fenced r i)) → AreBeside site r me you k j
+    → AreBeside site new me you k j
+still_beside site r new me you k j stays beside = record {
+  shared = λ free. beside.shared (stays me free.0, stays you free.1);
   gone = beside.gone;
   gone_there = beside.gone_there;
   removed = beside.removed;
   apart = beside.apart;
   unseen = beside.unseen;
   unseen_there = beside.unseen_there;
+  unbased = λ free. beside.unbased (stays you free);
+  unbased_there = λ free. beside.unbased_there (stays me free);
 }
 
 pub beside_stays : (site : SiteId) (r : Records) (him me you : Instance) (k j : Knowledge) (o : Op) → AreBeside site r me you k j → AreBeside site (after r him o) me you k j
-beside_stays site r him me you k j o beside = still_beside site r (after r him o) me you k j (were_free r him me you o) beside
+beside_stays site r him me you k j o beside = still_beside site r (after r him o) me you k j (λ i. was_free r him i o) beside
 
 -- Behind its own operation it is beside the other with what it learned: an image whose header was
 -- told is none whose id the other drew, and that waits for a header.
@@ -309,8 +320,10 @@ learned_beside site r me you k j beside o u permits may =
     let a = answer_to r me o in
     let own : Knowledge = learned_own k site o a in
     let now = beside_stays site r me me you own j o (own_beside site r me you k j beside o u permits may) in
-    telling_beside site (after r me o) me you own j (seen_by k.seen site o a) (told_by k.seen k.told site o a)
-    (strange_taught site r k.seen j o a (told_there r me o a refl) (λ image drawn. (u.drawn image drawn).header) beside.unseen) now
+    telling_beside site (after r me o) me you own j (told_then k site o a)
+    (strange_taught site r k.seen j o a (told_there r me o a refl) (λ image drawn. (u.drawn image drawn).header) beside.unseen)
+    (λ free child link. let before = was_free r me you o free in based_elsewhere site r me you k j o a refl u before (beside.unbased before) child link)
+    (λ free child link. childless_elsewhere site r me you k j o a refl u (beside.unbased_there (was_free r me me o free)) child link) now
 
 -- ---- a lock that is given up
 
@@ -348,6 +361,8 @@ beside_mutual t r me you k j beside = record {
   apart = λ image drawn. by image drawn (is_drawn k.drawn t image) refl;
   unseen = beside.unseen_there;
   unseen_there = beside.unseen;
+  unbased = beside.unbased_there;
+  unbased_there = beside.unbased;
 }
   where
     unremoved : (image : ℕ) → is_gone j.gone t image ≡ true → (b : Bool) → is_gone k.gone t image ≡ b → is_gone k.gone t image ≡ false

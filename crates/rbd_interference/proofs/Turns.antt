@@ -22,7 +22,7 @@ use Rattle.rbd_kinds.specs.declared.layout.Part.{Part}
 use Rattle.rbd_kinds.specs.declared.sharing.Sharing.{Sharing}
 use Rattle.rbd_kinds.specs.declared.sharing.Sharing.TheVariants.{Flatten}
 use Rattle.rbd_kinds.specs.Sharing.{is_alone}
-use Rattle.rbd_header.specs.Header.{detached, with_size, with_snap, without_snap}
+use Rattle.rbd_header.specs.Header.{detached, with_size, with_snap, without_snap, with_status}
 use Rattle.rbd_machine.specs.Knowledge.{Blank, Knowledge, MapsKnown, ObjectsKnown, Own, afresh, blanked, detached_header, first_told, found, found_where, header_told, is_absent, is_at, is_raised, is_there, is_turn, keeps_object, knows_head, learned, learned_of_directory, learned_of_header, learned_of_listing, learned_of_map, learned_of_object, looked_behind, looked_by, looked_under_lock, made, maps_of, maps_told, marks_after, nothing_known, objects_known_of, only_there, own_of, known_after_wait, removed, removed_header, shows_head, unmapped, with_objects, with_objects_where, without_there}
 use Rattle.rbd_machine.specs.Permits.{Permits, PermitsOnMap, PermitsOnObject, HasTurn, IsLeftOver, MaySet, OwnsBy, makes_zeros}
 use Rattle.rbd_machine.specs.Wait.{Wait}
@@ -328,6 +328,7 @@ module _ (k : Knowledge) (was : KnowsInTurn k) (site : SiteId) (image : ℕ) whe
   header_in_turn (header.SnapAdd name) (answer.Snap snap) = edited_in_turn k site image (with_snap name) was
   header_in_turn (header.SnapRemove snap) answer.Done = edited_in_turn k site image (without_snap snap) was
   header_in_turn header.Detach answer.Done = detached_in_turn
+  header_in_turn (header.SnapStatus snap status) answer.Done = edited_in_turn k site image (with_status snap status) was
   header_in_turn (header.LockBreak owner) answer.Done = was
   header_in_turn (header.LockBreak owner) answer.Changed = was
   header_in_turn _ _ = was
@@ -344,6 +345,7 @@ pub answered_in_turn : (site : SiteId) (k : Knowledge) (o : Op) (a : Answer) →
 answered_in_turn site k (op.Directory o) a was permits = directory_in_turn k was site o a
 answered_in_turn site k (op.Header image o) a was permits = header_in_turn k was site image o a
 answered_in_turn site k (op.Data image number o) a was permits = object_in_turn k was site image number o a permits
+answered_in_turn site k (op.Children o) a was permits = was
 answered_in_turn site k (op.BlockAdd i) a was permits = listing_in_turn k was site i a
 answered_in_turn site k (op.Map image o) a was permits = map_in_turn k was site image o a permits
 answered_in_turn site k _ a was permits = elim permits [ ]

@@ -11,7 +11,7 @@ use Rattle.rbd_kinds.specs.declared.operation.Op.{Op}
 use Rattle.rbd_kinds.specs.declared.operation.Op.TheVariants as op
 use Rattle.rbd_machine.specs.Knowledge.{Knowledge, own_of, is_drawn, is_gone}
 use Rattle.rbd_interference.specs.Ancestors.{DrewNoneOf}
-use Rattle.rbd_interference.specs.Truth.{known_header, sharing_on}
+use Rattle.rbd_interference.specs.Truth.{known_header, sharing_on, AreBasedElsewhere}
 use Rattle.rbd_interference.specs.Turns.{KnowsAbsent, KnowsRaised, KnowsThere}
 use Rattle.rbd_site.specs.Records.{Records}
 use Rattle.rbd_site.specs.Step.{is_fenced}
@@ -29,7 +29,8 @@ AreUnfenced r me you = IsFalse (is_fenced r me) × IsFalse (is_fenced r you)
 -- together on it: neither is alone, and neither is a flatten where the other is one or a discard.
 -- What a fenced instance knows of headers doesn't count: it does nothing by them. No id was drawn by
 -- both; none was drawn by one whose header the other removed, or was told; and no header was removed
--- by both.
+-- by both. And no child of one is based on a snapshot of which the other, where it isn't fenced,
+-- knows that it has none.
 pub record AreBeside (site : SiteId) (r : Records) (me you : Instance) (k j : Knowledge) : Type 0 where
   pub shared : AreUnfenced r me you → (image : ℕ) → IsSome (known_header k site image)
       → IsSome (known_header j site image) → GoTogether site image k j
@@ -39,6 +40,8 @@ pub record AreBeside (site : SiteId) (r : Records) (me you : Instance) (k j : Kn
   pub removed : (image : ℕ) → is_gone k.gone site image ≡ true → is_gone j.gone site image ≡ false
   pub unseen : DrewNoneOf site k.seen j
   pub unseen_there : DrewNoneOf site j.seen k
+  pub unbased : IsFalse (is_fenced r you) → AreBasedElsewhere site k j
+  pub unbased_there : IsFalse (is_fenced r me) → AreBasedElsewhere site j k
 
 -- Where one request waited for the lock of an image, and the other knows its header, they go
 -- together.

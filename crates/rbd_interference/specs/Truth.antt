@@ -1,5 +1,6 @@
 -- When what a request knows is true at a site, by the site's records.
 use Rattle.std.specs.Prelude.{◌≡◌, ◌≢◌, ◌⊎◌, ℕ, ◌<◌, ◌≤◌, ◌^◌, Bool, true, false, List, [], All, Any, length, slice_index, unwrap_or, Option, Some, None, IsFalse, IsSome}
+use Rattle.std.specs.FinSet as finset
 use Rattle.rbd_kinds.specs.declared.layout.Layout.{Layout}
 use Rattle.rbd_kinds.specs.declared.layout.Part.{Part}
 use Rattle.rbd_kinds.specs.Form.{IsOverlapWithin}
@@ -7,6 +8,8 @@ use Rattle.rbd_kinds.specs.Striping.{offset_of}
 use Rattle.rbd_layout.specs.Pieces.{IsIn}
 use Rattle.rbd_kinds.specs.declared.header.HeaderView.{HeaderView}
 use Rattle.rbd_kinds.specs.declared.header.ParentLink.{ParentLink}
+use Rattle.rbd_kinds.specs.declared.header.SnapStatus.TheVariants.{Unprotected}
+use Rattle.rbd_kinds.specs.declared.header.SnapView.{SnapView}
 use Rattle.rbd_kinds.specs.declared.id.Instance.{Instance}
 use Rattle.rbd_kinds.specs.declared.id.SiteId.{SiteId}
 use Rattle.rbd_kinds.specs.declared.sharing.Sharing.{Sharing}
@@ -16,12 +19,15 @@ use Rattle.rbd_object.specs.Mapped.{Mapped, mapped_blank}
 use Rattle.rbd_flat.specs.Flat.{Flat, after}
 use Rattle.rbd_flat.specs.declared.effect.Effect.{Effect}
 use Rattle.rbd_machine.specs.Knowledge.{Knowledge, MapsKnown, ObjectsKnown, Own, own_of, is_absent, is_drawn, is_fenced_by, is_gone, is_raised, is_there, maps_of, objects_known_of}
+use Rattle.rbd_header.specs.Header.{snap_in}
+use Rattle.rbd_machine.specs.Ancestors.{IsAmong}
+use Rattle.rbd_machine.specs.Children.{lists_unprotecting}
 use Rattle.rbd_machine.specs.Permits.{HasRoomFor}
 use Rattle.rbd_machine.specs.Possible.{IsStillAs}
 use Rattle.rbd_machine.specs.Standalone.{IsStandalone}
 use Rattle.rbd_site.specs.Records.{Records, object_at}
 use Rattle.rbd_site.specs.Step.{is_fenced}
-use Rattle.rbd_stands.specs.Condition.{IsDrawn}
+use Rattle.rbd_stands.specs.Condition.{IsDrawn, IsUnnamed}
 use Rattle.rbd_stands.specs.Covering.{AreCovered, Maps}
 use Rattle.rbd_stands.specs.View.{EachView}
 use Rattle.rbd_interference.specs.Ancestors.{AreSeenTrue, DrewNoneOf}
@@ -152,6 +158,52 @@ pub record IsWaiting (r : Records) (image : ℕ) : Type 0 where
 abbrev pub KnowsNoHeader : Knowledge → SiteId → (image : ℕ) → Type 0
 KnowsNoHeader k site image = (is_drawn k.drawn site image ≡ true) ⊎ (is_gone k.gone site image ≡ true)
 
+-- ---- children of snapshots
+
+-- the child is on the list of the snapshot's children
+abbrev pub IsChildOf : Records → (parent snap child : ℕ) → Type 0
+IsChildOf r parent snap child = finset.contains r.children (record { parent = parent; snap = snap; child = child })
+    ≡ true
+
+-- A child may count on the snapshot until its header names it: it is on the list, and the image has
+-- the snapshot, of this size, and not unprotected.
+pub record HasBase (r : Records) (child : ℕ) (link : ParentLink) : Type 0 where
+  pub linked : IsChildOf r link.image link.snap child
+  pub parent : HeaderView
+  pub there : r.headers link.image ≡ Some parent
+  pub view : SnapView
+  pub listed : snap_in parent.snaps link.snap ≡ Some view
+  pub kept : view.status ≢ Unprotected
+  pub size : view.size ≡ link.overlap
+
+-- A snapshot has no child, and gets none: no view names it, and the request, which is alone on the
+-- image, has its status at unprotecting.
+pub record IsChildless (r : Records) (own : Option Own) (image snap : ℕ) : Type 0 where
+  pub unnamed : IsUnnamed [] r image snap
+  pub alone : is_own_alone own ≡ true
+  pub unprotecting : lists_unprotecting (header_of_own own) snap ≡ true
+
+-- None of the children that the one makes is based on a snapshot of which the other knows that it
+-- has no child.
+abbrev pub AreBasedElsewhere : SiteId → (k j : Knowledge) → Type 0
+AreBasedElsewhere site k j = (child : ℕ) (link : ParentLink)
+    → IsAmong (record { site = site; child = child; link = link }) k.based
+    → IsAmong (record { site = site; image = link.image; snap = link.snap }) j.childless → ⊥
+
+-- What is known of children is true. The links that the request added stay, since it drew the ids
+-- of these children, and nobody else knows them. What it knows of their bases rests on that alone,
+-- and so holds also where the instance is fenced. That a snapshot has no child rests on the lock.
+pub record AreChildrenTrue (site : SiteId) (r : Records) (me : Instance) (k : Knowledge) : Type 0 where
+  pub linked : (parent snap child : ℕ)
+      → IsAmong (record { site = site; parent = parent; snap = snap; child = child }) k.linked
+      → (is_drawn k.drawn site child ≡ true) × IsChildOf r parent snap child
+  pub based : (child : ℕ) (link : ParentLink) → IsAmong (record { site = site; child = child; link = link }) k.based
+      → (is_drawn k.drawn site child ≡ true) × HasBase r child link
+  pub childless : IsFalse (is_fenced r me) → (image snap : ℕ)
+      → IsAmong (record { site = site; image = image; snap = snap }) k.childless
+      → IsChildless r (own_of k.owns site image) image snap
+  pub apart : IsFalse (is_fenced r me) → AreBasedElsewhere site k k
+
 -- ---- all of it
 
 -- What a request of an instance knows is true at the site. Where the instance is fenced, its
@@ -172,6 +224,7 @@ pub record IsTrueAt (site : SiteId) (r : Records) (me : Instance) (k : Knowledge
       → IsCountTrue (maps_of k.maps site image).count (r.maps image None)
   pub seen : AreSeenTrue site r k.seen
   pub strange : DrewNoneOf site k.seen k
+  pub children : AreChildrenTrue site r me k
 
 -- ---- the site
 

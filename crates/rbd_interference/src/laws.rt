@@ -35,7 +35,7 @@ ghost use Rattle.rbd_interference.specs.Ancestors.{AreSeenTrue, AreToldTrue, Dre
 ghost use Rattle.rbd_interference.specs.Beside.{AreBeside, AreUnfenced, BreaksNothing, MayAct};
 ghost use Rattle.rbd_interference.specs.Locks.{HasLockWhileFree, KnowsByLock, gives_up};
 ghost use Rattle.rbd_stands.specs.Owned.{HasLock};
-ghost use Rattle.rbd_interference.specs.Truth.{AreMapped, AreRanked, IsTrueAt, AreStandalone, changed_by, known_header};
+ghost use Rattle.rbd_interference.specs.Truth.{AreBasedElsewhere, AreMapped, AreRanked, IsTrueAt, AreStandalone, changed_by, known_header};
 ghost use Rattle.rbd_interference.specs.Turns.{KnowsInTurn, KnowsOf};
 
 /// Who knows nothing knows nothing false.
@@ -239,6 +239,8 @@ pub fn a_lock_has_one_owner()
         → ((image : ℕ) → is_gone j.gone site image ≡ true → is_drawn k.drawn site image ≡ false)
         → ((image : ℕ) → is_gone k.gone site image ≡ true → is_gone j.gone site image ≡ false)
         → DrewNoneOf site k.seen j → DrewNoneOf site j.seen k
+        → (IsFalse (is_fenced r you) → AreBasedElsewhere site k j)
+        → (IsFalse (is_fenced r me) → AreBasedElsewhere site j k)
         → AreBeside site r me you k j }
     ensures looks { (site : Site) (r : Records) (me you : Instance) (k j : Knowledge) (image : ℕ)
         → me ≢ you → HasLockWhileFree r me image → KnowsByLock site r you j

@@ -24,7 +24,7 @@ use Rattle.rbd_kinds.specs.declared.map_op.MapOp.{MapOp}
 use Rattle.rbd_kinds.specs.declared.map_op.MapOp.TheVariants as states
 use Rattle.rbd_kinds.specs.declared.operation.Op.{Op}
 use Rattle.rbd_kinds.specs.declared.operation.Op.TheVariants as op
-use Rattle.rbd_header.specs.Header.{detached, with_size, with_snap, without_snap}
+use Rattle.rbd_header.specs.Header.{detached, with_size, with_snap, without_snap, with_status}
 use Rattle.rbd_queue.specs.Line.{is_past}
 use Rattle.rbd_queue.proofs.Fair.{stays_past}
 use Rattle.rbd_machine.specs.Knowledge.{ImageMaps, ImageObjects, Knowledge, Own, learned_of_map, learned_of_object, looked_by, looked_under_lock, own_of, is_at, told_of, with_header, header_told, first_told, learned, learned_of_directory, learned_of_header, learned_of_listing, learned_own, known_after_wait, owns_when_held, owns_without}
@@ -245,6 +245,7 @@ module _ (e : Option Extent) (k : Knowledge) (c : Course) (t : IsTied k c) where
   header_tied s i (header.SnapAdd name) (answer.Snap snap) quiet = edited_tied s i (with_snap name)
   header_tied s i (header.SnapRemove snap) answer.Done quiet = edited_tied s i (without_snap snap)
   header_tied s i header.Detach answer.Done quiet = let told = edited_tied s i detached in record { owns = told.owns; sharing = told.sharing; turn = told.turn }
+  header_tied s i (header.SnapStatus snap status) answer.Done quiet = edited_tied s i (with_status snap status)
   header_tied s i header.Get _ quiet = t
   header_tied s i (header.Create view) _ quiet = t
   header_tied s i (header.SetSize to) _ quiet = t
@@ -252,6 +253,7 @@ module _ (e : Option Extent) (k : Knowledge) (c : Course) (t : IsTied k c) where
   header_tied s i (header.SnapAdd name) _ quiet = t
   header_tied s i (header.SnapRemove snap) _ quiet = t
   header_tied s i header.Detach _ quiet = t
+  header_tied s i (header.SnapStatus snap status) _ quiet = t
   header_tied s i (header.LockBreak owner) answer.Done quiet = record { owns = t.owns; sharing = t.sharing; turn = t.turn }
   header_tied s i (header.LockBreak owner) answer.Changed quiet = record { owns = t.owns; sharing = t.sharing; turn = t.turn }
   header_tied s i (header.LockBreak owner) _ quiet = t

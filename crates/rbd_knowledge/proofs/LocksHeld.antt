@@ -126,6 +126,7 @@ module _ (s : SiteId) (r : Records) (me : Instance) (k : Knowledge) (truth : IsT
           (ap (λ n. owns_after b (op.Header n o) (answer_to r me (op.Header n o))) (sym at) ∙ owned))
       by false differ owned = lasts (op.Header on o) permits (gives o differ) owned
   held_behind (op.Directory o) permits owned = lasts (op.Directory o) permits refl owned
+  held_behind (op.Children o) permits owned = lasts (op.Children o) permits refl owned
   held_behind (op.BlockAdd i) permits owned = lasts (op.BlockAdd i) permits refl owned
   held_behind (op.Data i number o) permits owned = lasts (op.Data i number o) permits refl owned
   held_behind (op.Map i o) permits owned = lasts (op.Map i o) permits refl owned

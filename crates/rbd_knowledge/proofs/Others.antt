@@ -44,7 +44,7 @@ module _ {R : Type 0} (site : SiteId) (r : Records) (me : Instance) (knows : ℕ
   pub trims_leave_it_true : (image number : ℕ) → IsTrueOf site (trimmed image number r) me knows c
   trims_leave_it_true image number = record {
     requests = λ slot. trims_keep site r me (knows slot) image number (t.requests slot);
-    beside = λ slot other apart. still_beside site r (trimmed image number r) me me (knows slot) (knows other) (λ free. free) (t.beside slot other apart);
+    beside = λ slot other apart. still_beside site r (trimmed image number r) me me (knows slot) (knows other) (λ who free. free) (t.beside slot other apart);
     counted = t.counted;
     ways = λ slot. way_trimmed image number (slot_state slot c.slots).way (t.ways slot);
     locks = λ i owned free. let lock = t.locks i owned free in record { header = lock.header; there = lock.there; owner = lock.owner };
@@ -58,7 +58,7 @@ module _ {R : Type 0} (site : SiteId) (r : Records) (me : Instance) (knows : ℕ
   pub expiries_leave_it_true : (image : ℕ) (i : Instance) → IsTrueOf site (expired image i r) me knows c
   expiries_leave_it_true image i = record {
     requests = λ slot. expiries_keep site r me (knows slot) image i (t.requests slot);
-    beside = λ slot other apart. still_beside site r (expired image i r) me me (knows slot) (knows other) (λ free. free) (t.beside slot other apart);
+    beside = λ slot other apart. still_beside site r (expired image i r) me me (knows slot) (knows other) (λ who free. free) (t.beside slot other apart);
     counted = t.counted;
     ways = λ slot. way_expired image i (slot_state slot c.slots).way (t.ways slot);
     locks = λ n owned free. let lock = t.locks n owned free in record { header = lock.header; there = lock.there; owner = lock.owner };

@@ -1,5 +1,5 @@
 -- What a release knows: it may do what it does by that, it is true, and it goes beside all.
-use Rattle.std.proofs.Common.{◌≡◌, inl, inr, ℕ, cond, Bool, true, false, Some, None, refl, sym, ap, ◌∙◌, subst, true≢false}
+use Rattle.std.proofs.Common.{◌≡◌, inl, inr, ℕ, cond, Bool, true, false, [], Some, None, refl, sym, ap, ◌∙◌, subst, true≢false}
 use Rattle.std.specs.Prelude.{is_some}
 use Rattle.std.proofs.lemmas.Option.{none-some}
 use Rattle.rbd_knowledge.specs.ClientsKnowing.{known_to_drop, known_to_release, unlooked}
@@ -15,6 +15,7 @@ use Rattle.rbd_lock.specs.declared.release.Stage.TheVariants as releasing
 use Rattle.rbd_lock.specs.Release.{release_op, release_op_at}
 use Rattle.rbd_interference.specs.Beside.{AreBeside}
 use Rattle.rbd_interference.specs.Truth.{IsStill, IsTrueAt, KnowsNoHeader, header_of_own, known_header, sharing_on}
+use Rattle.rbd_interference.proofs.Children.{no_bases, no_children, none_childless}
 use Rattle.rbd_interference.proofs.Nothing.{nothing_is_true}
 use Rattle.rbd_site.specs.Records.{Records}
 
@@ -49,6 +50,15 @@ saw_nothing : (s : ReleaseStage) (site : SiteId) (image : ℕ) (there : SiteId) 
 saw_nothing releasing.Telling site image there other = refl
 saw_nothing releasing.Dropping site image there other = refl
 
+-- nor does it know of children
+knows_bases : (s : ReleaseStage) (site : SiteId) (image : ℕ) → (known_to_drop s site image).based ≡ []
+knows_bases releasing.Telling site image = refl
+knows_bases releasing.Dropping site image = refl
+
+knows_childless : (s : ReleaseStage) (site : SiteId) (image : ℕ) → (known_to_drop s site image).childless ≡ []
+knows_childless releasing.Telling site image = refl
+knows_childless releasing.Dropping site image = refl
+
 true_at : (there : SiteId) (r : Records) (me : Instance) (s : ReleaseStage) (site : SiteId) (image : ℕ) → IsTrueAt there r me (known_to_drop s site image)
 true_at there r me releasing.Telling site image = nothing_is_true there r me
 true_at there r me releasing.Dropping site image = record {
@@ -62,6 +72,7 @@ true_at there r me releasing.Dropping site image = record {
   counted = λ other without. absurd (by other without);
   seen = λ other h among. absurd among;
   strange = λ other saw. refl;
+  children = no_children there r me (known_to_drop releasing.Dropping site image) refl refl refl;
 }
   where
     by : (other : ℕ) → KnowsNoHeader (known_to_drop releasing.Dropping site image) there other → ⊥
@@ -80,4 +91,6 @@ beside_release there r me you k x = record {
   removed = λ image gone. removed_nothing x.stage x.site x.image there image;
   unseen = λ image saw. drew_nothing x.stage x.site x.image there image;
   unseen_there = λ image saw. absurd (true≢false (sym saw ∙ saw_nothing x.stage x.site x.image there image));
+  unbased = λ free. none_childless there k (known_to_release x) (knows_childless x.stage x.site x.image);
+  unbased_there = λ free. no_bases there (known_to_release x) k (knows_bases x.stage x.site x.image);
 }

@@ -101,6 +101,7 @@ module _ (site : SiteId) (image : ℕ) (k : Knowledge) where
   of_header on (header.SnapAdd name) (answer.Snap snap) some = inl (edited on _ some)
   of_header on (header.SnapRemove snap) answer.Done some = inl (edited on _ some)
   of_header on header.Detach answer.Done some = inl (edited on detached some)
+  of_header on (header.SnapStatus snap status) answer.Done some = inl (edited on _ some)
   of_header on (header.LockBreak owner) answer.Done some = inl some
   of_header on (header.LockBreak owner) answer.Changed some = inl some
   of_header on _ _ some = inl some

@@ -1,6 +1,6 @@
 -- Who waits for nothing owns nothing.
 use Rattle.std.proofs.Common.{◌≡◌, ℕ, List, true, false, Option, Some, None, option_map, refl, sym, ap, ◌∙◌}
-use Rattle.std.specs.Prelude.{is_some}
+use Rattle.std.specs.Prelude.{IsFalse, is_some}
 use Rattle.std.proofs.lemmas.Bool.{true≢false}
 use Rattle.std.proofs.lemmas.Option.{none-some}
 use Rattle.rbd_kinds.specs.declared.answer.Answer.{Answer}
@@ -20,7 +20,7 @@ use Rattle.rbd_kinds.specs.declared.map_op.MapOp.{MapOp}
 use Rattle.rbd_kinds.specs.declared.map_op.MapOp.TheVariants as states
 use Rattle.rbd_kinds.specs.declared.operation.Op.{Op}
 use Rattle.rbd_kinds.specs.declared.operation.Op.TheVariants as op
-use Rattle.rbd_header.specs.Header.{detached, with_size, with_snap, without_snap}
+use Rattle.rbd_header.specs.Header.{detached, with_size, with_snap, without_snap, with_status}
 use Rattle.rbd_machine.specs.Answers.{CanBeFed}
 use Rattle.rbd_machine.specs.Knowledge.{ImageMaps, ImageObjects, Knowledge, Own, first_told, header_told, is_drawn, is_gone, learned, learned_of_directory, learned_of_header, learned_of_listing, learned_of_map, learned_of_object, learned_own, looked_under_lock, own_of, told_of}
 use Rattle.rbd_machine.specs.Label.{Label}
@@ -30,8 +30,9 @@ use Rattle.rbd_machine.specs.Permits.{Permits}
 use Rattle.rbd_machine.specs.Plan.{Plan, Ask, Await, Note, Return, Goto, plan_after}
 use Rattle.rbd_interference.specs.Ancestors.{DrewNoneOf}
 use Rattle.rbd_interference.specs.Beside.{AreBeside, Breaks, BreaksNothing, Lowers, MayAct, SharesLock}
-use Rattle.rbd_interference.specs.Truth.{header_of_own}
+use Rattle.rbd_interference.specs.Truth.{header_of_own, AreBasedElsewhere}
 use Rattle.rbd_site.specs.Records.{Records}
+use Rattle.rbd_site.specs.Step.{is_fenced}
 use Rattle.rbd_knowledge.specs.Calm.{IsCalm, OwnsNothing}
 use Rattle.rbd_knowledge.specs.Knowing.{known_at_operation, known_behind}
 use Rattle.rbd_knowledge.proofs.Owned.{own_told}
@@ -53,6 +54,7 @@ module _ (k : Knowledge) (none : OwnsNothing k) where
   header_nothing s i (header.SnapAdd name) (answer.Snap snap) permits = told_nothing s i (option_map (with_snap name))
   header_nothing s i (header.SnapRemove snap) answer.Done permits = told_nothing s i (option_map (without_snap snap))
   header_nothing s i header.Detach answer.Done permits = let told = told_nothing s i (option_map detached) in record { owns = told.owns; gone = told.gone }
+  header_nothing s i (header.SnapStatus snap status) answer.Done permits = told_nothing s i (option_map (with_status snap status))
   header_nothing s i header.Get _ permits = none
   header_nothing s i (header.Create view) _ permits = none
   header_nothing s i (header.SetSize to) _ permits = none
@@ -60,6 +62,7 @@ module _ (k : Knowledge) (none : OwnsNothing k) where
   header_nothing s i (header.SnapAdd name) _ permits = none
   header_nothing s i (header.SnapRemove snap) _ permits = none
   header_nothing s i header.Detach _ permits = none
+  header_nothing s i (header.SnapStatus snap status) _ permits = none
   header_nothing s i (header.LockBreak owner) answer.Done permits = record { owns = none.owns; gone = none.gone }
   header_nothing s i (header.LockBreak owner) answer.Changed permits = record { owns = none.owns; gone = none.gone }
   header_nothing s i (header.LockBreak owner) _ permits = none
@@ -144,8 +147,9 @@ module _ (labels : Label → Plan) (there : (label : Label) → IsCalm (labels l
 
 module _ (site : SiteId) (r : Records) (me you : Instance) (k j : Knowledge) where
   pub calm_beside : OwnsNothing k → ((image : ℕ) → is_drawn k.drawn site image ≡ true → is_drawn j.drawn site image ≡ false)
-      → ((image : ℕ) → is_gone j.gone site image ≡ true → is_drawn k.drawn site image ≡ false) → DrewNoneOf site k.seen j → DrewNoneOf site j.seen k → AreBeside site r me you k j
-  calm_beside none apart gone unseen unseen_there = record {
+      → ((image : ℕ) → is_gone j.gone site image ≡ true → is_drawn k.drawn site image ≡ false) → DrewNoneOf site k.seen j → DrewNoneOf site j.seen k
+      → (IsFalse (is_fenced r you) → AreBasedElsewhere site k j) → (IsFalse (is_fenced r me) → AreBasedElsewhere site j k) → AreBeside site r me you k j
+  calm_beside none apart gone unseen unseen_there unbased unbased_there = record {
     shared = λ free image mine others. absurd (true≢false (sym mine ∙ ap (λ q. is_some (header_of_own q)) (none.owns site image)));
     apart = apart;
     gone = λ image removed. absurd (true≢false (sym removed ∙ none.gone site image));
@@ -153,6 +157,8 @@ module _ (site : SiteId) (r : Records) (me you : Instance) (k j : Knowledge) whe
     removed = λ image removed. absurd (true≢false (sym removed ∙ none.gone site image));
     unseen = unseen;
     unseen_there = unseen_there;
+    unbased = unbased;
+    unbased_there = unbased_there;
   }
 
   calm_shares : (image : ℕ) → OwnsNothing k → SharesLock site image r me you k j

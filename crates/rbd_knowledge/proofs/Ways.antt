@@ -28,6 +28,7 @@ use Rattle.rbd_lock.specs.declared.acquire.Stage.{Stage}
 use Rattle.rbd_lock.specs.declared.acquire.Stage.TheVariants as stage
 use Rattle.rbd_interference.specs.Beside.{AreBeside, MayAct}
 use Rattle.rbd_interference.specs.Truth.{IsStillOwn, IsTrueAt, KnowsNoHeader, header_of_own, known_header}
+use Rattle.rbd_interference.proofs.Children.{no_bases, no_children, none_childless}
 use Rattle.rbd_site.specs.Records.{Records}
 use Rattle.rbd_site.specs.Step.{after, answer_to, is_fenced}
 use Rattle.rbd_site.proofs.FenceLemmas.{fence_stays, lists_it}
@@ -81,6 +82,19 @@ sees_none _ site = refl
 saw_nothing : (s : Stage) (site there : SiteId) (image : ℕ) → has_seen (known_at_stage s site).seen there image ≡ false
 saw_nothing s site there image = ap (λ seen. has_seen seen there image) (sees_none s site)
 
+-- nor does it know of children
+knows_links : (s : Stage) (site : SiteId) → (known_at_stage s site).linked ≡ []
+knows_links (stage.Breaking owner) site = refl
+knows_links _ site = refl
+
+knows_bases : (s : Stage) (site : SiteId) → (known_at_stage s site).based ≡ []
+knows_bases (stage.Breaking owner) site = refl
+knows_bases _ site = refl
+
+knows_childless : (s : Stage) (site : SiteId) → (known_at_stage s site).childless ≡ []
+knows_childless (stage.Breaking owner) site = refl
+knows_childless _ site = refl
+
 -- it knows of no image that has no header
 without_none : (s : Stage) (site there : SiteId) (image : ℕ) → KnowsNoHeader (known_at_stage s site) there image → ⊥
 without_none s site there image (inl drawn) = true≢false (sym drawn ∙ drew_nothing s site there image)
@@ -95,6 +109,8 @@ beside_way there r me you k a = record {
   removed = λ image gone. removed_nothing a.stage a.site there image;
   unseen = λ image saw. drew_nothing a.stage a.site there image;
   unseen_there = λ image saw. absurd (true≢false (sym saw ∙ saw_nothing a.stage a.site there image));
+  unbased = λ free. none_childless there k (known_on_way a) (knows_childless a.stage a.site);
+  unbased_there = λ free. no_bases there (known_on_way a) k (knows_bases a.stage a.site);
 }
 
 -- ---- it is true where its fence is up
@@ -112,6 +128,7 @@ fences_are_true there r me s site fences = record {
   counted = λ image without. absurd (without_none s site there image without);
   seen = λ image h among. absurd (subst (IsAmong (record { site = there; image = image; header = h })) (sees_none s site) among);
   strange = λ image saw. drew_nothing s site there image;
+  children = no_children there r me (known_at_stage s site) (knows_links s site) (knows_bases s site) (knows_childless s site);
 }
 
 pub way_stays_true : (there : SiteId) (r : Records) (me you : Instance) (a : Acquire) (o : Op) → IsTrueAt there r me (known_on_way a) → IsTrueAt there (after r you o) me (known_on_way a)

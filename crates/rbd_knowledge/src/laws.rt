@@ -1,6 +1,6 @@
 //! What the requests of a session know, and that they may count on it: each law is the contract of
 //! a function that does nothing.
-ghost use Rattle.std.specs.Prelude.{◌≡◌, ◌≢◌, ℕ, false, true, Some, Option};
+ghost use Rattle.std.specs.Prelude.{◌≡◌, ◌≢◌, ℕ, false, true, IsFalse, Some, Option};
 ghost use Rattle.rbd_flat.specs.Flat.{Flat};
 ghost use Rattle.rbd_kinds.specs.declared.answer.Answer.{Answer};
 ghost use Rattle.rbd_commands.specs.declared.command.Command.{Command};
@@ -21,7 +21,7 @@ ghost use Rattle.rbd_machine.specs.declared.reason.Reason.{Reason};
 ghost use Rattle.rbd_machine.specs.declared.seat.Seat.{Seat};
 ghost use Rattle.rbd_interference.specs.Ancestors.{DrewNoneOf, HasReadTruly};
 ghost use Rattle.rbd_interference.specs.Beside.{AreBeside, MayAct};
-ghost use Rattle.rbd_interference.specs.Truth.{IsTrueAt};
+ghost use Rattle.rbd_interference.specs.Truth.{AreBasedElsewhere, IsTrueAt};
 ghost use Rattle.rbd_catalog.specs.Plans.{IsPlanFor};
 ghost use Rattle.rbd_catalog.specs.Profile.{joins_a_line, profile};
 ghost use Rattle.rbd_slots.specs.Advance.{track_of};
@@ -31,6 +31,7 @@ ghost use Rattle.rbd_slots.specs.Session.{SessionView, IsSoundSession, BeginsAt,
 ghost use Rattle.rbd_slots.specs.Waits.{waits};
 ghost use Rattle.rbd_slots.specs.declared.running.Running.{Running};
 ghost use Rattle.rbd_site.specs.Records.{Records};
+ghost use Rattle.rbd_site.specs.Step.{is_fenced};
 ghost use Rattle.rbd_knowledge.specs.Calm.{IsCalmRequest, OwnsNothing};
 ghost use Rattle.rbd_knowledge.specs.Knowing.{KnowsBy, AllKnow, knows_after, known_at_operation, known_behind};
 
@@ -94,7 +95,8 @@ pub fn waits_change_little()
 
 /// A request that waits for nothing owns and removes nothing. So it goes beside each other request
 /// that neither drew nor removed an id which it drew, where neither was told a header of an image
-/// whose id the other drew: each of the two may do whatever it does beside the other.
+/// whose id the other drew, nor has a child that is based on a snapshot of which the other knows
+/// that it has none: each of the two may do whatever it does beside the other.
 pub fn calm_requests_own_nothing()
     ensures first { OwnsNothing nothing_known }
     ensures fed { (labels : Label → Plan) (known_at : Label → Knowledge) (k : Knowledge) (plan : Plan) (f : Fed)
@@ -108,6 +110,8 @@ pub fn calm_requests_own_nothing()
         → ((image : ℕ) → is_drawn k.drawn site image ≡ true → is_drawn j.drawn site image ≡ false)
         → ((image : ℕ) → is_gone j.gone site image ≡ true → is_drawn k.drawn site image ≡ false)
         → DrewNoneOf site k.seen j → DrewNoneOf site j.seen k
+        → (IsFalse (is_fenced r you) → AreBasedElsewhere site k j)
+        → (IsFalse (is_fenced r me) → AreBasedElsewhere site j k)
         → AreBeside site r me you k j }
     ensures acts { (site : Site) (r : Records) (me you : Instance) (k j : Knowledge) (op : Op) → OwnsNothing k
         → MayAct site r me you k j op }

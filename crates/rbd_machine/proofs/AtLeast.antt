@@ -2,8 +2,11 @@
 use Rattle.std.proofs.Common.{◌≡◌, ◌⊎◌, inl, inr, ℕ, zero, suc, ◌==◌, eqb, cond, not, Bool, true, false, List, [], ◌∷◌, filter, length, ◌*◌, slice_set, Option, Some, None, is_some, option_map, refl, sym, ap, ◌∙◌, subst, arith}
 use Rattle.std.specs.Prelude.{Any, IsSome, ◌&&◌, nat_le}
 use Rattle.std.proofs.lemmas.Bool.{true≢false, and_parts, eqb-true}
+use Rattle.std.proofs.lemmas.Option.{none-some, same_Some}
 use Rattle.rbd_kinds.specs.declared.answer.Answer.{Answer}
 use Rattle.rbd_kinds.specs.declared.answer.Answer.TheVariants as answer
+use Rattle.rbd_kinds.specs.declared.children_op.ChildrenOp.{ChildrenOp}
+use Rattle.rbd_kinds.specs.declared.children_op.ChildrenOp.TheVariants as child
 use Rattle.rbd_kinds.specs.declared.data_op.DataOp.{DataOp}
 use Rattle.rbd_kinds.specs.declared.data_op.DataOp.TheVariants as object
 use Rattle.rbd_kinds.specs.declared.directory_op.DirectoryOp.{DirectoryOp}
@@ -24,13 +27,16 @@ use Rattle.rbd_kinds.specs.declared.sharing.Sharing.TheVariants.{Alone}
 use Rattle.rbd_kinds.specs.Sharing.{is_alone}
 use Rattle.rbd_kinds.specs.Striping.{object_of}
 use Rattle.rbd_kinds.proofs.Images.{same_site_is}
+use Rattle.rbd_header.specs.Header.{snap_in}
 use Rattle.rbd_map.specs.States.{states_of}
-use Rattle.rbd_machine.specs.Ancestors.{HeaderSeen, IsAmong, ObjectTold, is_dated, seen_by, told_by, told_when}
+use Rattle.rbd_machine.specs.Ancestors.{ChildBase, ChildLink, HeaderSeen, IsAmong, ObjectTold, SnapPlace, is_dated, seen_by, told_by, told_when}
+use Rattle.rbd_machine.specs.Children.{base_of, based_by, bases_told, childless_by, is_base, is_link, is_snap, linked_by, lists_unprotecting, protected_size, with_base, with_childless}
 use Rattle.rbd_machine.specs.AtLeast.{AreMapsAtLeast, AreObjectsAtLeast, IsToldToo, KnowsAtLeast}
-use Rattle.rbd_machine.specs.Knowledge.{Blank, Fence, ImageMaps, ImagePlace, Knowledge, MapsKnown, Mark, ObjectsKnown, Own, afresh, blanked, first_told, found, found_where, header_told, is_absent, is_at, is_drawn, is_fenced_by, is_mark, is_raised, is_view, keeps_object, known_after_wait, knows_head, learned, learned_of_directory, learned_of_header, learned_of_listing, learned_of_map, learned_of_object, learned_own, looked_behind, looked_by, looked_under_lock, made, maps_of, maps_told, marks_after, marks_apart, objects_known_of, only_there, own_of, owns_when_held, owns_without, removed, removed_header, same_site, shows_head, states_set, unfenced, unmapped, unmarked, with_maps, with_objects, with_objects_where, without_drawn, without_fence, without_object, without_there}
+use Rattle.rbd_machine.specs.Knowledge.{Blank, Fence, ImageMaps, ImagePlace, Knowledge, MapsKnown, Mark, ObjectsKnown, Own, afresh, blanked, first_told, found, found_where, header_told, is_absent, is_at, is_drawn, is_fenced_by, is_mark, is_raised, is_view, keeps_object, known_after_wait, knows_head, learned, learned_of_directory, learned_of_header, learned_of_listing, learned_of_map, learned_of_object, learned_own, looked_behind, looked_by, looked_under_lock, made, maps_of, maps_told, marks_after, marks_apart, objects_known_of, only_there, own_of, owns_when_held, owns_without, removed, removed_header, same_site, shows_head, states_set, unfenced, unmapped, unmarked, with_maps, with_objects, with_objects_where, without_drawn, without_fence, without_object, without_there, header_alone}
 use Rattle.rbd_machine.specs.Label.{Label, IsFit}
 use Rattle.rbd_machine.specs.Lawful.{CanTell, IsLawful}
-use Rattle.rbd_machine.specs.Permits.{HasTurn, IsInParts, IsLeftOver, IsMappedFor, IsZeroByChange, IsZeroByState, MayMake, MaySize, MayTakeSnap, OwnsAlone, OwnsBy, Permits, PermitsOnDirectory, PermitsOnHeader, PermitsOnMap, PermitsOnObject}
+use Rattle.rbd_machine.specs.Permits.{HasTurn, IsInParts, IsLeftOver, IsMappedFor, IsZeroByChange, IsZeroByState, MayMake, MaySize, MayTakeSnap, OwnsAlone, OwnsBy, Permits, PermitsOnDirectory, PermitsOnHeader, PermitsOnMap, PermitsOnObject, MayUnlink, PermitsOnChildren}
+use Rattle.rbd_machine.specs.Refused.{only_looks}
 use Rattle.rbd_machine.specs.Plan.{Plan, Ask, Await, Note, Return, Goto}
 use Rattle.rbd_machine.specs.Possible.{IsOwnAgain, IsPossible}
 use Rattle.rbd_machine.specs.Wait.{Wait}
@@ -429,6 +435,9 @@ knows_itself k = record {
   gone = λ site image gone. gone;
   seen = λ s among. among;
   told = λ t among. among;
+  linked = λ l among. among;
+  based = λ b among. among;
+  childless = λ p among. among;
 }
 
 pub knows_as : (k other : Knowledge) → k ≡ other → KnowsAtLeast k other
@@ -447,6 +456,9 @@ knows_onward a b c first then_less = record {
   gone = λ site image gone. first.gone site image (then_less.gone site image gone);
   seen = λ s among. first.seen s (then_less.seen s among);
   told = λ t among. first.told t (then_less.told t among);
+  linked = λ l among. first.linked l (then_less.linked l among);
+  based = λ b among. first.based b (then_less.based b among);
+  childless = λ p among. first.childless p (then_less.childless p among);
 }
 
 -- ---- what was told of any image
@@ -502,10 +514,169 @@ lists_told more_seen less_seen seen more less l site (op.Data image number (obje
     (is_dated more_seen site image snap) (is_dated less_seen site image snap) (dated_more more_seen less_seen seen site image snap)
 lists_told more_seen less_seen seen more less l site _ _ = l
 
+-- ---- what is known of children
+
+-- the one list holds all of the other
+abbrev AreMoreOf : {T : Type 0} → (more less : List T) → Type 0
+AreMoreOf {T} more less = (x : T) → IsAmong x less → IsAmong x more
+
+-- what is left of a list by a test was there, and passes
+pub among_left : {T : Type 0} (passes : T → Bool) (x : T) (xs : List T) → IsAmong x (filter passes xs) → IsAmong x xs × (passes x ≡ true)
+among_left passes x [] among = absurd among
+among_left passes x (y ∷ xs) among = by (passes y) refl among (among_left passes x xs)
+  where
+    by : (b : Bool) → passes y ≡ b → IsAmong x (cond b (y ∷ filter passes xs) (filter passes xs)) → (IsAmong x (filter passes xs) → IsAmong x xs × (passes x ≡ true)) → ((y ≡ x) ⊎ IsAmong x xs) × (passes x ≡ true)
+    by true is (inl here) later = (inl here, ap passes (sym here) ∙ is)
+    by true is (inr there) later = let found = later there in (inr found.0, found.1)
+    by false is there later = let found = later there in (inr found.0, found.1)
+
+pub among_stays : {T : Type 0} (passes : T → Bool) (x : T) (xs : List T) → passes x ≡ true → IsAmong x xs → IsAmong x (filter passes xs)
+among_stays passes x [] is among = absurd among
+among_stays passes x (y ∷ xs) is among = by (passes y) refl among (among_stays passes x xs is)
+  where
+    by : (b : Bool) → passes y ≡ b → (y ≡ x) ⊎ IsAmong x xs → (IsAmong x xs → IsAmong x (filter passes xs)) → IsAmong x (cond b (y ∷ filter passes xs) (filter passes xs))
+    by true at (inl here) later = inl here
+    by true at (inr there) later = inr (later there)
+    by false at (inl here) later = absurd (true≢false (sym is ∙ ap passes (sym here) ∙ at))
+    by false at (inr there) later = later there
+
+left_more_of : {T : Type 0} (passes : T → Bool) (more less : List T) → AreMoreOf more less → AreMoreOf (filter passes more) (filter passes less)
+left_more_of passes more less l x among = let was = among_left passes x less among in among_stays passes x more was.1 (l x was.0)
+
+linked_more : (more less : List ChildLink) → AreMoreOf more less → (site : SiteId) (o : Op) (a : Answer) → AreMoreOf (linked_by more site o a) (linked_by less site o a)
+linked_more more less l site (op.Children (child.Add parent snap image)) answer.Done = among_more (record { site = site; parent = parent; snap = snap; child = image }) more less l
+linked_more more less l site (op.Children (child.Remove parent snap image)) answer.Done = left_more_of (λ e. not (is_link site parent snap image e)) more less l
+linked_more more less l site (op.Children (child.Remove parent snap image)) answer.Absent = left_more_of (λ e. not (is_link site parent snap image e)) more less l
+linked_more more less l site (op.Header image (header.Create view)) answer.Done = left_more_of (λ e. not (is_at site image e.site e.child)) more less l
+linked_more more less l site _ _ = l
+
+-- A base that a header tells: of which link, and by which snapshot.
+pub record IsNewBase (linked : List ChildLink) (site : SiteId) (image : ℕ) (h : HeaderView) (b : ChildBase) : Type 0 where
+  pub link : ChildLink
+  pub among : IsAmong link linked
+  pub here : is_at site image link.site link.parent ≡ true
+  pub size : ℕ
+  pub told : protected_size (snap_in h.snaps link.snap) ≡ Some size
+  pub is : base_of link size ≡ b
+
+-- each base behind a header that was told was known before, or is one of these
+pub base_was : (linked : List ChildLink) (site : SiteId) (image : ℕ) (h : HeaderView) (based : List ChildBase) (b : ChildBase) → IsAmong b (bases_told linked site image h based)
+    → IsAmong b based ⊎ IsNewBase linked site image h b
+base_was [] site image h based b among = inl among
+base_was (l ∷ linked) site image h based b among = by (is_at site image l.site l.parent) refl (protected_size (snap_in h.snaps l.snap)) refl among (base_was linked site image h based b)
+  where
+    onward : IsAmong b based ⊎ IsNewBase linked site image h b → IsAmong b based ⊎ IsNewBase (l ∷ linked) site image h b
+    onward (inl before) = inl before
+    onward (inr new) = inr (record { link = new.link; among = inr new.among; here = new.here; size = new.size; told = new.told; is = new.is })
+
+    by : (here : Bool) → is_at site image l.site l.parent ≡ here → (size : Option ℕ) → protected_size (snap_in h.snaps l.snap) ≡ size → IsAmong b (with_base here l size (bases_told linked site image h based))
+        → (IsAmong b (bases_told linked site image h based) → IsAmong b based ⊎ IsNewBase linked site image h b) → IsAmong b based ⊎ IsNewBase (l ∷ linked) site image h b
+    by true at (Some size) told (inl is) later = inr (record { link = l; among = inl refl; here = at; size = size; told = told; is = is })
+    by true at (Some size) told (inr there) later = onward (later there)
+    by true at None told there later = onward (later there)
+    by false at (Some size) told there later = onward (later there)
+    by false at None told there later = onward (later there)
+
+-- it is that of this very link
+record IsBaseOf (l : ChildLink) (b : ChildBase) (here : Bool) (size : Option ℕ) : Type 0 where
+  pub at : here ≡ true
+  pub of : ℕ
+  pub told : size ≡ Some of
+  pub is : base_of l of ≡ b
+
+-- and each of these is known then
+pub base_stays : (linked : List ChildLink) (site : SiteId) (image : ℕ) (h : HeaderView) (based : List ChildBase) (b : ChildBase) → IsAmong b based ⊎ IsNewBase linked site image h b
+    → IsAmong b (bases_told linked site image h based)
+base_stays [] site image h based b (inl before) = before
+base_stays [] site image h based b (inr new) = absurd new.among
+base_stays (l ∷ linked) site image h based b known = by (is_at site image l.site l.parent) (protected_size (snap_in h.snaps l.snap)) (earlier known) (base_stays linked site image h based b)
+  where
+    of_new : (new : IsNewBase (l ∷ linked) site image h b) → (l ≡ new.link) ⊎ IsAmong new.link linked
+        → (IsAmong b based ⊎ IsNewBase linked site image h b) ⊎ IsBaseOf l b (is_at site image l.site l.parent) (protected_size (snap_in h.snaps l.snap))
+    of_new new (inr there) = inl (inr (record { link = new.link; among = there; here = new.here; size = new.size; told = new.told; is = new.is }))
+    of_new new (inl same) = inr (record {
+      at = ap (λ (e : ChildLink). is_at site image e.site e.parent) same ∙ new.here;
+      of = new.size;
+      told = ap (λ (e : ChildLink). protected_size (snap_in h.snaps e.snap)) same ∙ new.told;
+      is = ap (λ e. base_of e new.size) same ∙ new.is;
+    })
+
+    -- it is known of the others, or told of this one
+    earlier : IsAmong b based ⊎ IsNewBase (l ∷ linked) site image h b
+        → (IsAmong b based ⊎ IsNewBase linked site image h b) ⊎ IsBaseOf l b (is_at site image l.site l.parent) (protected_size (snap_in h.snaps l.snap))
+    earlier (inl before) = inl (inl before)
+    earlier (inr new) = of_new new new.among
+
+    by : (here : Bool) (size : Option ℕ) → (IsAmong b based ⊎ IsNewBase linked site image h b) ⊎ IsBaseOf l b here size
+        → (IsAmong b based ⊎ IsNewBase linked site image h b → IsAmong b (bases_told linked site image h based)) → IsAmong b (with_base here l size (bases_told linked site image h based))
+    by true (Some size) (inl others) later = inr (later others)
+    by true (Some size) (inr it) later = inl (ap (base_of l) (same_Some size it.of it.told) ∙ it.is)
+    by true None (inl others) later = later others
+    by true None (inr it) later = absurd (none-some it.of it.told)
+    by false (Some size) (inl others) later = later others
+    by false (Some size) (inr it) later = absurd (true≢false (sym it.at))
+    by false None (inl others) later = later others
+    by false None (inr it) later = absurd (true≢false (sym it.at))
+
+bases_more : (more_linked less_linked : List ChildLink) → AreMoreOf more_linked less_linked → (more less : List ChildBase) → AreMoreOf more less → (site : SiteId) (image : ℕ) (h : HeaderView)
+    → AreMoreOf (bases_told more_linked site image h more) (bases_told less_linked site image h less)
+bases_more more_linked less_linked links more less l site image h b among = base_stays more_linked site image h more b (by (base_was less_linked site image h less b among))
+  where
+    by : IsAmong b less ⊎ IsNewBase less_linked site image h b → IsAmong b more ⊎ IsNewBase more_linked site image h b
+    by (inl before) = inl (l b before)
+    by (inr new) = inr (record { link = new.link; among = links new.link new.among; here = new.here; size = new.size; told = new.told; is = new.is })
+
+based_more : (more_linked less_linked : List ChildLink) → AreMoreOf more_linked less_linked → (more less : List ChildBase) → AreMoreOf more less → (site : SiteId) (o : Op) (a : Answer)
+    → AreMoreOf (based_by more_linked more site o a) (based_by less_linked less site o a)
+based_more more_linked less_linked links more less l site (op.Header image header.Get) (answer.Header h) = bases_more more_linked less_linked links more less l site image h
+based_more more_linked less_linked links more less l site (op.Children (child.Remove parent snap image)) answer.Done = left_more_of (λ e. not (is_base site parent snap image e)) more less l
+based_more more_linked less_linked links more less l site (op.Children (child.Remove parent snap image)) answer.Absent = left_more_of (λ e. not (is_base site parent snap image e)) more less l
+based_more more_linked less_linked links more less l site (op.Header image (header.Create view)) answer.Done = left_more_of (λ e. not (is_at site image e.site e.child)) more less l
+based_more more_linked less_linked links more less l site _ _ = l
+
+listed_more : (counts : Bool) (p : SnapPlace) (more less : List SnapPlace) → AreMoreOf more less → AreMoreOf (with_childless counts p more) (with_childless counts p less)
+listed_more true p more less l = among_more p more less l
+listed_more false p more less l = l
+
+childless_more : (own : ℕ → Option HeaderView) (more less : List SnapPlace) → AreMoreOf more less → (site : SiteId) (o : Op) (a : Answer)
+    → AreMoreOf (childless_by own more site o a) (childless_by own less site o a)
+childless_more own more less l site (op.Children (child.List parent snap)) (answer.Ids []) = listed_more (lists_unprotecting (own parent) snap) (record { site = site; image = parent; snap = snap }) more less l
+childless_more own more less l site (op.Header image (header.SnapStatus snap status)) answer.Done = left_more_of (λ p. not (is_snap site image snap p)) more less l
+childless_more own more less l site (op.Header image header.Remove) answer.Done = left_more_of (λ p. not (is_at site image p.site p.image)) more less l
+childless_more own more less l site _ _ = l
+
+-- ---- all of these lists
+
+-- the lists of what isn't the request's own
+record Lists : Type 0 where
+  pub seen : List HeaderSeen
+  pub told : List ObjectTold
+  pub linked : List ChildLink
+  pub based : List ChildBase
+  pub childless : List SnapPlace
+
+record AreListsAtLeast (more less : Lists) : Type 0 where
+  pub seen : AreMoreOf more.seen less.seen
+  pub told : AreMoreOf more.told less.told
+  pub linked : AreMoreOf more.linked less.linked
+  pub based : AreMoreOf more.based less.based
+  pub childless : AreMoreOf more.childless less.childless
+
+abbrev with_lists : Lists → Knowledge → Knowledge
+with_lists lists k = record k { seen = lists.seen; told = lists.told; linked = lists.linked; based = lists.based; childless = lists.childless }
+
+abbrev lists_by : Knowledge → SiteId → Op → Answer → Lists
+lists_by k site o a = record {
+  seen = seen_by k.seen site o a;
+  told = told_by k.seen k.told site o a;
+  linked = linked_by k.linked site o a;
+  based = based_by k.linked k.based site o a;
+  childless = childless_by (λ image. header_alone (own_of k.owns site image)) k.childless site o a;
+}
+
 -- the same, with these lists
-telling : (more less : Knowledge) → KnowsAtLeast more less → (a b : List HeaderSeen) → ((s : HeaderSeen) → IsAmong s b → IsAmong s a) → (c d : List ObjectTold) → ((t : ObjectTold) → IsAmong t d → IsAmong t c)
-    → KnowsAtLeast (record more { seen = a; told = c }) (record less { seen = b; told = d })
-telling more less l a b seen c d told = record {
+telling : (more less : Knowledge) → KnowsAtLeast more less → (a b : Lists) → AreListsAtLeast a b → KnowsAtLeast (with_lists a more) (with_lists b less)
+telling more less l a b lists = record {
   sharing = l.sharing;
   owns = l.owns;
   turn = l.turn;
@@ -514,8 +685,11 @@ telling more less l a b seen c d told = record {
   maps = l.maps;
   objects = l.objects;
   gone = l.gone;
-  seen = seen;
-  told = told;
+  seen = lists.seen;
+  told = lists.told;
+  linked = lists.linked;
+  based = lists.based;
+  childless = lists.childless;
 }
 
 -- ---- what it learns
@@ -536,6 +710,9 @@ module _ (more less : Knowledge) (l : KnowsAtLeast more less) (site : SiteId) wh
     gone = l.gone;
     seen = l.seen;
     told = l.told;
+    linked = l.linked;
+    based = l.based;
+    childless = l.childless;
   }
 
   map_more : (image : ℕ) (o : MapOp) (a : Answer) → KnowsAtLeast (learned_of_map more site image o a) (learned_of_map less site image o a)
@@ -573,6 +750,9 @@ module _ (more less : Knowledge) (l : KnowsAtLeast more less) (site : SiteId) wh
     gone = l.gone;
     seen = l.seen;
     told = l.told;
+    linked = l.linked;
+    based = l.based;
+    childless = l.childless;
   }
     where
       by : (there : SiteId) (place : ℕ) (b : Bool)
@@ -617,6 +797,9 @@ module _ (more less : Knowledge) (l : KnowsAtLeast more less) (site : SiteId) wh
     gone = l.gone;
     seen = l.seen;
     told = l.told;
+    linked = l.linked;
+    based = l.based;
+    childless = l.childless;
   }
   directory_more _ _ = l
 
@@ -632,6 +815,9 @@ module _ (more less : Knowledge) (l : KnowsAtLeast more less) (site : SiteId) wh
     gone = l.gone;
     seen = l.seen;
     told = l.told;
+    linked = l.linked;
+    based = l.based;
+    childless = l.childless;
   }
   listing_more i _ = l
 
@@ -648,6 +834,9 @@ module _ (more less : Knowledge) (l : KnowsAtLeast more less) (site : SiteId) wh
     gone = l.gone;
     seen = l.seen;
     told = l.told;
+    linked = l.linked;
+    based = l.based;
+    childless = l.childless;
   }
 
   told_more : (image : ℕ) (change : Option HeaderView → Option HeaderView) → KnowsAtLeast (header_told site image change more) (header_told site image change less)
@@ -662,6 +851,9 @@ module _ (more less : Knowledge) (l : KnowsAtLeast more less) (site : SiteId) wh
     gone = l.gone;
     seen = l.seen;
     told = l.told;
+    linked = l.linked;
+    based = l.based;
+    childless = l.childless;
   }
     where
       map_told : List Own → List Own
@@ -679,6 +871,9 @@ module _ (more less : Knowledge) (l : KnowsAtLeast more less) (site : SiteId) wh
     gone = l.gone;
     seen = l.seen;
     told = l.told;
+    linked = l.linked;
+    based = l.based;
+    childless = l.childless;
   }
 
   removed_header_more : (image : ℕ) → KnowsAtLeast (removed_header site image more) (removed_header site image less)
@@ -693,6 +888,9 @@ module _ (more less : Knowledge) (l : KnowsAtLeast more less) (site : SiteId) wh
     gone = λ there place. drawn_cons site there image place more.gone less.gone (l.gone there place) (is_at there place site image);
     seen = l.seen;
     told = l.told;
+    linked = l.linked;
+    based = l.based;
+    childless = l.childless;
   }
 
   afresh_more : (image : ℕ) → KnowsAtLeast (afresh site image more) (afresh site image less)
@@ -708,6 +906,9 @@ module _ (more less : Knowledge) (l : KnowsAtLeast more less) (site : SiteId) wh
     gone = l.gone;
     seen = l.seen;
     told = l.told;
+    linked = l.linked;
+    based = l.based;
+    childless = l.childless;
   }
 
   looked_more : (image : ℕ) → KnowsAtLeast (looked_behind site image more) (looked_behind site image less)
@@ -733,6 +934,7 @@ module _ (more less : Knowledge) (l : KnowsAtLeast more less) (site : SiteId) wh
   header_more image (header.SnapRemove snap) answer.Done = told_more more less l site image _
   header_more image header.Detach answer.Done =
       told_more (with_objects site image without_there more) (with_objects site image without_there less) (with_objects_more more less l site image without_there without_there_more) site image _
+  header_more image (header.SnapStatus snap status) answer.Done = told_more more less l site image _
   header_more image (header.LockBreak owner) answer.Done = unfenced_more more less l site owner
   header_more image (header.LockBreak owner) answer.Changed = unfenced_more more less l site owner
   header_more image _ _ = l
@@ -746,9 +948,14 @@ module _ (more less : Knowledge) (l : KnowsAtLeast more less) (site : SiteId) wh
   own_more _ a = l
 
   pub learned_more : (o : Op) (a : Answer) → KnowsAtLeast (learned more site o a) (learned less site o a)
-  learned_more o a = telling (learned_own more site o a) (learned_own less site o a) (own_more o a)
-      (seen_by more.seen site o a) (seen_by less.seen site o a) (seen_more more.seen less.seen l.seen site o a)
-      (told_by more.seen more.told site o a) (told_by less.seen less.told site o a) (lists_told more.seen less.seen l.seen more.told less.told l.told site o a)
+  learned_more o a = telling (learned_own more site o a) (learned_own less site o a) (own_more o a) (lists_by more site o a) (lists_by less site o a) (record {
+    seen = seen_more more.seen less.seen l.seen site o a;
+    told = lists_told more.seen less.seen l.seen more.told less.told l.told site o a;
+    linked = linked_more more.linked less.linked l.linked site o a;
+    based = based_more more.linked less.linked l.linked more.based less.based l.based site o a;
+    childless = subst (λ owns. AreMoreOf (childless_by (λ image. header_alone (own_of owns site image)) more.childless site o a) (childless_by (λ image. header_alone (own_of less.owns site image)) less.childless site o a)) (sym l.owns)
+        (childless_more (λ image. header_alone (own_of less.owns site image)) more.childless less.childless l.childless site o a);
+  })
 
 -- ---- what it waits for
 
@@ -770,6 +977,9 @@ module _ (more less : Knowledge) (l : KnowsAtLeast more less) where
     gone = l.gone;
     seen = l.seen;
     told = l.told;
+    linked = l.linked;
+    based = l.based;
+    childless = l.childless;
   }
 
   pub waited_more : (w : Wait) → KnowsAtLeast (known_after_wait more w) (known_after_wait less w)
@@ -784,6 +994,9 @@ module _ (more less : Knowledge) (l : KnowsAtLeast more less) where
     gone = l.gone;
     seen = l.seen;
     told = l.told;
+    linked = l.linked;
+    based = l.based;
+    childless = l.childless;
   }
   waited_more (wait.Hold site image) = record {
     sharing = l.sharing;
@@ -796,6 +1009,9 @@ module _ (more less : Knowledge) (l : KnowsAtLeast more less) where
     gone = l.gone;
     seen = l.seen;
     told = l.told;
+    linked = l.linked;
+    based = l.based;
+    childless = left_more_of (λ p. not (is_at site image p.site p.image)) more.childless less.childless l.childless;
   }
   waited_more (wait.Turn object) = turned_more (Some object)
   waited_more (wait.Applied site image) = turned_more None
@@ -810,6 +1026,9 @@ module _ (more less : Knowledge) (l : KnowsAtLeast more less) where
     gone = l.gone;
     seen = l.seen;
     told = l.told;
+    linked = l.linked;
+    based = l.based;
+    childless = left_more_of (λ p. not (is_at site image p.site p.image)) more.childless less.childless l.childless;
   }
 
 -- ---- what it may do
@@ -883,6 +1102,16 @@ module _ (more less : Knowledge) (l : KnowsAtLeast more less) (site : SiteId) wh
   may_on_directory (directory.Remove image) may = alone_more image _ _ (λ h has. has) may
   may_on_directory directory.List may = tt
 
+  may_unlink : (parent snap image : ℕ) → MayUnlink less site parent snap image → MayUnlink more site parent snap image
+  may_unlink parent snap image (inl makes) = inl (l.drawn site image makes)
+  may_unlink parent snap image (inr (inl gone)) = inr (inl (l.gone site image gone))
+  may_unlink parent snap image (inr (inr owns)) = inr (inr (owns_more image _ _ (λ sharing h has. has) owns))
+
+  may_on_children : (o : ChildrenOp) → PermitsOnChildren less site o → PermitsOnChildren more site o
+  may_on_children (child.Add parent snap image) may = l.drawn site image may
+  may_on_children (child.Remove parent snap image) may = may_unlink parent snap image may
+  may_on_children (child.List parent snap) may = tt
+
   may_on_header : (image : ℕ) (o : HeaderOp) → PermitsOnHeader less site image o → PermitsOnHeader more site image o
   may_on_header image header.Get may = tt
   may_on_header image (header.Create view) may = make_more image view may
@@ -890,6 +1119,8 @@ module _ (more less : Knowledge) (l : KnowsAtLeast more less) (site : SiteId) wh
   may_on_header image header.Remove may = alone_more image _ _ (λ h has. has) may
   may_on_header image (header.SnapAdd name) may = alone_more image _ _ (take_more image name) may
   may_on_header image (header.SnapRemove snap) may = alone_more image _ _ (λ h has. has) may
+  may_on_header image (header.SnapStatus snap status) may =
+      alone_more image _ _ (λ h has. record { view = has.view; listed = has.listed; frees = λ free. l.childless _ (has.frees free) }) may
   may_on_header image header.LockTake may = tt
   may_on_header image header.LockDrop may = record { is = ap (λ owns. own_of owns site image) l.owns ∙ may.is }
   may_on_header image (header.LockBreak owner) may = ap (λ fenced. is_fenced_by fenced site owner) l.fenced ∙ may
@@ -965,6 +1196,7 @@ module _ (more less : Knowledge) (l : KnowsAtLeast more less) (site : SiteId) wh
 
   pub permits_more : (o : Op) → Permits less site o → Permits more site o
   permits_more (op.Directory o) may = may_on_directory o may
+  permits_more (op.Children o) may = may_on_children o may
   permits_more (op.Header image o) may = may_on_header image o may
   permits_more (op.Data image number o) may = may_on_object image number o may
   permits_more (op.BlockAdd i) may = tt
@@ -986,59 +1218,60 @@ told_stays seen told site (op.Data image number (object.Read (Some snap) parts))
 told_stays seen told site (op.Data image number (object.Read (Some snap) parts)) answer.Absent t among = when_stays told _ (is_dated seen site image snap) t among
 told_stays seen told site _ _ t among = among
 
--- what is known of the request's own is no header and no snapshot of another's
+-- what is known of the request's own is no header and no snapshot of another's, and no child
 abbrev pub ToldAsBefore : Knowledge → Knowledge → Type 0
-ToldAsBefore k own = (own.seen ≡ k.seen) × (own.told ≡ k.told)
+ToldAsBefore k own = (own.seen ≡ k.seen) × (own.told ≡ k.told) × (own.linked ≡ k.linked) × (own.based ≡ k.based) × (own.childless ≡ k.childless)
 
 looked_as_before : (k : Knowledge) (site : SiteId) (image : ℕ) → ToldAsBefore k (looked_behind site image k)
 looked_as_before k site image = by (own_of k.owns site image)
   where
     of : (header : Option HeaderView) → ToldAsBefore k (looked_by header site image k)
-    of None = (refl, refl)
-    of (Some h) = (refl, refl)
+    of None = (refl, refl, refl, refl, refl)
+    of (Some h) = (refl, refl, refl, refl, refl)
 
     by : (o : Option Own) → ToldAsBefore k (looked_under_lock o site image k)
-    by None = (refl, refl)
+    by None = (refl, refl, refl, refl, refl)
     by (Some o) = of o.header
 
 map_as_before : (k : Knowledge) (site : SiteId) (image : ℕ) (o : MapOp) (a : Answer) → ToldAsBefore k (learned_of_map k site image o a)
-map_as_before k site image (states.Resize count) answer.Done = (refl, refl)
-map_as_before k site image (states.Get None) (answer.Bits bits) = (refl, refl)
-map_as_before k site image (states.Put (Some snap) bits) answer.Done = (refl, refl)
-map_as_before k site image (states.Set view object state) answer.Done = (refl, refl)
-map_as_before k site image (states.Remove view) answer.Done = (refl, refl)
-map_as_before k site image _ _ = (refl, refl)
+map_as_before k site image (states.Resize count) answer.Done = (refl, refl, refl, refl, refl)
+map_as_before k site image (states.Get None) (answer.Bits bits) = (refl, refl, refl, refl, refl)
+map_as_before k site image (states.Put (Some snap) bits) answer.Done = (refl, refl, refl, refl, refl)
+map_as_before k site image (states.Set view object state) answer.Done = (refl, refl, refl, refl, refl)
+map_as_before k site image (states.Remove view) answer.Done = (refl, refl, refl, refl, refl)
+map_as_before k site image _ _ = (refl, refl, refl, refl, refl)
 
 object_as_before : (k : Knowledge) (site : SiteId) (image number : ℕ) (o : DataOp) (a : Answer) → ToldAsBefore k (learned_of_object k site image number o a)
-object_as_before k site image number (object.Write context must parts bytes) answer.Done = (refl, refl)
-object_as_before k site image number (object.WriteFull context bytes) answer.Done = (refl, refl)
-object_as_before k site image number (object.Read snap parts) a = (refl, refl)
-object_as_before k site image number (object.CopyUp bytes) answer.Done = (refl, refl)
-object_as_before k site image number (object.CopyUp bytes) answer.Exists = (refl, refl)
-object_as_before k site image number (object.Zero context must parts) answer.Done = (refl, refl)
-object_as_before k site image number (object.Empty context) answer.Done = (refl, refl)
-object_as_before k site image number (object.Remove context) answer.Done = (refl, refl)
-object_as_before k site image number _ _ = (refl, refl)
+object_as_before k site image number (object.Write context must parts bytes) answer.Done = (refl, refl, refl, refl, refl)
+object_as_before k site image number (object.WriteFull context bytes) answer.Done = (refl, refl, refl, refl, refl)
+object_as_before k site image number (object.Read snap parts) a = (refl, refl, refl, refl, refl)
+object_as_before k site image number (object.CopyUp bytes) answer.Done = (refl, refl, refl, refl, refl)
+object_as_before k site image number (object.CopyUp bytes) answer.Exists = (refl, refl, refl, refl, refl)
+object_as_before k site image number (object.Zero context must parts) answer.Done = (refl, refl, refl, refl, refl)
+object_as_before k site image number (object.Empty context) answer.Done = (refl, refl, refl, refl, refl)
+object_as_before k site image number (object.Remove context) answer.Done = (refl, refl, refl, refl, refl)
+object_as_before k site image number _ _ = (refl, refl, refl, refl, refl)
 
 directory_as_before : (k : Knowledge) (site : SiteId) (o : DirectoryOp) (a : Answer) → ToldAsBefore k (learned_of_directory k site o a)
-directory_as_before k site (directory.Add name) (answer.Id image) = (refl, refl)
-directory_as_before k site _ _ = (refl, refl)
+directory_as_before k site (directory.Add name) (answer.Id image) = (refl, refl, refl, refl, refl)
+directory_as_before k site _ _ = (refl, refl, refl, refl, refl)
 
 listing_as_before : (k : Knowledge) (site : SiteId) (i : Instance) (a : Answer) → ToldAsBefore k (learned_of_listing k site i a)
-listing_as_before k site i answer.Done = (refl, refl)
-listing_as_before k site i _ = (refl, refl)
+listing_as_before k site i answer.Done = (refl, refl, refl, refl, refl)
+listing_as_before k site i _ = (refl, refl, refl, refl, refl)
 
 header_as_before : (k : Knowledge) (site : SiteId) (image : ℕ) (o : HeaderOp) (a : Answer) → ToldAsBefore k (learned_of_header k site image o a)
 header_as_before k site image header.Get (answer.Header h) = looked_as_before k site image
-header_as_before k site image (header.Create view) answer.Done = (refl, refl)
-header_as_before k site image (header.SetSize to) answer.Done = (refl, refl)
-header_as_before k site image header.Remove answer.Done = (refl, refl)
-header_as_before k site image (header.SnapAdd name) (answer.Snap snap) = (refl, refl)
-header_as_before k site image (header.SnapRemove snap) answer.Done = (refl, refl)
-header_as_before k site image header.Detach answer.Done = (refl, refl)
-header_as_before k site image (header.LockBreak owner) answer.Done = (refl, refl)
-header_as_before k site image (header.LockBreak owner) answer.Changed = (refl, refl)
-header_as_before k site image _ _ = (refl, refl)
+header_as_before k site image (header.Create view) answer.Done = (refl, refl, refl, refl, refl)
+header_as_before k site image (header.SetSize to) answer.Done = (refl, refl, refl, refl, refl)
+header_as_before k site image header.Remove answer.Done = (refl, refl, refl, refl, refl)
+header_as_before k site image (header.SnapAdd name) (answer.Snap snap) = (refl, refl, refl, refl, refl)
+header_as_before k site image (header.SnapRemove snap) answer.Done = (refl, refl, refl, refl, refl)
+header_as_before k site image header.Detach answer.Done = (refl, refl, refl, refl, refl)
+header_as_before k site image (header.SnapStatus snap status) answer.Done = (refl, refl, refl, refl, refl)
+header_as_before k site image (header.LockBreak owner) answer.Done = (refl, refl, refl, refl, refl)
+header_as_before k site image (header.LockBreak owner) answer.Changed = (refl, refl, refl, refl, refl)
+header_as_before k site image _ _ = (refl, refl, refl, refl, refl)
 
 -- what is its own adds nothing to what it was told of any image
 pub own_as_before : (k : Knowledge) (site : SiteId) (o : Op) (a : Answer) → ToldAsBefore k (learned_own k site o a)
@@ -1047,14 +1280,52 @@ own_as_before k site (op.Header image o) a = header_as_before k site image o a
 own_as_before k site (op.Data image number o) a = object_as_before k site image number o a
 own_as_before k site (op.BlockAdd i) a = listing_as_before k site i a
 own_as_before k site (op.Map image o) a = map_as_before k site image o a
-own_as_before k site _ a = (refl, refl)
+own_as_before k site _ a = (refl, refl, refl, refl, refl)
 
-pub learned_at_least : (k : Knowledge) (site : SiteId) (o : Op) (a : Answer) → KnowsAtLeast (learned k site o a) (learned_own k site o a)
-learned_at_least k site o a =
+-- A look takes away nothing of what is known of children.
+linked_stays : (linked : List ChildLink) (site : SiteId) (o : Op) (a : Answer) → only_looks o ≡ true → AreMoreOf (linked_by linked site o a) linked
+linked_stays linked site (op.Children (child.Add parent snap image)) a looks = absurd (true≢false (sym looks))
+linked_stays linked site (op.Children (child.Remove parent snap image)) a looks = absurd (true≢false (sym looks))
+linked_stays linked site (op.Children (child.List parent snap)) a looks = λ l among. among
+linked_stays linked site (op.Header image (header.Create view)) a looks = absurd (true≢false (sym looks))
+linked_stays linked site (op.Header image o) a looks = λ l among. among
+linked_stays linked site o a looks = λ l among. among
+
+based_stays : (linked : List ChildLink) (based : List ChildBase) (site : SiteId) (o : Op) (a : Answer) → only_looks o ≡ true → AreMoreOf (based_by linked based site o a) based
+based_stays linked based site (op.Header image header.Get) (answer.Header h) looks = λ b among. base_stays linked site image h based b (inl among)
+based_stays linked based site (op.Header image header.Get) _ looks = λ b among. among
+based_stays linked based site (op.Children (child.Add parent snap image)) a looks = absurd (true≢false (sym looks))
+based_stays linked based site (op.Children (child.Remove parent snap image)) a looks = absurd (true≢false (sym looks))
+based_stays linked based site (op.Children (child.List parent snap)) a looks = λ b among. among
+based_stays linked based site (op.Header image (header.Create view)) a looks = absurd (true≢false (sym looks))
+based_stays linked based site (op.Header image o) a looks = λ b among. among
+based_stays linked based site o a looks = λ b among. among
+
+childless_stays : (own : ℕ → Option HeaderView) (childless : List SnapPlace) (site : SiteId) (o : Op) (a : Answer) → only_looks o ≡ true → AreMoreOf (childless_by own childless site o a) childless
+childless_stays own childless site (op.Children (child.List parent snap)) (answer.Ids []) looks = counted (lists_unprotecting (own parent) snap)
+  where
+    counted : (counts : Bool) → AreMoreOf (with_childless counts (record { site = site; image = parent; snap = snap }) childless) childless
+    counted true p among = inr among
+    counted false p among = among
+childless_stays own childless site (op.Children (child.List parent snap)) _ looks = λ p among. among
+childless_stays own childless site (op.Children (child.Add parent snap image)) a looks = λ p among. among
+childless_stays own childless site (op.Children (child.Remove parent snap image)) a looks = λ p among. among
+childless_stays own childless site (op.Header image (header.SnapStatus snap status)) a looks = absurd (true≢false (sym looks))
+childless_stays own childless site (op.Header image header.Remove) a looks = absurd (true≢false (sym looks))
+childless_stays own childless site (op.Header image o) a looks = λ p among. among
+childless_stays own childless site o a looks = λ p among. among
+
+pub learned_at_least : (k : Knowledge) (site : SiteId) (o : Op) (a : Answer) → only_looks o ≡ true → KnowsAtLeast (learned k site o a) (learned_own k site o a)
+learned_at_least k site o a looks =
+    let own : Knowledge = learned_own k site o a in
     let before = own_as_before k site o a in
-    telling (learned_own k site o a) (learned_own k site o a) (knows_itself (learned_own k site o a))
-    (seen_by k.seen site o a) (learned_own k site o a).seen (λ s among. seen_stays k.seen site o a s (subst (IsAmong s) before.0 among))
-    (told_by k.seen k.told site o a) (learned_own k site o a).told (λ t among. told_stays k.seen k.told site o a t (subst (IsAmong t) before.1 among))
+    telling own own (knows_itself own) (lists_by k site o a) (record { seen = own.seen; told = own.told; linked = own.linked; based = own.based; childless = own.childless }) (record {
+      seen = λ s among. seen_stays k.seen site o a s (subst (IsAmong s) before.0 among);
+      told = λ t among. told_stays k.seen k.told site o a t (subst (IsAmong t) before.1 among);
+      linked = λ l among. linked_stays k.linked site o a looks l (subst (IsAmong l) before.2 among);
+      based = λ b among. based_stays k.linked k.based site o a looks b (subst (IsAmong b) before.3 among);
+      childless = λ p among. childless_stays (λ image. header_alone (own_of k.owns site image)) k.childless site o a looks p (subst (IsAmong p) before.4 among);
+    })
 
 -- ---- what it may be told
 
@@ -1090,6 +1361,9 @@ found_at_least k site image number = record {
   gone = λ there place gone. gone;
   seen = λ s among. among;
   told = λ t among. among;
+  linked = λ l among. among;
+  based = λ b among. among;
+  childless = λ p among. among;
 }
   where
     known : ObjectsKnown
@@ -1106,7 +1380,7 @@ found_at_least k site image number = record {
 pub read_at_least : (k : Knowledge) (site : SiteId) (image number : ℕ) (snap : Option ℕ) (parts : List Part) (a : Answer) → KnowsAtLeast (learned k site (op.Data image number (object.Read snap parts)) a) k
 read_at_least k site image number snap parts a =
     let read = op.Data image number (object.Read snap parts) in
-    knows_onward (learned k site read a) (learned_own k site read a) k (learned_at_least k site read a) (by (knows_head k site image number snap a))
+    knows_onward (learned k site read a) (learned_own k site read a) k (learned_at_least k site read a refl) (by (knows_head k site image number snap a))
   where
     by : (counts : Bool) → KnowsAtLeast (with_objects_where counts site image (found number) k) k
     by true = found_at_least k site image number

@@ -53,10 +53,10 @@ abbrev pub unlooked : (sharing : Sharing) → SiteId → (image : ℕ) → Own
 unlooked sharing s image = record { site = s; image = image; sharing = sharing; header = None }
 
 abbrev pub under_lock_known : (sharing : Sharing) → (turn : Option ℕ) → SiteId → (image : ℕ) → HeaderView → Knowledge
-under_lock_known sharing turn s image h = record { sharing = sharing; owns = own_at sharing s image h ∷ []; turn = turn; drawn = []; fenced = []; maps = maps_told s image unmapped []; objects = []; gone = []; seen = []; told = [] }
+under_lock_known sharing turn s image h = record { sharing = sharing; owns = own_at sharing s image h ∷ []; turn = turn; drawn = []; fenced = []; maps = maps_told s image unmapped []; objects = []; gone = []; seen = []; told = []; linked = []; based = []; childless = [] }
 
 abbrev pub holding_known : (sharing : Sharing) → SiteId → (image : ℕ) → Knowledge
-holding_known sharing s image = record { sharing = sharing; owns = unlooked sharing s image ∷ []; turn = None; drawn = []; fenced = []; maps = []; objects = []; gone = []; seen = []; told = [] }
+holding_known sharing s image = record { sharing = sharing; owns = unlooked sharing s image ∷ []; turn = None; drawn = []; fenced = []; maps = []; objects = []; gone = []; seen = []; told = []; linked = []; based = []; childless = [] }
 
 own_told : (sharing : Sharing) (s : SiteId) (image : ℕ) (h : HeaderView) → under_lock_known sharing None s image h ≡ learned_own (holding_known sharing s image) s (op.Header image header.Get) (answer.Header h)
 own_told sharing s image h =
@@ -71,6 +71,9 @@ own_told sharing s image h =
       gone = [];
       seen = [];
       told = [];
+      linked = [];
+      based = [];
+      childless = [];
     }) (sym (at_itself s image)) ∙ ap (λ b. header_told s image (first_told h) (looked_under_lock (cond b (Some (unlooked sharing s image)) None) s image (holding_known sharing s image))) (sym (at_itself s image))
 
 pub own_is_found : (sharing : Sharing) (turn : Option ℕ) (s : SiteId) (image : ℕ) (h : HeaderView)
@@ -104,7 +107,7 @@ module _ (at : Label → Knowledge) where
       → ((h : HeaderView) → IsHeaderInForm h → IsStandalone h → IsLawful at (learned_own k s (op.Header image header.Get) (answer.Header h)) (next h))
       → (a : Answer) → CanTell k s (op.Header image header.Get) a → IsLawful at (learned k s (op.Header image header.Get) a) (on_header next a)
   lawful_look s image k next lawful a can =
-      lawful_by_more at (on_header next a) (learned k s (op.Header image header.Get) a) (learned_own k s (op.Header image header.Get) a) (learned_at_least k s (op.Header image header.Get) a)
+      lawful_by_more at (on_header next a) (learned k s (op.Header image header.Get) a) (learned_own k s (op.Header image header.Get) a) (learned_at_least k s (op.Header image header.Get) a refl)
       (lawful_on_header k s image (learned_own k s (op.Header image header.Get)) next lawful a can)
 
   pub lawful_on_done : (known : Answer → Knowledge) (next : Plan) → IsLawful at (known answer.Done) next → (a : Answer) → IsLawful at (known a) (on_done next a)

@@ -6,6 +6,7 @@ pub mod Tells
 pub mod Passed
 pub mod Closed
 pub mod AtLeast
+pub mod Children
 pub mod Lawful
 pub mod Possible
 pub mod Objects

@@ -1,7 +1,7 @@
 -- Who knows at least as much as another: it may do all that the other may.
 use Rattle.std.specs.Prelude.{◌≡◌, ℕ, true, Any, Option, Some, IfSome}
 use Rattle.rbd_kinds.specs.declared.id.SiteId.{SiteId}
-use Rattle.rbd_machine.specs.Ancestors.{HeaderSeen, IsAmong, ObjectTold}
+use Rattle.rbd_machine.specs.Ancestors.{HeaderSeen, IsAmong, ObjectTold, ChildBase, ChildLink, SnapPlace}
 use Rattle.rbd_machine.specs.Knowledge.{Knowledge, MapsKnown, ObjectsKnown, is_absent, is_drawn, is_gone, is_raised, is_there, maps_of, objects_known_of}
 use Rattle.rbd_machine.specs.Permits.{IsInParts}
 
@@ -42,3 +42,6 @@ pub record KnowsAtLeast (more less : Knowledge) : Type 0 where
   pub gone : (site : SiteId) (image : ℕ) → is_gone less.gone site image ≡ true → is_gone more.gone site image ≡ true
   pub seen : (seen : HeaderSeen) → IsAmong seen less.seen → IsAmong seen more.seen
   pub told : (told : ObjectTold) → IsAmong told less.told → IsAmong told more.told
+  pub linked : (l : ChildLink) → IsAmong l less.linked → IsAmong l more.linked
+  pub based : (b : ChildBase) → IsAmong b less.based → IsAmong b more.based
+  pub childless : (p : SnapPlace) → IsAmong p less.childless → IsAmong p more.childless

@@ -22,9 +22,10 @@ pub use Rattle.rbd_kinds.specs.Images.{is_at, same_site}
 use Rattle.rbd_kinds.specs.Sharing.{is_alone}
 use Rattle.rbd_kinds.specs.declared.layout.Part.{Part}
 use Rattle.rbd_kinds.specs.Instances.{same_instance}
-use Rattle.rbd_header.specs.Header.{detached, with_size, with_snap, without_snap}
+use Rattle.rbd_header.specs.Header.{detached, with_size, with_snap, without_snap, with_status}
 use Rattle.rbd_map.specs.States.{states_of}
-use Rattle.rbd_machine.specs.Ancestors.{HeaderSeen, ObjectTold, seen_by, told_by}
+use Rattle.rbd_machine.specs.Ancestors.{ChildBase, ChildLink, HeaderSeen, ObjectTold, SnapPlace, seen_by, told_by}
+use Rattle.rbd_machine.specs.Children.{based_by, childless_by, linked_by, snaps_of_others}
 use Rattle.rbd_machine.specs.Wait.{Wait}
 use Rattle.rbd_machine.specs.Wait as wait
 
@@ -105,6 +106,12 @@ pub record Knowledge : Type 0 where
   pub seen : List HeaderSeen
   -- what it read of snapshots, the latest first
   pub told : List ObjectTold
+  -- links of children that it added, of ids that it drew and made no header of yet
+  pub linked : List ChildLink
+  -- those of these children whose parent's snapshot it saw protected, behind the link
+  pub based : List ChildBase
+  -- snapshots of images that it is alone on, and that have no child
+  pub childless : List SnapPlace
 
 abbrev pub nothing_known : Knowledge
 nothing_known =
@@ -119,6 +126,9 @@ nothing_known =
       gone = [];
       seen = [];
       told = [];
+      linked = [];
+      based = [];
+      childless = [];
     }
 
 -- ---- where
@@ -126,6 +136,11 @@ nothing_known =
 abbrev pub own_of : List Own → SiteId → (image : ℕ) → Option Own
 own_of [] site image = None
 own_of (o ∷ owns) site image = if is_at site image o.site o.image then Some o else own_of owns site image
+
+-- the header of an image on which the request is alone
+abbrev pub header_alone : Option Own → Option HeaderView
+header_alone None = None
+header_alone (Some o) = if is_alone o.sharing then o.header else None
 
 abbrev pub is_drawn : List ImagePlace → SiteId → (image : ℕ) → Bool
 is_drawn [] site image = false
@@ -403,6 +418,8 @@ learned_of_header k site image (header.SnapAdd name) (answer.Snap snap) =
 learned_of_header k site image (header.SnapRemove snap) answer.Done =
     header_told site image (option_map (without_snap snap)) k
 learned_of_header k site image header.Detach answer.Done = detached_header site image k
+learned_of_header k site image (header.SnapStatus snap status) answer.Done =
+    header_told site image (option_map (with_status snap status)) k
 learned_of_header k site image (header.LockBreak owner) answer.Done = without_fence site owner k
 learned_of_header k site image (header.LockBreak owner) answer.Changed = without_fence site owner k
 learned_of_header k site image _ _ = k
@@ -417,10 +434,15 @@ learned_own k site (op.Map image o) a = learned_of_map k site image o a
 learned_own k site _ a = k
 
 -- What is known after an operation and its answer: beside what is the request's own, each header
--- that was told, and what was read of snapshots.
+-- that was told, what was read of snapshots, and what is known of children.
 abbrev pub learned : Knowledge → SiteId → Op → Answer → Knowledge
-learned k site o a =
-    record (learned_own k site o a) { seen = seen_by k.seen site o a; told = told_by k.seen k.told site o a }
+learned k site o a = record (learned_own k site o a) {
+  seen = seen_by k.seen site o a;
+  told = told_by k.seen k.told site o a;
+  linked = linked_by k.linked site o a;
+  based = based_by k.linked k.based site o a;
+  childless = childless_by (λ image. header_alone (own_of k.owns site image)) k.childless site o a;
+}
 
 -- ---- what a wait teaches
 
@@ -431,10 +453,17 @@ owns_when_held k site image = record { site = site; image = image; sharing = k.s
 
 -- What is known once the request may go on. A turn lasts up to the next one, or up to the end of
 -- the request's event. What the request knows of an object by its own changes lasts as long, since
--- another request may lower a state, or change the object, in its own turn.
+-- another request may lower a state, or change the object, in its own turn. And that a snapshot has
+-- no child it knows as long as it knows the image's header.
 abbrev pub known_after_wait : Knowledge → Wait → Knowledge
 known_after_wait k (wait.Join site image sharing) = record k { sharing = sharing }
-known_after_wait k (wait.Hold site image) = record k { owns = owns_when_held k site image; objects = [] }
+known_after_wait k (wait.Hold site image) =
+    record k {
+      owns = owns_when_held k site image;
+      objects = [];
+      childless = snaps_of_others site image k.childless;
+    }
 known_after_wait k (wait.Turn object) = record k { turn = Some object; maps = unmarked k.maps; objects = [] }
 known_after_wait k (wait.Applied site image) = record k { turn = None; maps = unmarked k.maps; objects = [] }
-known_after_wait k (wait.Leave site image) = record k { owns = owns_without site image k.owns }
+known_after_wait k (wait.Leave site image) =
+    record k { owns = owns_without site image k.owns; childless = snaps_of_others site image k.childless }

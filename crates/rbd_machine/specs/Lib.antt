@@ -11,6 +11,7 @@ pub mod Standalone
 pub mod Turns
 pub mod Approach
 pub mod Ancestors
+pub mod Children
 pub mod Knowledge
 pub mod Permits
 pub mod AtLeast

@@ -1,7 +1,8 @@
--- What a request may do by what it knows. An operation that no request does yet isn't permitted:
--- its row comes with the first request that does it. No image has a parent or a journal yet, so
--- nothing is said of these either.
+-- What a request may do by what it knows. An operation without a row isn't permitted. No image has
+-- a parent or a journal yet, so the rows say nothing of these either.
 use Rattle.std.specs.Prelude.{◌≡◌, ◌⊎◌, ℕ, ◌+◌, ◌*◌, ◌^◌, ◌<◌, ◌≤◌, Bool, true, false, List, [], All, Any, length, slice_index, Option, Some, None, IsSome}
+use Rattle.rbd_kinds.specs.declared.children_op.ChildrenOp.{ChildrenOp}
+use Rattle.rbd_kinds.specs.declared.children_op.ChildrenOp.TheVariants as child
 use Rattle.rbd_kinds.specs.declared.data_op.DataOp.{DataOp}
 use Rattle.rbd_kinds.specs.declared.data_op.DataOp.TheVariants as object
 use Rattle.rbd_kinds.specs.declared.directory_op.DirectoryOp.{DirectoryOp}
@@ -9,6 +10,7 @@ use Rattle.rbd_kinds.specs.declared.directory_op.DirectoryOp.TheVariants as dire
 use Rattle.rbd_kinds.specs.declared.header.HeaderView.{HeaderView}
 use Rattle.rbd_kinds.specs.declared.header.ParentLink.{ParentLink}
 use Rattle.rbd_kinds.specs.declared.header.SnapContext.{SnapContext}
+use Rattle.rbd_kinds.specs.declared.header.SnapStatus.{SnapStatus}
 use Rattle.rbd_kinds.specs.declared.header.SnapStatus.TheVariants.{Unprotected}
 use Rattle.rbd_kinds.specs.declared.header.SnapView.{SnapView}
 use Rattle.rbd_kinds.specs.declared.header_op.HeaderOp.{HeaderOp}
@@ -31,6 +33,7 @@ use Rattle.rbd_kinds.specs.Striping.{byte_at, object_of, offset_of}
 use Rattle.rbd_header.specs.Header.{context_of, is_full, snap_in}
 use Rattle.rbd_layout.specs.Pieces.{IsIn, IsPart}
 use Rattle.rbd_map.specs.States.{states_of}
+use Rattle.rbd_machine.specs.Ancestors.{IsAmong, SnapPlace}
 use Rattle.rbd_machine.specs.Knowledge.{Knowledge, MapsKnown, ObjectsKnown, own_of, is_absent, is_drawn, is_fenced_by, is_gone, is_raised, maps_of, objects_known_of}
 
 -- The request has the image's lock, and the header that it knows, by its look under the lock and
@@ -121,6 +124,32 @@ pub record MayRemove (snap : ℕ) (h : HeaderView) : Type 0 where
   pub view : SnapView
   pub listed : snap_in h.snaps snap ≡ Some view
   pub unprotected : view.status ≡ Unprotected
+
+-- The status of a snapshot that is listed is set: to unprotected only where the snapshot has no
+-- child, so that it may be removed from then on.
+pub record MayMark (childless : List SnapPlace) (site : SiteId) (image snap : ℕ) (status : SnapStatus) (h : HeaderView)
+    : Type 0 where
+  pub view : SnapView
+  pub listed : snap_in h.snaps snap ≡ Some view
+  pub frees : status ≡ Unprotected → IsAmong (record { site = site; image = image; snap = snap }) childless
+
+-- ---- children
+
+-- a view's parent, where it has one, isn't this snapshot
+abbrev pub IsOtherThan : (image snap : ℕ) → Option ParentLink → Type 0
+IsOtherThan image snap parent =
+    (link : ParentLink) → parent ≡ Some link → link.image ≡ image → link.snap ≡ snap → ⊥
+
+-- no view of an image, its head or a snapshot, has this snapshot as its parent
+pub record NamesNone (image snap : ℕ) (h : HeaderView) : Type 0 where
+  pub head : IsOtherThan image snap h.parent
+  pub snaps : (t : ℕ) (s : SnapView) → snap_in h.snaps t ≡ Some s → IsOtherThan image snap s.parent
+
+-- A link is taken away by who makes the child, who owns it where no view of it has the parent, or
+-- who removed it: nobody else can count on it.
+abbrev pub MayUnlink : Knowledge → SiteId → (parent snap child : ℕ) → Type 0
+MayUnlink k site parent snap child = (is_drawn k.drawn site child ≡ true) ⊎ ((is_gone k.gone site child ≡ true)
+    ⊎ OwnsBy k site child (λ sharing h. NamesNone parent snap h))
 
 -- ---- locks
 
@@ -229,6 +258,12 @@ PermitsOnDirectory k site (directory.Rename from to) = Unit {0}
 PermitsOnDirectory k site (directory.Remove image) = OwnsAlone k site image (λ h. Unit {0})
 PermitsOnDirectory k site directory.List = Unit {0}
 
+-- A child is linked by who makes it.
+abbrev pub PermitsOnChildren : Knowledge → SiteId → ChildrenOp → Type 0
+PermitsOnChildren k site (child.Add parent snap image) = is_drawn k.drawn site image ≡ true
+PermitsOnChildren k site (child.Remove parent snap image) = MayUnlink k site parent snap image
+PermitsOnChildren k site (child.List parent snap) = Unit {0}
+
 -- A lock is broken only behind the fence of its owner (Ceph), so that nothing which the owner may
 -- still send can do anything.
 abbrev pub PermitsOnHeader : Knowledge → SiteId → (image : ℕ) → HeaderOp → Type 0
@@ -240,6 +275,8 @@ PermitsOnHeader k site image header.Remove = OwnsAlone k site image (λ h. h.sna
 PermitsOnHeader k site image (header.SnapAdd name) =
     OwnsAlone k site image (MayTakeSnap (maps_of k.maps site image) name)
 PermitsOnHeader k site image (header.SnapRemove snap) = OwnsAlone k site image (MayRemove snap)
+PermitsOnHeader k site image (header.SnapStatus snap status) =
+    OwnsAlone k site image (MayMark k.childless site image snap status)
 PermitsOnHeader k site image header.LockTake = Unit {0}
 PermitsOnHeader k site image header.LockDrop = HoldsUnlooked k site image
 PermitsOnHeader k site image (header.LockBreak owner) = is_fenced_by k.fenced site owner ≡ true
@@ -279,6 +316,7 @@ PermitsOnMap k site image _ = ⊥
 
 abbrev pub Permits : Knowledge → SiteId → Op → Type 0
 Permits k site (op.Directory o) = PermitsOnDirectory k site o
+Permits k site (op.Children o) = PermitsOnChildren k site o
 Permits k site (op.Header image o) = PermitsOnHeader k site image o
 Permits k site (op.Data image number o) = PermitsOnObject k site image number o
 Permits k site (op.BlockAdd instance) = Unit {0}

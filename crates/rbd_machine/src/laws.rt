@@ -1,15 +1,18 @@
 //! What plans mean: laws, each the contract of a function that does nothing.
 ghost use Rattle.std.specs.Prelude.{◌≡◌, ◌≢◌, ◌⊎◌, ℕ, ◌<◌, ◌≤◌, ◌+◌, ◌*◌, List, [], ◌∷◌, length, Bool, true, false, IsFalse, Option, Some, None};
+ghost use Rattle.rbd_kinds.specs.declared.children_op.ChildrenOp.TheVariants.{Remove as RemoveChild};
 ghost use Rattle.rbd_kinds.specs.declared.data_op.DataOp.TheVariants.{Empty, Remove, Write, WriteFull, Zero};
 ghost use Rattle.rbd_kinds.specs.declared.directory_op.DirectoryOp.TheVariants.{Remove as FreeName};
+ghost use Rattle.rbd_kinds.specs.declared.header.ParentLink.{ParentLink};
 ghost use Rattle.rbd_kinds.specs.declared.header.SnapContext.{SnapContext};
+ghost use Rattle.rbd_kinds.specs.declared.header.SnapStatus.{SnapStatus as Status};
 ghost use Rattle.rbd_kinds.specs.declared.header.SnapStatus.TheVariants.{Unprotected};
 ghost use Rattle.rbd_kinds.specs.declared.header.SnapView.{SnapView};
-ghost use Rattle.rbd_kinds.specs.declared.header_op.HeaderOp.TheVariants.{Create, Get, LockBreak, LockDrop, Remove as RemoveHeader, SetSize, SnapAdd, SnapRemove};
+ghost use Rattle.rbd_kinds.specs.declared.header_op.HeaderOp.TheVariants.{Create, Get, LockBreak, LockDrop, Remove as RemoveHeader, SetSize, SnapAdd, SnapRemove, SnapStatus};
 ghost use Rattle.rbd_kinds.specs.declared.layout.Part.{Part};
 ghost use Rattle.rbd_kinds.specs.declared.map_op.MapOp.TheVariants.{Remove as RemoveMap, Set};
 ghost use Rattle.rbd_kinds.specs.declared.operation.Op.{Op};
-ghost use Rattle.rbd_kinds.specs.declared.operation.Op.TheVariants.{BlockAdd, Data, Directory, Header, Map};
+ghost use Rattle.rbd_kinds.specs.declared.operation.Op.TheVariants.{BlockAdd, Children, Data, Directory, Header, Map};
 ghost use Rattle.rbd_header.specs.Header.{context_of, snap_in};
 ghost use Rattle.rbd_machine.specs.Knowledge.{ImagePlace, Knowledge, is_absent, is_fenced_by, is_gone, is_raised, learned, maps_of, objects_known_of, only_there, own_of, same_site, known_after_wait};
 ghost use Rattle.rbd_machine.specs.Permits.{Permits};
@@ -41,6 +44,7 @@ ghost use Rattle.rbd_machine.specs.Refused.{AreGiven, IsRefused, IsRefusedBy, Is
 ghost use Rattle.rbd_machine.specs.Standalone.{IsFedStandalone};
 ghost use Rattle.rbd_machine.specs.Steps.{change_plan};
 ghost use Rattle.rbd_machine.specs.Wait.{Wait};
+ghost use Rattle.rbd_machine.specs.Wait as waits;
 
 /// A request that wants an operation has one to ask for, and where one wants an event noted, its
 /// plan says which.
@@ -265,6 +269,27 @@ pub fn later_looks_agree()
         → own_of k.owns site image ≡ Some
         (record { site = site; image = image; sharing = sharing; header = Some known })
         → IsPossible k site (Header image Get) (Told now) → now ≡ record known { owner = now.owner } }
+{}
+
+/// What a request knows of a child goes with the child's link, and once its header is made; and that
+/// a snapshot has no child is forgotten once its status is set, and once its image is given up.
+pub fn what_is_known_of_children_ends()
+    ensures unlinked { (k : Knowledge) (site : SiteId) (image snap child : ℕ) (link : ParentLink)
+        → link.image ≡ image → link.snap ≡ snap
+        → IsAmong (record { site = site; child = child; link = link })
+        (learned k site (Children (RemoveChild image snap child)) Done).based → ⊥ }
+    ensures made { (k : Knowledge) (site : SiteId) (image : ℕ) (view : HeaderView) (link : ParentLink)
+        → IsAmong (record { site = site; child = image; link = link })
+        (learned k site (Header image (Create view)) Done).based → ⊥ }
+    ensures marked { (k : Knowledge) (site : SiteId) (image snap : ℕ) (status : Status)
+        → IsAmong (record { site = site; image = image; snap = snap })
+        (learned k site (Header image (SnapStatus snap status)) Done).childless → ⊥ }
+    ensures held { (k : Knowledge) (site : SiteId) (image snap : ℕ)
+        → IsAmong (record { site = site; image = image; snap = snap })
+        (known_after_wait k (waits.Hold site image)).childless → ⊥ }
+    ensures left { (k : Knowledge) (site : SiteId) (image snap : ℕ)
+        → IsAmong (record { site = site; image = image; snap = snap })
+        (known_after_wait k (waits.Leave site image)).childless → ⊥ }
 {}
 
 /// Who knows at least as much may do as much, is told nothing that the other couldn't be told, and

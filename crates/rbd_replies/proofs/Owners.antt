@@ -69,6 +69,7 @@ module _ (s : SiteId) (r : Records) (me : Instance) (k : Knowledge) (truth : IsT
   header_here image header.Remove permits changes = owned_here image _ permits
   header_here image (header.SnapAdd name) permits changes = owned_here image _ permits
   header_here image (header.SnapRemove snap) permits changes = owned_here image _ permits
+  header_here image (header.SnapStatus snap status) permits changes = owned_here image _ permits
   header_here image header.Get permits changes = cc
   header_here image (header.Create view) permits changes = cc
   header_here image header.LockTake permits changes = cc
@@ -127,6 +128,7 @@ module _ (s : SiteId) (r : Records) (me : Instance) (k : Knowledge) (truth : IsT
   image_here i (op.Data image number o) permits changes = object_here i image number o permits changes
   image_here i (op.Map image o) permits changes = map_here i image o permits changes
   image_here i (op.Directory o) permits changes = cc
+  image_here i (op.Children o) permits changes = cc
   image_here i (op.BlockAdd instance) permits changes = cc
   image_here i _ permits changes = elim permits [ ]
 

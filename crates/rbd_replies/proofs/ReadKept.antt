@@ -56,6 +56,7 @@ stays_here k s me image (header.Create view) permits v = inl (record { view = v;
 stays_here k s me image (header.SetSize to) permits v = inl (record { view = _; is = refl })
 stays_here k s me image (header.SnapAdd name) permits v = inl (record { view = _; is = refl })
 stays_here k s me image (header.SnapRemove snap) permits v = inl (record { view = _; is = refl })
+stays_here k s me image (header.SnapStatus snap status) permits v = inl (record { view = _; is = refl })
 stays_here k s me image header.LockTake permits v = inl (record { view = _; is = refl })
 stays_here k s me image header.LockDrop permits v = inl (record { view = _; is = refl })
 stays_here k s me image (header.LockBreak owner) permits v = inl (record { view = _; is = refl })
@@ -90,7 +91,7 @@ module _ (s : SiteId) (r : Records) (k : Knowledge) (me : Instance) (o : Op) (im
           subst (λ there. IsHereOrGone (header_after me there d)) (sym is ∙ ap r.headers (eqb-true image other e))
           (stays_here k s me other d (subst (Permits k s) (sym same) permits) old)
       by false e = inl (record { view = old; is = is })
-  here_served (op.Children d) same old is = absurd (subst (Permits k s) (sym same) permits)
+  here_served (op.Children d) same old is = inl (record { view = old; is = is })
   here_served (op.Journal other d) same old is = absurd (subst (Permits k s) (sym same) permits)
 
   here_after : (old : HeaderView) → r.headers image ≡ Some old → IsHereOrGone ((after r me o).headers image)
@@ -119,6 +120,7 @@ module _ (s : SiteId) (r : Records) (k : Knowledge) (me : Instance) (image : ℕ
   none_then header.Remove None is permits undrawn = refl
   none_then (header.SnapAdd name) None is permits undrawn = refl
   none_then (header.SnapRemove snap) None is permits undrawn = refl
+  none_then (header.SnapStatus snap status) None is permits undrawn = refl
   none_then header.LockTake None is permits undrawn = refl
   none_then header.LockDrop None is permits undrawn = refl
   none_then (header.LockBreak owner) None is permits undrawn = refl
@@ -131,6 +133,7 @@ module _ (s : SiteId) (r : Records) (k : Knowledge) (me : Instance) (image : ℕ
 
   none_served : (o : Op) → Permits k s o → (is_drawn k.drawn s image ≡ true → ⊥) → (after_served r me o).headers image ≡ None
   none_served (op.Directory d) permits undrawn = none
+  none_served (op.Children d) permits undrawn = none
   none_served (op.BlockAdd i) permits undrawn = none
   none_served (op.Data other number d) permits undrawn = none
   none_served (op.Map other d) permits undrawn = none

@@ -1,7 +1,7 @@
 -- No view of an image has a parent, at no place of a run that is right: neither head nor snapshot.
 use Rattle.std.proofs.Common.{◌≡◌, ℕ, ◌==◌, cond, Bool, true, false, List, [], ◌∷◌, is_some, Option, Some, None, refl, sym, ap, ◌∙◌, subst}
 use Rattle.std.proofs.lemmas.Option.{none-some, same_Some}
-use Rattle.rbd_header.specs.Header.{cut, is_full, snap_in, with_size, with_snap, without_snap}
+use Rattle.rbd_header.specs.Header.{cut, is_full, snap_in, with_size, with_snap, with_status, without_snap}
 use Rattle.rbd_kinds.specs.declared.header.HeaderView.{HeaderView}
 use Rattle.rbd_kinds.specs.declared.header_op.HeaderOp.{HeaderOp}
 use Rattle.rbd_kinds.specs.declared.header_op.HeaderOp.TheVariants as header
@@ -18,7 +18,7 @@ use Rattle.rbd_site.specs.Records.{Records}
 use Rattle.rbd_site.specs.Step.{after, after_served}
 use Rattle.rbd_site.proofs.StepLemmas.{where_fenced}
 use Rattle.rbd_stands.specs.View.{EachView, Shape}
-use Rattle.rbd_stands.proofs.Views.{each_added, each_removed}
+use Rattle.rbd_stands.proofs.Views.{each_added, each_marked, each_removed}
 use Rattle.rbd_world.specs.Run.{Happening, Nothing, Waited, Began, Did, Refused, Trimmed, Expired, Heard, Stopped, Restarted, records_after, records_behind}
 use Rattle.rbd_world.specs.Sound.{IsRightlyDone, IsDue, IsRight}
 use Rattle.rbd_world.proofs.Runs.{done_of}
@@ -67,6 +67,12 @@ module _ (k : Knowledge) (s : SiteId) (me : Instance) (image : ℕ) where
       by : (b : Bool) → AreViewsAlone (Some (cond b (without_snap snap v) v))
       by true = alone (without_snap snap v) (each_removed {P = HasNoParent} {Q = HasNoParent} snap v (λ none. none) (λ t u is other none. none) (was v refl))
       by false = was
+  views_then (header.SnapStatus snap status) permits None was = was
+  views_then (header.SnapStatus snap status) permits (Some v) was = by (is_some (snap_in v.snaps snap))
+    where
+      by : (b : Bool) → AreViewsAlone (Some (cond b (with_status snap status v) v))
+      by true = alone (with_status snap status v) (each_marked {P = HasNoParent} {Q = HasNoParent} snap status v (λ none. none) (λ t u is none. none) (was v refl))
+      by false = was
   views_then header.LockTake permits None was = was
   views_then header.LockTake permits (Some v) was = owned_alone v (cond (is_some v.owner) v.owner (Some me)) (was v refl)
   views_then header.LockDrop permits None was = was
@@ -88,6 +94,7 @@ AreAloneIn r = (image : ℕ) → AreViewsAlone (r.headers image)
 
 views_served : (s : SiteId) (r : Records) (k : Knowledge) (me : Instance) (o : Op) → AreAloneIn r → Permits k s o → AreAloneIn (after_served r me o)
 views_served s r k me (op.Directory o) was permits = was
+views_served s r k me (op.Children o) was permits = was
 views_served s r k me (op.BlockAdd i) was permits = was
 views_served s r k me (op.Data image number o) was permits = was
 views_served s r k me (op.Map image o) was permits = was

@@ -129,6 +129,7 @@ module _ (t : SiteId) (image : ℕ) (k : Knowledge) (s : SiteId) where
   header_gone i (header.SnapAdd name) (answer.Snap snap) gone = inl gone
   header_gone i (header.SnapRemove snap) answer.Done gone = inl gone
   header_gone i header.Detach answer.Done gone = inl gone
+  header_gone i (header.SnapStatus snap status) answer.Done gone = inl gone
   header_gone i (header.LockBreak owner) answer.Done gone = inl gone
   header_gone i (header.LockBreak owner) answer.Changed gone = inl gone
   header_gone i header.Get _ gone = inl gone
@@ -138,6 +139,7 @@ module _ (t : SiteId) (image : ℕ) (k : Knowledge) (s : SiteId) where
   header_gone i (header.SnapAdd name) _ gone = inl gone
   header_gone i (header.SnapRemove snap) _ gone = inl gone
   header_gone i header.Detach _ gone = inl gone
+  header_gone i (header.SnapStatus snap status) _ gone = inl gone
   header_gone i (header.LockBreak owner) _ gone = inl gone
   header_gone i _ a gone = inl gone
 

@@ -47,6 +47,7 @@ module _ (site : SiteId) (r : Records) (me : Instance) (k : Knowledge) (t : IsTr
   of_header : (i image : ℕ) (o : HeaderOp) → PermitsOnHeader k site i o → IsTrue ((image == i) && changes_header o) → IsFalse (is_fenced r me) → IsOwner (r.headers image) me
   of_header i image (header.SnapAdd name) permits is free = subst (λ n. IsOwner (r.headers n) me) (same_image i image true is) (owns i _ permits free)
   of_header i image (header.SnapRemove snap) permits is free = subst (λ n. IsOwner (r.headers n) me) (same_image i image true is) (owns i _ permits free)
+  of_header i image (header.SnapStatus snap status) permits is free = subst (λ n. IsOwner (r.headers n) me) (same_image i image true is) (owns i _ permits free)
   of_header i image (header.SetSize to) permits is free = subst (λ n. IsOwner (r.headers n) me) (same_image i image true is) (owns i _ permits free)
   of_header i image header.Remove permits is free = subst (λ n. IsOwner (r.headers n) me) (same_image i image true is) (owns i _ permits free)
   of_header i image header.Get permits is free = absurd (true≢false (sym (and_parts (image == i) false is).1))
@@ -92,6 +93,7 @@ module _ (site : SiteId) (r : Records) (me : Instance) (k : Knowledge) (t : IsTr
   of_change image (op.Data i number o) permits is free = of_object i number image o permits is free
   of_change image (op.Map i o) permits is free = of_map i image o permits is free
   of_change image (op.Directory o) permits is free = absurd (true≢false (sym is))
+  of_change image (op.Children o) permits is free = absurd (true≢false (sym is))
   of_change image (op.BlockAdd instance) permits is free = absurd (true≢false (sym is))
   of_change image _ permits is free = absurd permits
 

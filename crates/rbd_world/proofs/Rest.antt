@@ -68,7 +68,7 @@ module _ {R : Type 0} (stands : R → Standing) (old new : WorldView R) (w : IsS
     clients = λ me knows c t. trims_leave_it_true s (records_in s old.sites) me knows c t image number;
     known = λ me k t. trims_keep s (records_in s old.sites) me k image number t;
     locks = λ me k t i known free. let lock = t i known free in record { header = lock.header; there = lock.there; owner = lock.owner };
-    beside = λ me you k j t. still_beside s (records_in s old.sites) (trimmed image number (records_in s old.sites)) me you k j (λ free. free) t;
+    beside = λ me you k j t. still_beside s (records_in s old.sites) (trimmed image number (records_in s old.sites)) me you k j (λ other free. free) t;
     whole = λ t. record { standalone = t.standalone; mapped = mapped_trimmed (records_in s old.sites) image number t.mapped; ranked = ranked_trimmed (records_in s old.sites) image number t.ranked };
   }
 
@@ -77,7 +77,7 @@ module _ {R : Type 0} (stands : R → Standing) (old new : WorldView R) (w : IsS
     clients = λ me knows c t. expiries_leave_it_true s (records_in s old.sites) me knows c t image who;
     known = λ me k t. expiries_keep s (records_in s old.sites) me k image who t;
     locks = λ me k t i known free. let lock = t i known free in record { header = lock.header; there = lock.there; owner = lock.owner };
-    beside = λ me you k j t. still_beside s (records_in s old.sites) (expired image who (records_in s old.sites)) me you k j (λ free. free) t;
+    beside = λ me you k j t. still_beside s (records_in s old.sites) (expired image who (records_in s old.sites)) me you k j (λ other free. free) t;
     whole = λ t. record { standalone = t.standalone; mapped = mapped_expired (records_in s old.sites) image who t.mapped; ranked = ranked_expired (records_in s old.sites) image who t.ranked };
   }
 

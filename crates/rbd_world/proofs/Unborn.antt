@@ -147,6 +147,7 @@ module _ (k : Knowledge) (s t : SiteId) (image : ℕ) where
   header_drawn i (header.SnapAdd name) (answer.Snap snap) drawn = drawn
   header_drawn i (header.SnapRemove snap) answer.Done drawn = drawn
   header_drawn i header.Detach answer.Done drawn = drawn
+  header_drawn i (header.SnapStatus snap status) answer.Done drawn = drawn
   header_drawn i (header.LockBreak owner) answer.Done drawn = drawn
   header_drawn i (header.LockBreak owner) answer.Changed drawn = drawn
   header_drawn i header.Get _ drawn = drawn
@@ -156,6 +157,7 @@ module _ (k : Knowledge) (s t : SiteId) (image : ℕ) where
   header_drawn i (header.SnapAdd name) _ drawn = drawn
   header_drawn i (header.SnapRemove snap) _ drawn = drawn
   header_drawn i header.Detach _ drawn = drawn
+  header_drawn i (header.SnapStatus snap status) _ drawn = drawn
   header_drawn i (header.LockBreak owner) _ drawn = drawn
   header_drawn i _ a drawn = drawn
 

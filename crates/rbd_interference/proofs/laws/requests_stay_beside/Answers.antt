@@ -12,7 +12,7 @@ pub returns-clause-others : goal.returns-clause-others
 returns-clause-others c = beside_stays
 
 pub returns-clause-trim : goal.returns-clause-trim
-returns-clause-trim c = λ site r me you k j image number beside. still_beside site r (trimmed image number r) me you k j (λ free. free) beside
+returns-clause-trim c = λ site r me you k j image number beside. still_beside site r (trimmed image number r) me you k j (λ other free. free) beside
 
 pub returns-clause-expiry : goal.returns-clause-expiry
-returns-clause-expiry c = λ site r me you i k j image beside. still_beside site r (expired image i r) me you k j (λ free. free) beside
+returns-clause-expiry c = λ site r me you i k j image beside. still_beside site r (expired image i r) me you k j (λ other free. free) beside
