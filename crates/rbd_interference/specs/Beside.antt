@@ -50,8 +50,8 @@ SharesLock site image r me you k j = AreUnfenced r me you → IsSome (own_of k.o
     → IsSome (known_header j site image) → GoTogether site image k j
 
 -- What an operation on an object may make untrue that another request knows: a removal, that the
--- object is there; what writes bytes, or leaves the object without any, that it isn't there, or that
--- places of it are zeros. No other operation does anything to that.
+-- object is there; what writes bytes, or leaves the object without any, that it isn't there, or
+-- that places of it are zeros. No other operation does anything to that.
 abbrev pub Breaks : DataOp → Knowledge → SiteId → (image object : ℕ) → Type 0
 Breaks (object.Read snap parts) k site image number = ⊥
 Breaks (object.Zero context must parts) k site image number = ⊥
@@ -71,10 +71,10 @@ BreaksNothing site image r me you k j broken = AreUnfenced r me you → IsSome (
 
 -- What one request may do beside another. It may look at the header of an image whose lock it
 -- waited for only where the other knows no header there, or the two go together. So it is with the
--- drop of a lock that is its own: nobody of its client may rely on a header meanwhile. It may change
--- an object, or its state, only where that breaks nothing which the other knows: it has its turn
--- there, which the other had before or waits for, or the other goes beside none that breaks it. The
--- line of a session and the lock see to all of that.
+-- drop of a lock that is its own: nobody of its client may rely on a header meanwhile. It may
+-- change an object, or its state, only where that breaks nothing which the other knows: it has its
+-- turn there, which the other had before or waits for, or the other goes beside none that breaks
+-- it. The line of a session and the lock see to all of that.
 abbrev pub MayAct : SiteId → Records → (me you : Instance) → (k j : Knowledge) → Op → Type 0
 MayAct site r me you k j (op.Header image header.Get) = SharesLock site image r me you k j
 MayAct site r me you k j (op.Header image header.LockDrop) = HasLock image me r → SharesLock site image r me you k j

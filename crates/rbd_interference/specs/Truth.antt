@@ -129,8 +129,8 @@ AreZeros layout head (Some parts) = (x : ℕ) → Any (IsIn x) parts → slice_i
     ≡ 0
 
 -- What is known of an image's objects is true: one that the request removed isn't there, and one
--- that it changed or read is. A request that is alone on the image knows that what it zeroed is still
--- zero.
+-- that it changed or read is. A request that is alone on the image knows that what it zeroed is
+-- still zero.
 pub record AreObjectsTrue (alone : Bool) (layout : Layout) (objects : ℕ → Mapped) (o : ObjectsKnown) : Type 0 where
   pub absent : (number : ℕ) → is_absent number o.absent ≡ true → (objects number).head ≡ None
   pub there : (number : ℕ) → is_there number o.there ≡ true → IsSome (objects number).head

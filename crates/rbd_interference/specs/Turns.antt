@@ -1,5 +1,5 @@
--- What a request knows of single objects by its own changes, and by what it read, beside others that
--- change the image too.
+-- What a request knows of single objects by its own changes, and by what it read, beside others
+-- that change the image too.
 use Rattle.std.specs.Prelude.{◌≡◌, ◌≢◌, ◌⊎◌, ℕ, true, false, Any, Some, None, IsSome}
 use Rattle.rbd_kinds.specs.declared.id.SiteId.{SiteId}
 use Rattle.rbd_kinds.specs.declared.sharing.Sharing.TheVariants.{Flatten}

@@ -39,8 +39,8 @@ abbrev pub knows_after : (knows : (slot : ℕ) → Knowledge) → (slot : ℕ) �
 knows_after knows slot result plan f other = if other == slot
     then unless_ended result (known_behind (knows slot) plan f) else knows other
 
--- Of an object of an image that others change too, a request that takes turns knows only in its turn
--- there, and that turn is its own.
+-- Of an object of an image that others change too, a request that takes turns knows only in its
+-- turn there, and that turn is its own.
 abbrev pub HasItsTurns : (slot : ℕ) → Knowledge → Lines → Type 0
 HasItsTurns slot k lines = (site : SiteId) (image object : ℕ)
     → IsSome (known_header k site image) → is_alone_on k site image ≡ false → sharing_on k site image ≢ Flatten

@@ -17,9 +17,9 @@ ghost use Rattle.rbd_machine.specs.Knowledge.{Knowledge, Own, is_absent, is_ther
 ghost use Rattle.rbd_machine.specs.Permits.{Permits};
 
 /// Who changed an object knows that it is there, and so does a copy-up that met it; who removed it
-/// knows that it isn't. A read that shows bytes of its head tells that it is there where the request
-/// is alone on the image, or has its turn at the object, and nothing where it isn't and hasn't. A
-/// detach forgets which objects are there.
+/// knows that it isn't. A read that shows bytes of its head tells that it is there where the
+/// request is alone on the image, or has its turn at the object, and nothing where it isn't and
+/// hasn't. A detach forgets which objects are there.
 pub fn objects_are_known_by_what_was_done()
     ensures written { (k : Knowledge) (site : SiteId) (image number : ℕ) (context : SnapContext) (must : Bool)
         (parts : List Part) (bytes : List ℕ)

@@ -19,7 +19,8 @@ abbrev pub OwnsByHeader : Knowledge → SiteId → (image : ℕ) → Sharing →
 OwnsByHeader k site image sharing h =
     own_of k.owns site image ≡ Some (record { site = site; image = image; sharing = sharing; header = Some h })
 
--- It owns the image by this header, alone, or at its turn at the object, and is one that makes zeros.
+-- It owns the image by this header, alone, or at its turn at the object, and is one that makes
+-- zeros.
 pub record OwnsObject (k : Knowledge) (site : SiteId) (image : ℕ) (h : HeaderView) (number : ℕ) : Type 0 where
   pub sharing : Sharing
   pub owns : OwnsByHeader k site image sharing h

@@ -43,7 +43,8 @@ pub fn pieces_go_to_no_label()
 
 /// A piece of a write is lawful where it may raise its object's state, and write its bytes once
 /// that is done, given that what comes next is lawful by what is known then: that the state was
-/// raised, and that the object is there, with any bytes. A gather is lawful wherever what comes next is.
+/// raised, and that the object is there, with any bytes. A gather is lawful wherever what comes
+/// next is.
 pub fn pieces_are_lawful()
     ensures write { (at : Label → Knowledge) (k : Knowledge) (site : SiteId) (image : ℕ) (h : HeaderView)
         (piece : Piece) (bytes : List ℕ) (next : Plan)

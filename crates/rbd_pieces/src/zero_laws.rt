@@ -96,8 +96,8 @@ pub fn words_are_meant()
 /// A part asks only for what it may wherever the image is its own by a header, and what comes next
 /// does so by what is known behind the part. A piece is one of the head, and the image is held
 /// alone or at the turn at its object, by a request that makes zeros. Bytes that replace an object
-/// are no more than the piece has. A resize holds the lock alone; each byte that it cuts is zero, as
-/// the map says or by its own zeroing.
+/// are no more than the piece has. A resize holds the lock alone; each byte that it cuts is zero,
+/// as the map says or by its own zeroing.
 pub fn parts_are_lawful()
     ensures zero { (at : Label → Knowledge) (k : Knowledge) (site : SiteId) (image : ℕ) (h : HeaderView)
         (piece : Piece) (next : Plan)
