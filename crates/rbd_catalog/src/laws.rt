@@ -73,9 +73,9 @@ pub fn turns_are_those_of_the_extent()
 /// touches, as the row of its command says. Each time that it begins again, as a read does, it has
 /// as many once more. A resize, a rollback and an `rm` have beside these what they were told: a
 /// resize three for each object with bytes from the new size on, a rollback those too and four for
-/// each object of the snapshot, and an `rm` one for each object in use. Pass by pass, so many are
-/// all but its looks above (`own_steps` of `rbd_machine`): a clone costs what any image does, and
-/// beside that looks at the images that it was cloned from, as far as their headers lead.
+/// each object of the snapshot, and an `rm` one for each object in use. In each pass it has at most
+/// so many but for looks above (`own_steps` of `rbd_machine`): a clone costs what any image does,
+/// and beside that looks at the images that it was cloned from, as far as their headers lead.
 pub fn commands_are_bounded()
     ensures pass { (seat : Seat) (command : Command) (s : Standing) (most : ℕ)
         → IsPlanFor seat command s → is_nothing (profile command).told ≡ true → HasAtMost most (profile command).extent
