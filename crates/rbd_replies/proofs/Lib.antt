@@ -18,6 +18,7 @@ pub mod ListingsTold
 pub mod LooksOnly
 pub mod Measured
 pub mod NoEffects
+pub mod OnePlace
 pub mod OnWay
 pub mod OnWaysOnly
 pub mod OwnedLogs

@@ -22,7 +22,7 @@ use Rattle.rbd_stands.specs.Shown.{IsInOverlap}
 use Rattle.rbd_stands.proofs.Telling.{absence_told, bytes_told}
 use Rattle.rbd_header.specs.declared.view.View.{View}
 use Rattle.rbd_replies.specs.Places.{Placed, flat_at}
-use Rattle.rbd_replies.specs.Reads.{IsPieceAt}
+use Rattle.rbd_replies.specs.Reads.{TellsFlatPiece}
 use Rattle.rbd_replies.proofs.PlacedRight.{IsPlacedRight}
 use Rattle.rbd_replies.proofs.Places.{step_at}
 use Rattle.rbd_replies.proofs.PlacesTold.{answer_there, records_at}
@@ -54,23 +54,21 @@ not_covered parent x none covered = subst (λ (o : Option ParentLink). IsInOverl
 module _ (homes : ℕ → SiteId) (home : SiteId) (image : ℕ) (h : HeaderView) (view : View) (viewed : IsViewOf h view) where
   pub piece_shown : (p : Placed) (piece : Piece) → IsPlacedRight homes p → (records_at p).headers image ≡ Some h → ArePartsBelow h view.size piece.object piece.parts
       → (step_at p).op ≡ data_read image view.snap piece → IsSome (bytes_shown piece.parts p.done.answer)
-      → IsPieceAt image view.snap piece (unwrap_or (bytes_shown piece.parts p.done.answer) []) p
+      → TellsFlatPiece image view.snap piece (unwrap_or (bytes_shown piece.parts p.done.answer) []) p
   piece_shown p piece right is below op_is some = by p.done.answer refl some
     where
       lie : ArePartsBelow h viewed.shape.size piece.object piece.parts
       lie = subst (λ size. ArePartsBelow h size piece.object piece.parts) (sym viewed.size) below
 
-      by : (a : Answer) → p.done.answer ≡ a → IsSome (bytes_shown piece.parts a) → IsPieceAt image view.snap piece (unwrap_or (bytes_shown piece.parts a) []) p
+      by : (a : Answer) → p.done.answer ≡ a → IsSome (bytes_shown piece.parts a) → TellsFlatPiece image view.snap piece (unwrap_or (bytes_shown piece.parts a) []) p
       by (answer.Bytes bytes) answered some =
           let told = bytes_told [] (records_at p) (flat_at p) p.done.instance image piece.object h view.snap viewed.shape piece.parts bytes right.standing.stands is viewed.is lie
           (answer_there homes p right (record { site = p.done.site; op = data_read image view.snap piece; answer = answer.Bytes bytes }) (λ i. record { site = p.done.site; op = op_is i; answer = answered i })) in
-          record { asks = op_is; answered = ap (bytes_shown piece.parts) answered; flat = told.flat; is = told.is; same = told.same }
+          record { flat = told.flat; is = told.is; same = told.same }
       by answer.Absent answered some =
           let told = absence_told [] (records_at p) (flat_at p) p.done.instance image piece.object h view.snap viewed.shape piece.parts right.standing.stands is viewed.is lie
           (answer_there homes p right (record { site = p.done.site; op = data_read image view.snap piece; answer = answer.Absent }) (λ i. record { site = p.done.site; op = op_is i; answer = answered i })) in
           record {
-            asks = op_is;
-            answered = ap (bytes_shown piece.parts) answered;
             flat = told.flat;
             is = told.is;
             same = zeros_at_parts piece.parts told.flat (λ x there. told.zeros x there (not_covered viewed.shape.parent x viewed.no_parent));

@@ -4,6 +4,7 @@ use Rattle.std.proofs.Common.{◌≡◌, ℕ, ◌+◌, ◌≤◌, true, List, []
 use Rattle.std.specs.Prelude.{All, IsSome}
 use Rattle.std.proofs.lemmas.Bool.Decides.{nat_tests}
 use Rattle.std.proofs.lemmas.List.Elements.{All-head, All-tail}
+use Rattle.rbd_kinds.specs.declared.answer.Answer.{Answer}
 use Rattle.rbd_kinds.specs.declared.answer.Answer.TheVariants as answer
 use Rattle.rbd_kinds.specs.declared.header.HeaderView.{HeaderView}
 use Rattle.rbd_kinds.specs.declared.header_op.HeaderOp.TheVariants as header
@@ -17,13 +18,13 @@ use Rattle.rbd_layout.specs.declared.types.Piece.{Piece}
 use Rattle.rbd_layout.proofs.Within.{lies_in}
 use Rattle.rbd_machine.specs.Objects.{data_read}
 use Rattle.rbd_machine.specs.Path.{Answered, looked_at}
-use Rattle.rbd_meaning.specs.Reads.{AreRead, bytes_read, bytes_shown}
+use Rattle.rbd_meaning.specs.Reads.{AreRead, IsShown, bytes_read, bytes_shown}
 use Rattle.rbd_site.specs.HeaderStep.{header_answer}
 use Rattle.rbd_stands.specs.Condition.{ArePartsBelow}
 use Rattle.rbd_stands.specs.View.{shape_of}
 use Rattle.rbd_world.specs.Run.{records_after}
 use Rattle.rbd_replies.specs.Places.{Placed}
-use Rattle.rbd_replies.specs.Reads.{ArePiecesAt, IsPieceAt}
+use Rattle.rbd_replies.specs.Reads.{ArePiecesAt, TellsFlatPiece}
 use Rattle.rbd_replies.proofs.PlacedRight.{ArePlacedRight, IsPlacedRight}
 use Rattle.rbd_replies.proofs.Places.{step_at}
 use Rattle.rbd_replies.proofs.ReadKept.{header_between}
@@ -87,13 +88,23 @@ owned_shape h owner (Some s) = refl
 owned_view : (h : HeaderView) (owner : Option Instance) (view : View) → IsViewOf h view → IsViewOf (record h { owner = owner }) view
 owned_view h owner view viewed = record { shape = viewed.shape; is = owned_shape h owner view.snap ∙ viewed.is; size = viewed.size; no_parent = viewed.no_parent }
 
+-- a piece that was shown at its place
+abbrev pub shown_there : (p : Placed) (image : ℕ) (snap : Option ℕ) (piece : Piece) (a : Answer) (bytes : List ℕ) → bytes_shown piece.parts a ≡ Some bytes
+    → (home : SiteId) → step_at p ≡ record { site = home; op = data_read image snap piece; answer = a } → IsShown p.done.site image snap piece (step_at p ∷ [])
+shown_there p image snap piece a bytes shown home is = record {
+  answer = a;
+  bytes = bytes;
+  shown = shown;
+  are = ap (λ s. s ∷ []) (is ∙ ap (λ there. record { site = there; op = data_read image snap piece; answer = a }) (sym (ap (λ (s : Answered). s.site) is)));
+}
+
 module _ (homes : ℕ → SiteId) (home : SiteId) (image : ℕ) (h : HeaderView) (e : Extent) (view : View) (viewed : IsViewOf h view) (within : e.at + e.len ≤ view.size) (first last : Placed)
     (first_home : first.done.site ≡ home) (last_home : last.done.site ≡ home) (last_right : IsPlacedRight homes last) (new : HeaderView)
     (was : (records_after home first.before).headers image ≡ Some h) (is : (records_after home last.before).headers image ≡ Some new) (generation : new.generation ≡ h.generation) where
   pub pieces_shown : (pieces : List Piece) (places : List Placed) → All (λ (p : Piece). IsPartsOf h.layout e p.object p.parts) pieces → ArePlacedRight homes places
       → AreBehind first (places ++ last ∷ []) → AreOrdered (places ++ last ∷ []) → (steps : List Answered) → map step_at places ≡ steps → (read : AreRead home image view.snap pieces steps)
       → ArePiecesAt image view.snap pieces (bytes_read home image view.snap pieces steps read) places
-  pieces_shown [] places parts right behind ordered steps are none = subst (ArePiecesAt image view.snap [] []) (sym (none_taken places (are ∙ none))) refl
+  pieces_shown [] places parts right behind ordered steps are none = (refl, none_taken places (are ∙ none))
   pieces_shown (piece ∷ pieces) [] parts right behind ordered steps are read =
       let f = read.is_first in
       let all : [] ≡ record { site = home; op = data_read image view.snap piece; answer = f.answer } ∷ read.others = are ∙ read.are ∙ ap (λ first. first ++ read.others) f.are in
@@ -114,10 +125,21 @@ module _ (homes : ℕ → SiteId) (home : SiteId) (image : ℕ) (h : HeaderView)
       let below : ArePartsBelow v view.size piece.object piece.parts =
       subst (λ w. ArePartsBelow w view.size piece.object piece.parts) (sym there.same)
       (parts_within (record h { owner = v.owner }) e view.size piece.object piece within (All-head (λ (q : Piece). IsPartsOf h.layout e q.object q.parts) piece pieces parts)) in
-      let shown = piece_shown homes home image v view viewed_there p piece right.0 here below (ap (λ (s : Answered). s.op) asked) (subst IsSome (sym some) refl) in (
-        f.bytes,
-        bytes_read home image view.snap pieces read.others read.are_others,
-        refl,
-        subst (λ b. IsPieceAt image view.snap piece b p) (ap (λ o. unwrap_or o []) some) shown,
-        pieces_shown pieces places (All-tail (λ (q : Piece). IsPartsOf h.layout e q.object q.parts) piece pieces parts) right.1 behind.1 ordered.1 read.others others read.are_others,
-      )
+      let tells = piece_shown homes home image v view viewed_there p piece right.0 here below (ap (λ (s : Answered). s.op) asked) (subst IsSome (sym some) refl) in
+      record {
+        reading = p ∷ [];
+        others = places;
+        are = refl;
+        front = f.bytes;
+        rest = bytes_read home image view.snap pieces read.others read.are_others;
+        bytes_are = refl;
+        is_first = record {
+          own = p;
+          above = [];
+          are = refl;
+          shown = shown_there p image view.snap piece f.answer f.bytes f.shown home asked;
+          shows = refl;
+          tells = subst (λ b. TellsFlatPiece image view.snap piece b p) (ap (λ o. unwrap_or o []) some) tells;
+        };
+        are_others = pieces_shown pieces places (All-tail (λ (q : Piece). IsPartsOf h.layout e q.object q.parts) piece pieces parts) right.1 behind.1 ordered.1 read.others others read.are_others;
+      }

@@ -22,8 +22,8 @@ use Rattle.rbd_stands.specs.View.{shape_of_snap}
 use Rattle.rbd_pieces.specs.Full.{cut_bytes, replaced_by}
 use Rattle.rbd_pieces.specs.Operations.{data_write_full, map_set, done}
 use Rattle.rbd_pieces.specs.Zero.{head_of, is_inside}
-use Rattle.rbd_replies.specs.Places.{Placed, effects_of}
-use Rattle.rbd_replies.specs.Reads.{IsPieceAt}
+use Rattle.rbd_replies.specs.Places.{Placed, effects_of, with_effect}
+use Rattle.rbd_replies.specs.Reads.{TellsFlatPiece}
 use Rattle.rbd_replies.specs.RolledBack.{RestoresAll, RestoresFirst, replacing_effect}
 use Rattle.rbd_replies.proofs.Measured.{AllLike, IsLike, below_there, like_back, like_front, replace_there}
 use Rattle.rbd_replies.proofs.PlacedRight.{ArePlacedRight, IsPlacedRight, right_back, right_front}
@@ -33,7 +33,7 @@ use Rattle.rbd_replies.proofs.PlacesTold.{effect_there, records_at}
 use Rattle.rbd_replies.proofs.ReadNames.{IsViewOf, named_has_id}
 use Rattle.rbd_replies.proofs.ReadParents.{views_alone}
 use Rattle.rbd_replies.proofs.ReadPiece.{piece_shown}
-use Rattle.rbd_replies.proofs.ReadShown.{Divides, divide, parts_within}
+use Rattle.rbd_replies.proofs.ReadShown.{Divides, divide, parts_within, shown_there}
 use Rattle.rbd_replies.proofs.RefusalsNothing.{look_does_nothing}
 use Rattle.rbd_replies.proofs.Zeroing.{ArePiecesIn, all_there}
 
@@ -58,12 +58,12 @@ module _ (homes : ℕ → SiteId) (home : SiteId) (image : ℕ) (h : HeaderView)
       }
 
   told_there : (p : Placed) (piece : Piece) (a : Answer) (bytes : List ℕ) → IsPlacedRight homes p → IsLike h ((records_at p).headers image) → IsPartsOf h.layout (head_of h) piece.object piece.parts
-      → step_at p ≡ record { site = home; op = data_read image (Some listed.id) piece; answer = a } → bytes_shown piece.parts a ≡ Some bytes → IsPieceAt image (Some listed.id) piece bytes p
+      → step_at p ≡ record { site = home; op = data_read image (Some listed.id) piece; answer = a } → bytes_shown piece.parts a ≡ Some bytes → TellsFlatPiece image (Some listed.id) piece bytes p
   told_there p piece a bytes right like parts is shown =
       let told : p.done.answer ≡ a = ap (λ (s : Answered). s.answer) is in
       let some : bytes_shown piece.parts p.done.answer ≡ Some bytes = ap (bytes_shown piece.parts) told ∙ shown in
       let below = below_there homes home image h p right like listed.size piece.object piece.parts (parts_within h (head_of h) listed.size piece.object piece (omega (arith, long)) parts) in
-      subst (λ b. IsPieceAt image (Some listed.id) piece b p) (ap (λ o. unwrap_or o []) some)
+      subst (λ b. TellsFlatPiece image (Some listed.id) piece b p) (ap (λ o. unwrap_or o []) some)
       (piece_shown homes home image like.view view (viewed_there p right like) p piece right like.is below (ap (λ (s : Answered). s.op) is) (subst IsSome (sym some) refl))
 
   -- ---- what replaces it
@@ -95,15 +95,23 @@ module _ (homes : ℕ → SiteId) (home : SiteId) (image : ℕ) (h : HeaderView)
         let right_both : ArePlacedRight homes (both.front ++ both.back) = subst (ArePlacedRight homes) both.are right_one.1 in
         let like_both : AllLike image h (both.front ++ both.back) = subst (AllLike image h) both.are like_one.1 in
         record {
-          reading = one.place;
+          reading = one.place ∷ [];
           replaced = both.front;
           others = both.back;
           are = one.are ∙ ap (λ rest. one.place ∷ rest) both.are;
           bytes = is_first.read.bytes;
-          shown = told_there one.place piece is_first.read.answer is_first.read.bytes right_one.0 like_one.0 parts one.is is_first.read.shown;
+          shown = record {
+            own = one.place;
+            above = [];
+            are = refl;
+            shown = shown_there one.place image (Some listed.id) piece is_first.read.answer is_first.read.bytes is_first.read.shown home one.is;
+            shows = refl;
+            tells = told_there one.place piece is_first.read.answer is_first.read.bytes right_one.0 like_one.0 parts one.is is_first.read.shown;
+          };
           silent =
-              effect_there homes one.place right_one.0 (record { site = home; op = data_read image (Some listed.id) piece; answer = is_first.read.answer }) one.is
-              ∙ look_does_nothing ((records_at one.place).headers image) (data_read image (Some listed.id) piece) is_first.read.answer refl;
+              ap (λ e. with_effect e [])
+              (effect_there homes one.place right_one.0 (record { site = home; op = data_read image (Some listed.id) piece; answer = is_first.read.answer }) one.is
+              ∙ look_does_nothing ((records_at one.place).headers image) (data_read image (Some listed.id) piece) is_first.read.answer refl);
           effects = replaced_there piece parts (cut_bytes is_first.read.bytes) both.front (right_front homes both.front both.back right_both) (like_front image h both.front both.back like_both) (both.front_is ∙ is_first.is_replaced);
           are_others = later both.back (right_back homes both.front both.back right_both) (like_back image h both.front both.back like_both) both.back_is;
         }

@@ -1,5 +1,5 @@
 -- What a read shows: piece by piece the flat view's bytes, each at the place where it was read.
-use Rattle.std.specs.Prelude.{◌≡◌, ℕ, true, List, [], ◌∷◌, ◌++◌, Option, Some}
+use Rattle.std.specs.Prelude.{◌≡◌, ℕ, true, List, [], ◌∷◌, ◌++◌, map, Option, Some}
 use Rattle.rbd_flat.specs.Flat.{id_of, image_at}
 use Rattle.rbd_flat.specs.Read.{view_at}
 use Rattle.rbd_header.specs.Header.{view_of}
@@ -9,28 +9,46 @@ use Rattle.rbd_kinds.specs.declared.header.HeaderView.{HeaderView}
 use Rattle.rbd_kinds.specs.declared.layout.Extent.{Extent}
 use Rattle.rbd_layout.specs.Pieces.{pieces_of}
 use Rattle.rbd_layout.specs.declared.types.Piece.{Piece}
-use Rattle.rbd_machine.specs.Objects.{data_read}
 use Rattle.rbd_meaning.specs.Arrange.{bytes_of_extent}
-use Rattle.rbd_meaning.specs.Reads.{bytes_shown}
+use Rattle.rbd_meaning.specs.Reads.{IsShown}
 use Rattle.rbd_stands.specs.Reading.{TellsFlatImage, bytes_at_parts}
+use Rattle.rbd_world.specs.Run.{step_of}
 use Rattle.rbd_replies.specs.Places.{LooksAt, Placed, flat_at}
 
--- The operation there reads the piece, of this image at this view, and its answer shows these
--- bytes: those of the flat image's view at this place.
-pub record IsPieceAt (image : ℕ) (snap : Option ℕ) (piece : Piece) (bytes : List ℕ) (p : Placed) : Type 0 where
-  pub asks : p.done.op ≡ data_read image snap piece
-  pub answered : bytes_shown piece.parts p.done.answer ≡ Some bytes
+-- these are the bytes of the piece in the flat image's view at this place
+pub record TellsFlatPiece (image : ℕ) (snap : Option ℕ) (piece : Piece) (bytes : List ℕ) (p : Placed) : Type 0 where
   pub flat : List ℕ
   pub is : view_at (image_at (flat_at p) image) snap ≡ Some flat
   pub same : bytes ≡ bytes_at_parts piece.parts flat
 
--- so it is with each piece, one place for each, and these are their bytes, one after another
+-- The piece was read at these places, of this image at this view, and showed these bytes. They are
+-- the flat image's at the first place, where the image's own object was read.
+pub record IsPieceAt (image : ℕ) (snap : Option ℕ) (piece : Piece) (bytes : List ℕ) (places : List Placed)
+    : Type 0 where
+  pub own : Placed
+  pub above : List Placed
+  pub are : places ≡ own ∷ above
+  pub shown : IsShown own.done.site image snap piece (map (λ (p : Placed). step_of p.done) places)
+  pub shows : bytes ≡ shown.bytes
+  pub tells : TellsFlatPiece image snap piece bytes own
+
+-- the first piece was read, and its bytes stand first; and so on with the others
+pub record ReadsFirst (AreOthers : (bytes : List ℕ) → List Placed → Type 0) (image : ℕ) (snap : Option ℕ)
+    (piece : Piece) (bytes : List ℕ) (places : List Placed) : Type 0 where
+  pub reading : List Placed
+  pub others : List Placed
+  pub are : places ≡ reading ++ others
+  pub front : List ℕ
+  pub rest : List ℕ
+  pub bytes_are : bytes ≡ front ++ rest
+  pub is_first : IsPieceAt image snap piece front reading
+  pub are_others : AreOthers rest others
+
+-- so it is with each piece, and these are their bytes, one after another
 abbrev pub ArePiecesAt : (image : ℕ) → (snap : Option ℕ) → List Piece → (bytes : List ℕ) → List Placed → Type 0
-ArePiecesAt image snap [] bytes [] = bytes ≡ []
-ArePiecesAt image snap (piece ∷ pieces) bytes (p ∷ places) =
-    (front rest : List ℕ) × (bytes ≡ front ++ rest) × IsPieceAt image snap piece front p
-    × ArePiecesAt image snap pieces rest places
-ArePiecesAt image snap _ bytes _ = ⊥
+ArePiecesAt image snap [] bytes places = (bytes ≡ []) × (places ≡ [])
+ArePiecesAt image snap (piece ∷ pieces) bytes places =
+    ReadsFirst (ArePiecesAt image snap pieces) image snap piece bytes places
 
 -- However often it began again, its last pass found the image by its name, looked at the header,
 -- which tells the flat image there, read each piece of the extent by the layout of that header, and

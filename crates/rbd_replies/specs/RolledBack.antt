@@ -1,6 +1,6 @@
 -- What a `snap rollback` that is done did: the size was set to the snapshot's, and then each object
 -- got the bytes that the flat snapshot shows.
-use Rattle.std.specs.Prelude.{◌≡◌, ℕ, List, [], ◌∷◌, ◌++◌, length, Some, None}
+use Rattle.std.specs.Prelude.{◌≡◌, ℕ, List, [], ◌∷◌, ◌++◌, length, Some}
 use Rattle.rbd_flat.specs.Flat.{FlatImage, FlatSnap, image_at}
 use Rattle.rbd_flat.specs.declared.effect.Effect.{Effect}
 use Rattle.rbd_flat.specs.declared.effect.Effect.TheVariants as effect
@@ -22,17 +22,17 @@ replacing_effect image piece (byte ∷ left) = effect.Piece image (extents_of pi
 abbrev pub replace_effect : (image : ℕ) → Piece → (bytes : List ℕ) → Effect
 replace_effect image piece bytes = replacing_effect image piece (cut_bytes bytes)
 
--- A piece was read at the snapshot, and its bytes are the flat snapshot's at that place. The head
--- got these bytes; and so on with the other pieces.
+-- A piece was read at the snapshot, and its bytes are the flat snapshot's there. The head got these
+-- bytes; and so on with the other pieces.
 pub record RestoresFirst (AreOthers : List Placed → Type 0) (image snap : ℕ) (piece : Piece)
     (places : List Placed) : Type 0 where
-  pub reading : Placed
+  pub reading : List Placed
   pub replaced : List Placed
   pub others : List Placed
-  pub are : places ≡ reading ∷ (replaced ++ others)
+  pub are : places ≡ reading ++ (replaced ++ others)
   pub bytes : List ℕ
   pub shown : IsPieceAt image (Some snap) piece bytes reading
-  pub silent : reading.done.effect ≡ None
+  pub silent : effects_of reading ≡ []
   pub effects : effects_of replaced ≡ replace_effect image piece bytes ∷ []
   pub are_others : AreOthers others
 

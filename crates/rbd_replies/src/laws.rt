@@ -10,7 +10,10 @@ ghost use Rattle.rbd_kinds.specs.declared.notice.NoticeKind.{NoticeKind};
 ghost use Rattle.rbd_kinds.specs.declared.operation.Op.{Op};
 ghost use Rattle.rbd_kinds.specs.declared.operation.Op.TheVariants as op;
 ghost use Rattle.rbd_kinds.specs.declared.reply.Reply.{Reply};
+ghost use Rattle.rbd_layout.specs.declared.types.Piece.{Piece};
+ghost use Rattle.rbd_machine.specs.Objects.{data_read};
 ghost use Rattle.rbd_machine.specs.Plan.{Standing};
+ghost use Rattle.rbd_meaning.specs.Reads.{bytes_shown};
 ghost use Rattle.rbd_catalog.specs.Profile.{profile};
 ghost use Rattle.rbd_catalog.specs.Touched.{HasAtMost};
 ghost use Rattle.rbd_site.specs.declared.done.Done.{Done};
@@ -30,6 +33,7 @@ ghost use Rattle.rbd_replies.specs.Fenced.{AtEachOperation, IsWithoutEffect, IsS
 ghost use Rattle.rbd_replies.specs.Home.{AreDoneAt};
 ghost use Rattle.rbd_replies.specs.Logs.{IsOwnedLog};
 ghost use Rattle.rbd_replies.specs.Places.{Placed, effects_of, placed_of};
+ghost use Rattle.rbd_replies.specs.Reads.{IsPieceAt};
 ghost use Rattle.rbd_replies.specs.Replies.{IsReplyOf, changes_no_image, only_shows};
 ghost use Rattle.rbd_replies.specs.Sent.{ComesOnce, WasSent};
 ghost use Rattle.rbd_replies.specs.Shown.{AreHeadersInForm};
@@ -57,6 +61,15 @@ pub fn replies_are_the_flat_machines()
     ensures refused { (homes : ℕ → Site) (run : List Happening) (s : Site) (line : ℕ) (reply : Reply) (asked : Asked)
         → IsRight homes (Refused s line reply ∷ run) → asked_by line run ≡ Some asked
         → IsReplyOf asked.command reply (placed_of line (Refused s line reply ∷ run)) }
+{}
+
+/// A piece that was read has one place: the operation there read it, of this image at this view, and
+/// its answer shows these bytes.
+pub fn pieces_have_one_place()
+    ensures { (image : ℕ) (snap : Option ℕ) (piece : Piece) (bytes : List ℕ) (places : List Placed)
+        (read : IsPieceAt image snap piece bytes places) → (places ≡ read.own ∷ [])
+        × (read.own.done.op ≡ data_read image snap piece)
+        × (bytes_shown piece.parts read.own.done.answer ≡ Some bytes) }
 {}
 
 /// A command that only shows, as `read`, `ls`, `info`, `snap ls`, `du` and `resume` do, changes
