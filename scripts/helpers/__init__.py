@@ -5,7 +5,7 @@
     edits ─────────── edit_tries ─── how edits are tried, by `edit_changes`: which functions one changes
     program ───────── proved, unproved
     quick ─────────── imports ────── imports of definitions and lemmas that nothing uses
-                      documents ──── links, names and excerpts of examples
+                      documents ──── links, names, excerpts of examples, and lists
     docs ──────────── definitions, laws_list, crate_uses, crate_graph
     all ───────────── script_words, crate_list; kit_copy: the kit, and its `rt` as a module
 """

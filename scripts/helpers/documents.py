@@ -1,5 +1,5 @@
 """What is wrong in documents: links that lead nowhere, lines that are too wide, names that nothing in the
-code has, and excerpts of examples that aren't theirs.
+code has, excerpts of examples that aren't theirs, and what a list of files lacks.
 
 Names are looked for in comments of crates and tests too, since nothing compiles those.
 """
@@ -21,6 +21,12 @@ OF_CEPH |= {"OBJECT_NONEXISTENT", "OBJECT_EXISTS", "OBJECT_PENDING", "OBJECT_EXI
 # A line of an example with its number in front, and a line below it that `scripts/lab show` adds.
 NUMBERED = re.compile(r"^ +(\d+)  (\S.*)$")
 EXAMPLE = re.compile(r"\]\(((?:\w+/)?[\w-]+\.script)\)")
+# Documents that list what stands in a folder.
+LISTS = {
+    "examples/README.md": "examples/*.script",
+    "tests/README.md": "tests/crates/*",
+    "tests/rows/README.md": "tests/rows/*/",
+}
 
 
 def tracked(*patterns):
@@ -94,3 +100,12 @@ def excerpts():
             found = NUMBERED.match(line) if script else None
             if found and script[int(found[1]) - 1 : int(found[1])] != [found[2]]:
                 yield f"{name}:{number}: that isn't line {found[1]} of the example"
+
+
+def unlisted():
+    """Yields what stands in a folder and isn't in the document that lists it."""
+    for document, pattern in LISTS.items():
+        text = (TOP / document).read_text()
+        for path in sorted(TOP.glob(pattern)):
+            if not re.search(rf"(?<![\w-]){re.escape(path.name)}(?![\w-])", text):
+                yield f"{document}: it lacks {path.name}"
