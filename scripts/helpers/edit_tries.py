@@ -326,7 +326,8 @@ class Work:
 
     def is_code(self, edit):
         """Whether an edit is tried together with others: it changes code and names nothing, or it changes
-        a clause of the very function that it names."""
+        a clause of the very function that it names, which only callers read. No others are: what one
+        of them makes false may be what another one names."""
         named = set(self.named[edit])
         return bool(self.changed[edit]) and named in (set(), self.changed[edit])
 

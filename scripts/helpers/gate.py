@@ -4,10 +4,10 @@
 It works on a copy of HANDLES, crates.txt and crates/; what was built comes back into each crate's out/.
 Each crate's edits are tried once it is proved, many at once (scripts/edits): those of two crates at a
 time, on what proofs leave of the processors, since near the end one crate after another waits for the
-one below. It prints what `rt ci` does, 'N passed, M failed' of the crates, and behind that the same of
-the edits. The kit guesses how much memory a check takes, and guesses too much: the crates at the top
-would wait until nothing else runs, and get one processor then. So it goes by what was measured
-(kit_copy.py).
+one below. (`rt ci` alone tries each edit by a check of its own, which takes longer than all proofs.) It
+prints what `rt ci` does, 'N passed, M failed' of the crates, and behind that the same of the edits. The
+kit guesses how much memory a check takes, and guesses too much: the crates at the top would wait until
+nothing else runs, and get one processor then. So it goes by what was measured (kit_copy.py).
 """
 import contextlib
 import os

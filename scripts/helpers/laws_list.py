@@ -21,7 +21,7 @@ HEAD = """\
 crates stand here, from the program down. A law is a public function with an empty body: its
 contract is a fact about the definitions, for every value. Here stands its comment, which is prose:
 what is proved is the contract, in the file that is named. [PROVED.md](PROVED.md) says what the
-program promises, and the words are those of [ARCHITECTURE.md](ARCHITECTURE.md).
+program promises, and the words are those of [RULES.md](RULES.md).
 """
 
 

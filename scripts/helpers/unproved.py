@@ -50,7 +50,7 @@ def checked_program(room, crate, program):
 
 def build(program, made):
     """Builds the program."""
-    print("program: building it without proof; it is kept for later runs", file=sys.stderr)
+    print("program: building it without proof, in a minute or two, more on a busy machine; it is kept", file=sys.stderr)
     try:
         CACHE.mkdir(parents=True, exist_ok=True)
     except OSError as why:

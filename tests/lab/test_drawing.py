@@ -332,6 +332,8 @@ LOCKS = {
     16: ["disk: c2.0 has the lock; watched by c1.0 and c2.0"],
     fold.END: ["c2.0 hears notice 2"],
 }
+# How operations are answered that aren't answered `done`.
+ANSWERS = {"dir-add": "id", "dir-find": "id", "header-get": "header", "watchers-get": "instances"}
 # What `show --trace` prints of line 14 of examples/handover.script.
 TRACED = """\
 14  @poll c1 0 2
@@ -487,6 +489,34 @@ class Idle(unittest.TestCase):
             asked = script.replace(b"data-write", word)
             self.assertEqual(idle.facts(reading.script_of(asked), fold.steps(asked, trace)), wanted)
 
+    def test_an_until_that_asks_for_a_lock_names_its_owner(self):
+        script = b"client c1 a\nclient c2 a\nc1 create d 4096\n@settle 9\nc1 write d 0 11\n@settle 9\nc2 write d 1 22\n"
+        words = {
+            (3, "c1.0"): "dir-add map-resize header-create",
+            (5, "c1.0"): "dir-find header-get watch lock-take header-get map-set data-write",
+            (7, "c2.0"): "dir-find header-get watch lock-take watchers-get notify lock-take",
+        }
+        objects = {"dir": "rbd_directory", "map": "rbd_object_map.1", "dat": "rbd_data.1.0000000000000000"}
+        history, log = [], []
+        for (line, who), asked in words.items():
+            history.append(f"start {line} {who}")
+            for word in asked.split():
+                answer = "held" if (word, who) == ("lock-take", "c2.0") else ANSWERS.get(word, "done")
+                log.append(f"o a{len(log) + 1} {who} {word} {objects.get(word[:3], 'rbd_header.1')} {answer}")
+                history.append(f"look {line} a{len(log)}")
+            history += [f"reply {line}"] if who == "c1.0" else []
+        log += ["3 c1 ok", "5 c1 ok", "7 c2 unfinished waiting c1.0"]
+        stopped = [part for it in history for part in ([it, "stop c1"] if it == "start 7 c2.0" else [it])]
+        still = "came to no data-write: line 7 is still in slot 1 of c2, and asks for a lock that c1.0 has"
+        rows = [(b"", history, f"{still}, which hears so by an `@deliver` or in a round")]
+        rows += [(b"@until c2 1 notify\n@poll c2 1\n@deliver 1\n", history, still)]
+        rows += [(b"@stop c1\n", stopped, still), (b"@stop c1\n@restart c1\n", stopped, still)]
+        for lines, happened, wanted in rows:
+            asked = script + lines + b"@until c2 1 data-write\n"
+            trace = "\n".join([*(f"h {place} {it}" for place, it in enumerate(happened, 1)), *log]).encode()
+            found = idle.facts(reading.script_of(asked), fold.steps(asked, trace))
+            self.assertEqual([*found.values()], [[wanted]], lines)
+
 
 class Records(unittest.TestCase):
     def test_runs_are_bytes(self):
@@ -597,6 +627,14 @@ class Drawing(unittest.TestCase):
     def test_a_notice_that_was_heard_is_not_lost_any_more(self):
         facts = locks.facts(reading.script_of(example("idle")[0]), steps_of("idle"))
         self.assertEqual(facts[18], [])
+
+    def test_what_several_notices_tell_stands_once(self):
+        told = [("posted", "{} to c1.0: x", 1), ("posted", "{} to c3.0: x", 2), ("posted", "{} to c1.0: x", 3)]
+        told += [("heard", "c1.0 hears {}", 1), ("fenced", "c1.0 is fenced", 0)]
+        told += [("posted", "{} to c1.0: x", number) for number in range(4, 9)]
+        wanted = ["notices 1 and 3 to c1.0: x", "notice 2 to c3.0: x", "c1.0 hears notice 1", "c1.0 is fenced"]
+        wanted += ["notices 4, .. and 8 to c1.0: x"]
+        self.assertEqual([*locks.in_words(locks.Told(*it) for it in told)], wanted)
 
     def test_who_asked_for_a_lock_is_named_once(self):
         speaker = words.Speaker([])

@@ -10,7 +10,9 @@
        │      │
        │    page ──── that, page.html, page.css and page.js as one HTML file
        │
-       └── locks ──── the steps as text, for `show --locks`
+       ├── locks ──── the steps as text, for `show --locks`
+       │
+       └── idle ───── which lines of a schedule did nothing, and why
 
 `history` has the trace's lines by the script's line that made them happen, for `show --trace`.
 """

@@ -10,11 +10,11 @@ these are known too, by docs/RULES.md:
 - the bytes, states and snapshots: the words of a command and the header that it looked at say what
   each of its operations does.
 
-Nothing is judged: the trace says what was answered. What a session waits for isn't worked out
-either. A poll took the next operation of the history where that is of its slot, and else waited. It
-is so since a request that waits goes on only behind something that stands in the history, but for
-slot 0, which goes on behind a notice. A late operation is that of the slot, where that wanted one of
-its word.
+So the program needn't print them, and its formats stay as they are. Nothing is judged: the trace says
+what was answered. What a session waits for isn't worked out either. A poll took the next operation of
+the history where that is of its slot, and else waited. It is so since a request that waits goes on only
+behind something that stands in the history, but for slot 0, which goes on behind a notice. A late
+operation is that of the slot, where that wanted one of its word.
 """
 from dataclasses import dataclass, field
 

@@ -98,10 +98,28 @@ class Lines:
             return f"did nothing, and came to no {word}: {self.why_not_polled(name, slot)}"
         held = self.session(name, self.state)["slots"].get(slot)
         if slot and held:
-            return f"came to no {word}: line {held} is still in slot {slot} of {name}"
+            return f"came to no {word}: line {held} is still in slot {slot} of {name}{self.asking(held, did)}"
         ended = [it.line for it in did if it.kind == "reply" and it.slot == slot]
         why = f": line {ended[-1]} came to its reply without one" if ended else ""
         return f"came to no {word}{why}"
+
+    def asking(self, line, did):
+        """Returns that a command asked for a lock to the last, and by what its owner would hear so, as a text
+        to stand behind another one."""
+        takes = [it for it in did if it.line == line and it.operation and it.operation.word == "lock-take"]
+        if not takes or takes[-1].operation.answer != "held":
+            return ""
+        who, owner = takes[-1].who, takes[-1].told["owner"]
+        asked = [it for key, it in self.state.items() if key.startswith("notice/") and is_asked(it, who, owner)]
+        is_deaf = asked and not any(it["heard"] for it in asked)
+        how = ", which hears so by an `@deliver` or in a round" if is_deaf and self.does_run(owner) else ""
+        return f", and asks for a lock that {owner} has{how}"
+
+    def does_run(self, instance):
+        """Returns whether an instance runs: its session, in this life."""
+        name = name_of(instance)
+        session = self.session(name, self.state)
+        return session["runs"] and instance == f"{name}.{session['life']}"
 
     def of_settle(self, words, did):
         """Tells of an `@settle` without rounds."""
@@ -166,6 +184,11 @@ class Lines:
         if did_any(did, "operation"):
             return ""
         return f"did nothing: image {words[2]} of site {words[1]} has no object {words[3]}"
+
+
+def is_asked(notice, who, owner):
+    """Returns whether a notice asks an instance for a lock, and is by this one."""
+    return (notice["kind"], notice["from"], notice["to"]) == ("ask", who, owner)
 
 
 def others(slots, verb):
