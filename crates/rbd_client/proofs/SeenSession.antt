@@ -145,6 +145,7 @@ module _ {R : Type 0} (stands : R → Standing) where
     asks = λ slot q is. asks slot q (running_unseen slot s q is);
     others = λ slot none site image. sound.others slot (nothing_unseen (seen_running stands) (running_at slot s) (sym (running_seen slot s) ∙ none)) site image;
     fair = sound.fair;
+    used = sound.used;
   }
     where
       runs : (slot : ℕ) (q : Running Standing) → (r : Running R) × (running_at slot s ≡ Some r) × (seen_running stands r ≡ q) → IsOnTrack slot q.extent true q.request (track_of q s.lines)
@@ -167,6 +168,7 @@ module _ {R : Type 0} (stands : R → Standing) where
     asks = λ slot r is. sound.asks slot (seen_running stands r) (running_is_seen slot s r is);
     others = λ slot none. sound.others slot (running_seen slot s ∙ ap (option_map (seen_running stands)) none);
     fair = sound.fair;
+    used = sound.used;
   }
 
   -- ---- a session that stays as it is but for what its requests are ready for

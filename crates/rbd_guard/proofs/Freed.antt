@@ -10,7 +10,7 @@ use Rattle.rbd_guard.specs.declared.link.SlabPlace.{SlabPlace}
 use Rattle.rbd_guard.specs.Order.{without, no_ends}
 use Rattle.rbd_guard.specs.Links.{with_after, with_before, shorter, or_none}
 use Rattle.rbd_guard.specs.Slab.{used_at, number_at, queue_link, list_link}
-use Rattle.rbd_guard.specs.Tickets.{Tickets, ends_at, place_of_ticket, queue, list, ticket_object, ticket_request}
+use Rattle.rbd_guard.specs.Tickets.{NoneIsEmpty, Tickets, ends_at, place_of_ticket, queue, list, ticket_object, ticket_request}
 use Rattle.rbd_guard.specs.Held.{AreHeld}
 use Rattle.rbd_guard.proofs.Numbered.{AreKnown}
 use Rattle.rbd_guard.proofs.Entering.{map_cond}
@@ -28,6 +28,8 @@ pub record IsOut (old new : Tickets) (one two : List SlabPlace) (at ticket : ℕ
   pub number : (p : ℕ) → number_at new.slots p ≡ number_at one p
   pub queues : (k : ℕ) → ends_at new.queues k ≡ cond (eqb was.queue.key k) (or_none (shorter (ends_at old.queues was.queue.key) was.queue)) (ends_at old.queues k)
   pub lists : (k : ℕ) → ends_at new.lists k ≡ cond (eqb was.list.key k) (or_none (shorter (ends_at old.lists was.list.key) was.list)) (ends_at old.lists k)
+  pub used_queues : NoneIsEmpty old.queues → NoneIsEmpty new.queues
+  pub used_lists : NoneIsEmpty old.lists → NoneIsEmpty new.lists
   pub places : (t : ℕ) → place_of_ticket t new ≡ cond (eqb ticket t) None (place_of_ticket t old)
   pub drawn : new.drawn ≡ old.drawn
 
@@ -82,6 +84,8 @@ module _ (old new : Tickets) (one two : List SlabPlace) (at ticket : ℕ) (was :
             (shorter_fits (eqb was.queue.key k) (ends_at old.queues was.queue.key) (ends_at old.queues k) was.queue old.drawn (held.queue_fits was.queue.key) (held.queue_fits k)));
         list_fits = λ k. subst (λ n. (ends_at new.lists k).count ≤ n) (sym e.drawn) (subst (λ (n : Ends). n.count ≤ old.drawn) (sym (e.lists k))
             (shorter_fits (eqb was.list.key k) (ends_at old.lists was.list.key) (ends_at old.lists k) was.list old.drawn (held.list_fits was.list.key) (held.list_fits k)));
+        queues_used = e.used_queues held.queues_used;
+        lists_used = e.used_lists held.lists_used;
         fits = subst (λ n. n < 2 ^ 64) (sym e.drawn) held.fits;
       }
 

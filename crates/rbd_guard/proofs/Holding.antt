@@ -62,6 +62,8 @@ again g room held =
       drawn = held.drawn;
       queue_fits = held.queue_fits;
       list_fits = held.list_fits;
+      queues_used = held.queues_used;
+      lists_used = held.lists_used;
       fits = held.fits;
     }
 

@@ -1,6 +1,7 @@
 -- A guard whose tickets stay where they are, and one with none.
 use Rattle.std.proofs.Common.{◌≡◌, ℕ, ◌<◌, ◌≤◌, ◌^◌, nat_eq, [], Option, None, refl, sym, ap, subst, ◌∙◌, arith}
 use Rattle.std.specs.Map.{lookup}
+use Rattle.std.specs.Option.{IfSome}
 use Rattle.std.proofs.lemmas.Option.{none-some}
 use Rattle.rbd_guard.specs.declared.link.TicketLink.{TicketLink}
 use Rattle.rbd_guard.specs.declared.link.Ends.{Ends}
@@ -28,18 +29,26 @@ same_lines_of links others ends other_ends sound same same_ends =
     (λ n l is. sound.stands n l (sym (same n) ∙ is))
 
 module _ (old new : Tickets) (slots : new.slots ≡ old.slots) (places : (t : ℕ) → place_of_ticket t new ≡ place_of_ticket t old)
-    (queues : (k : ℕ) → ends_at new.queues k ≡ ends_at old.queues k) (lists : (k : ℕ) → ends_at new.lists k ≡ ends_at old.lists k)
+    (queues : (k : ℕ) → lookup (nat_eq k) new.queues ≡ lookup (nat_eq k) old.queues) (lists : (k : ℕ) → lookup (nat_eq k) new.lists ≡ lookup (nat_eq k) old.lists)
     (drawn : new.drawn ≡ old.drawn) where
+  same_queues : (k : ℕ) → ends_at new.queues k ≡ ends_at old.queues k
+  same_queues k = ap ends_or (queues k)
+
+  same_lists : (k : ℕ) → ends_at new.lists k ≡ ends_at old.lists k
+  same_lists k = ap ends_or (lists k)
+
   pub same_held : AreHeld old → AreHeld new
   same_held held =
       record {
-        queues = (same_lines_of (queue_link old.slots) (queue_link new.slots) (ends_at old.queues) (ends_at new.queues) held.queues (λ n. ap (λ s. queue_link s n) slots) queues).sound;
-        lists = (same_lines_of (list_link old.slots) (list_link new.slots) (ends_at old.lists) (ends_at new.lists) held.lists (λ n. ap (λ s. list_link s n) slots) lists).sound;
+        queues = (same_lines_of (queue_link old.slots) (queue_link new.slots) (ends_at old.queues) (ends_at new.queues) held.queues (λ n. ap (λ s. queue_link s n) slots) same_queues).sound;
+        lists = (same_lines_of (list_link old.slots) (list_link new.slots) (ends_at old.lists) (ends_at new.lists) held.lists (λ n. ap (λ s. list_link s n) slots) same_lists).sound;
         found = λ t p is. ap (λ s. number_at s p) slots ∙ held.found t p (sym (places t) ∙ is);
         known = λ t p is. places t ∙ held.known t p (sym (ap (λ s. number_at s p) slots) ∙ is);
         drawn = λ t p is. subst (λ n. t < n) (sym drawn) (held.drawn t p (sym (ap (λ s. number_at s p) slots) ∙ is));
-        queue_fits = λ k. subst (λ n. (ends_at new.queues k).count ≤ n) (sym drawn) (subst (λ (e : Ends). e.count ≤ old.drawn) (sym (queues k)) (held.queue_fits k));
-        list_fits = λ k. subst (λ n. (ends_at new.lists k).count ≤ n) (sym drawn) (subst (λ (e : Ends). e.count ≤ old.drawn) (sym (lists k)) (held.list_fits k));
+        queue_fits = λ k. subst (λ n. (ends_at new.queues k).count ≤ n) (sym drawn) (subst (λ (e : Ends). e.count ≤ old.drawn) (sym (same_queues k)) (held.queue_fits k));
+        list_fits = λ k. subst (λ n. (ends_at new.lists k).count ≤ n) (sym drawn) (subst (λ (e : Ends). e.count ≤ old.drawn) (sym (same_lists k)) (held.list_fits k));
+        queues_used = λ k. subst (λ o. IfSome o (λ (e : Ends). 0 < e.count)) (sym (queues k)) (held.queues_used k);
+        lists_used = λ k. subst (λ o. IfSome o (λ (e : Ends). 0 < e.count)) (sym (lists k)) (held.lists_used k);
         fits = subst (λ n. n < 2 ^ 64) (sym drawn) held.fits;
       }
 
@@ -47,9 +56,9 @@ module _ (old new : Tickets) (slots : new.slots ≡ old.slots) (places : (t : �
   same_tickets =
       record {
         queue = λ o. queue_is new o ∙ ap (λ s. ticket_numbers (number_at s) (walked (queue_link s) (ends_at new.queues o))) slots
-            ∙ ap (λ e. ticket_numbers (number_at old.slots) (walked (queue_link old.slots) e)) (queues o) ∙ sym (queue_is old o);
+            ∙ ap (λ e. ticket_numbers (number_at old.slots) (walked (queue_link old.slots) e)) (same_queues o) ∙ sym (queue_is old o);
         list = λ r. list_is new r ∙ ap (λ s. ticket_numbers (number_at s) (walked (list_link s) (ends_at new.lists r))) slots
-            ∙ ap (λ e. ticket_numbers (number_at old.slots) (walked (list_link old.slots) e)) (lists r) ∙ sym (list_is old r);
+            ∙ ap (λ e. ticket_numbers (number_at old.slots) (walked (list_link old.slots) e)) (same_lists r) ∙ sym (list_is old r);
         object = λ t. object_is new t ∙ ap (λ s. key_at (queue_link s) (place_of_ticket t new)) slots
             ∙ ap (λ p. key_at (queue_link old.slots) p) (places t) ∙ sym (object_is old t);
         request = λ t. request_is new t ∙ ap (λ s. key_at (list_link s) (place_of_ticket t new)) slots
@@ -91,6 +100,8 @@ nothing_held =
       drawn = λ t p is. absurd (none-some t is);
       queue_fits = λ k. omega arith;
       list_fits = λ k. omega arith;
+      queues_used = λ k. tt;
+      lists_used = λ k. tt;
       fits = omega arith;
     }
 
@@ -98,4 +109,4 @@ pub none_held : (g : Tickets) → g.slots ≡ [] → g.places ≡ [] → g.queue
 unfolding nothing
 none_held g slots places queues lists drawn =
     same_held nothing g slots (λ t. ap (λ ps. lookup (nat_eq t) ps) places)
-    (λ k. ap (λ es. ends_at es k) queues) (λ k. ap (λ es. ends_at es k) lists) drawn nothing_held
+    (λ k. ap (λ es. lookup (nat_eq k) es) queues) (λ k. ap (λ es. lookup (nat_eq k) es) lists) drawn nothing_held

@@ -8,7 +8,7 @@ use Rattle.rbd_guard.specs.declared.link.Ends.{Ends}
 use Rattle.rbd_guard.specs.declared.link.SlabPlace.{SlabPlace}
 use Rattle.rbd_guard.specs.Links.{link, with_after, with_before, longer}
 use Rattle.rbd_guard.specs.Slab.{used_at, number_at, queue_link, list_link, entering}
-use Rattle.rbd_guard.specs.Tickets.{Tickets, ends_at, key_at, place_of_ticket, queue, list, ticket_object, ticket_request}
+use Rattle.rbd_guard.specs.Tickets.{NoneIsEmpty, Tickets, ends_at, key_at, place_of_ticket, queue, list, ticket_object, ticket_request}
 use Rattle.rbd_guard.specs.Held.{AreHeld}
 use Rattle.rbd_guard.proofs.Numbered.{AreKnown}
 use Rattle.rbd_guard.proofs.Entering.{map_cond, put_before, entered_sound, entered_line, entered_key, entered_known}
@@ -24,6 +24,8 @@ pub record IsEntered (old new : Tickets) (one two : List SlabPlace) (at object r
   pub number : (p : ℕ) → number_at new.slots p ≡ number_at one p
   pub queues : (k : ℕ) → ends_at new.queues k ≡ cond (eqb object k) (longer (ends_at old.queues object) at) (ends_at old.queues k)
   pub lists : (k : ℕ) → ends_at new.lists k ≡ cond (eqb request k) (longer (ends_at old.lists request) at) (ends_at old.lists k)
+  pub used_queues : NoneIsEmpty old.queues → NoneIsEmpty new.queues
+  pub used_lists : NoneIsEmpty old.lists → NoneIsEmpty new.lists
   pub places : (t : ℕ) → place_of_ticket t new ≡ cond (eqb old.drawn t) (Some at) (place_of_ticket t old)
   pub drawn : new.drawn ≡ old.drawn + 1
   pub below : old.drawn < 2 ^ 64 - 1
@@ -95,6 +97,8 @@ module _ (old new : Tickets) (one two : List SlabPlace) (at object request : ℕ
         drawn = λ t p is. drawn_all t p (cases_Bool (eqb at p)) is;
         queue_fits = λ k. subst (λ (n : Ends). n.count ≤ new.drawn) (sym (e.queues k)) (longer_fits (eqb object k) (ends_at old.queues object) (ends_at old.queues k) at old.drawn new.drawn (held.queue_fits object) (held.queue_fits k) e.drawn);
         list_fits = λ k. subst (λ (n : Ends). n.count ≤ new.drawn) (sym (e.lists k)) (longer_fits (eqb request k) (ends_at old.lists request) (ends_at old.lists k) at old.drawn new.drawn (held.list_fits request) (held.list_fits k) e.drawn);
+        queues_used = e.used_queues held.queues_used;
+        lists_used = e.used_lists held.lists_used;
         fits = (let more = e.drawn in let below = e.below in omega (arith, more, below));
       }
 

@@ -2,6 +2,7 @@
 use Rattle.std.specs.Prelude.{◌≡◌, ℕ, ◌==◌, nat_eq, ◌<◌, ◌≤◌, ◌^◌, cond, not, Bool, false, List, [], ◌∷◌, Option, None, Some, IsSome, is_some, option_map, unwrap_or, map, length}
 use Rattle.std.specs.List.{filter}
 use Rattle.std.specs.Map.{lookup}
+use Rattle.std.specs.Option.{IfSome}
 use Rattle.rbd_guard.specs.declared.link.TicketLink.{TicketLink}
 use Rattle.rbd_guard.specs.declared.link.Ends.{Ends}
 use Rattle.rbd_guard.specs.declared.link.SlabPlace.{SlabPlace}
@@ -21,6 +22,10 @@ pub record Tickets : Type 0 where
 
 abbrev pub ends_at : List (ℕ × Ends) → (key : ℕ) → Ends
 ends_at ends key = ends_or (lookup (nat_eq key) ends)
+
+-- no ends are kept of a line in which nobody stands
+abbrev pub NoneIsEmpty : List (ℕ × Ends) → Type 0
+NoneIsEmpty ends = (key : ℕ) → IfSome (lookup (nat_eq key) ends) (λ (e : Ends). 0 < e.count)
 
 -- the numbers of the tickets at some places
 abbrev pub ticket_numbers : (number : ℕ → Option ℕ) → List ℕ → List ℕ

@@ -3,6 +3,7 @@ ghost use Rattle.std.specs.Prelude.{◌≡◌, ℕ, ◌+◌, ◌-◌, ◌<◌, �
 ghost use Rattle.std.specs.HashMap.{get, spare};
 ghost use Rattle.rbd_guard.specs.Order.{no_ends, ends_or};
 ghost use Rattle.rbd_guard.specs.Links.{longer, shorter, or_none, or_else, other_unless};
+ghost use Rattle.rbd_guard.specs.Tickets.{NoneIsEmpty};
 
 use crate::link::{Ends, TicketLink};
 use std::collections::HashMap;
@@ -70,6 +71,7 @@ pub fn lengthen(table: &mut HashMap<u64, Ends>, key: u64, place: usize) -> Optio
     ensures last { result ≡ (ends_or (get nat_eq table.old key)).last }
     ensures ends { (k : ℕ) → ends_or (get nat_eq table.new k)
         ≡ cond (nat_eq key k) (longer (ends_or (get nat_eq table.old key)) place) (ends_or (get nat_eq table.old k)) }
+    ensures used { NoneIsEmpty table.old.entries → NoneIsEmpty table.new.entries }
     ensures room { spare table.old ≤ spare table.new + 1 }
 {
     let Some(held) = table.get_mut(&key) else {
@@ -104,6 +106,7 @@ pub fn shorten(table: &mut HashMap<u64, Ends>, link: TicketLink)
     ensures ends { (k : ℕ) → ends_or (get nat_eq table.new k)
         ≡ cond (nat_eq link.key k) (or_none (shorter (ends_or (get nat_eq table.old link.key)) link))
         (ends_or (get nat_eq table.old k)) }
+    ensures used { NoneIsEmpty table.old.entries → NoneIsEmpty table.new.entries }
     ensures room { spare table.old ≤ spare table.new }
 {
     let Some(held) = table.get_mut(&link.key) else {

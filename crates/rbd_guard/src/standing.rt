@@ -5,6 +5,7 @@ ghost use Rattle.std.specs.HashMap.{get, spare};
 ghost use Rattle.rbd_guard.specs.Order.{ends_or};
 ghost use Rattle.rbd_guard.specs.Links.{with_after, with_before, longer, shorter, or_none};
 ghost use Rattle.rbd_guard.specs.Slab.{queue_link, list_link, number_at};
+ghost use Rattle.rbd_guard.specs.Tickets.{NoneIsEmpty};
 
 use crate::ends::{lengthen, shorten};
 use crate::link::{Ends, TicketLink};
@@ -24,6 +25,7 @@ pub fn enter_queue(slab: &mut Slab, queues: &mut HashMap<u64, Ends>, object: u64
     ensures ends { (k : ℕ) → ends_or (get nat_eq queues.new k)
         ≡ cond (nat_eq object k) (longer (ends_or (get nat_eq queues.old object)) at)
         (ends_or (get nat_eq queues.old k)) }
+    ensures used { NoneIsEmpty queues.old.entries → NoneIsEmpty queues.new.entries }
     ensures room_of_ends { spare queues.old ≤ spare queues.new + 1 }
 {
     let last = lengthen(queues, object, at);
@@ -44,6 +46,7 @@ pub fn enter_list(slab: &mut Slab, lists: &mut HashMap<u64, Ends>, request: u64,
     ensures ends { (k : ℕ) → ends_or (get nat_eq lists.new k)
         ≡ cond (nat_eq request k) (longer (ends_or (get nat_eq lists.old request)) at)
         (ends_or (get nat_eq lists.old k)) }
+    ensures used { NoneIsEmpty lists.old.entries → NoneIsEmpty lists.new.entries }
     ensures room_of_ends { spare lists.old ≤ spare lists.new + 1 }
 {
     let last = lengthen(lists, request, at);
@@ -62,6 +65,7 @@ pub fn leave_queue(slab: &mut Slab, queues: &mut HashMap<u64, Ends>, link: Ticke
     ensures ends { (k : ℕ) → ends_or (get nat_eq queues.new k)
         ≡ cond (nat_eq link.key k) (or_none (shorter (ends_or (get nat_eq queues.old link.key)) link))
         (ends_or (get nat_eq queues.old k)) }
+    ensures used { NoneIsEmpty queues.old.entries → NoneIsEmpty queues.new.entries }
     ensures room_of_ends { spare queues.old ≤ spare queues.new }
 {
     slab.link_queue_after(link.before, link.after);
@@ -80,6 +84,7 @@ pub fn leave_list(slab: &mut Slab, lists: &mut HashMap<u64, Ends>, link: TicketL
     ensures ends { (k : ℕ) → ends_or (get nat_eq lists.new k)
         ≡ cond (nat_eq link.key k) (or_none (shorter (ends_or (get nat_eq lists.old link.key)) link))
         (ends_or (get nat_eq lists.old k)) }
+    ensures used { NoneIsEmpty lists.old.entries → NoneIsEmpty lists.new.entries }
     ensures room_of_ends { spare lists.old ≤ spare lists.new }
 {
     slab.link_list_after(link.before, link.after);

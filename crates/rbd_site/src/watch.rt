@@ -1,5 +1,7 @@
 //! Who watches the headers of images.
-ghost use Rattle.std.specs.Prelude.{◌≡◌, ℕ, [], IfOk, OnOk, OnErr};
+ghost use Rattle.std.specs.Prelude.{◌≡◌, ℕ, [], None, IfOk, OnOk, OnErr};
+ghost use Rattle.std.specs.BTreeMap.{get};
+ghost use Rattle.std.specs.Ordering.{nat_cmp};
 ghost use Rattle.rbd_watch.specs.Watching.{oldest_of, registered, without};
 ghost use Rattle.rbd_site.specs.Maps.{watchers_in};
 ghost use Rattle.rbd_site.specs.Records.{put};
@@ -96,9 +98,10 @@ pub fn unwatch(watchers: &mut BTreeMap<ImageId, Watchers>, image: ImageId, insta
     there.unwatch(instance);
 }
 
-/// Nobody watches an image any longer. It takes no memory.
+/// Nobody watches an image any longer, and nothing is kept of it. It takes no memory.
 pub fn forget(watchers: &mut BTreeMap<ImageId, Watchers>, image: ImageId)
-    ensures { (i : ℕ) → watchers_in watchers.new i ≡ put (watchers_in watchers.old) image [] i }
+    ensures gone { get nat_cmp watchers.new image ≡ None }
+    ensures watchers { (i : ℕ) → watchers_in watchers.new i ≡ put (watchers_in watchers.old) image [] i }
 {
     watchers.remove(&image);
 }

@@ -23,7 +23,7 @@ use Rattle.rbd_machine.specs.Path.{at_operation}
 use Rattle.rbd_machine.specs.Plan.{Plan, Ask, Await, Note, Return, Goto, Standing, IsAsking, GoesOn, plan_after}
 use Rattle.rbd_slots.specs.declared.running.Running.{Running}
 use Rattle.rbd_slots.specs.Advance.{objects_or_none, track_with, track_of, past_its_look, looked_for, fed_by, wait_wanted, wanted_by, waits_left, IsGoingOn, IsSameRequest, IsJoin, MayPass, IsFedWell, GoesFurther, AdvancesTo}
-use Rattle.rbd_slots.specs.Lines.{LinesView, lines_of, room_of, CanOpen}
+use Rattle.rbd_slots.specs.Lines.{AreUsed, LinesView, lines_of, room_of, CanOpen}
 use Rattle.rbd_slots.specs.OnTrack.{IsOnTrack, IsNowhereElse, AreFair, LeavesOthers}
 use Rattle.rbd_slots.specs.Track.{Track, line_in, line_changed_at, course_of, track_looked, passed_by, run, ended_by}
 use Rattle.rbd_slots.specs.Waits.{waits, awaits_line, awaits_turn, awaits_look}
@@ -89,6 +89,7 @@ module _ {R : Type 0} (stands : R → Standing) (slot : ℕ) (start : Running R)
     pub extent : r.extent ≡ start.extent
     pub looked : r.looked ≡ None
     pub others : LeavesOthers slot (lines_of start_lines) (lines_of lines)
+    pub used : AreUsed start_lines.entries → AreUsed lines.entries
 
   -- it hasn't ended where it wants more
   live : (u : Flow) (s : Standing) (t : Track) → IsGoing slot start.extent labels last final u s t → IsGoingOn u s.plan
@@ -143,11 +144,11 @@ module _ {R : Type 0} (stands : R → Standing) (slot : ℕ) (start : Running R)
 
   pub advances : (u : Flow) (r : Running R) (lines : LinesView) (due : Option (List ℕ)) (w : Want) → 1 ≤ slot → slot ≤ 64 → IsAdvancing u r lines due → wanted_by u (stands r.request).plan ≡ Some w
       → (next : Running R) (after : LinesView) (left : Option (List ℕ)) → IsSameRequest r next → track_with left next after ≡ passed_by slot (track_with due r lines) w
-      → ((IsJoin w → ⊥) → CanOpen lines → CanOpen after) → length (objects_or_none left) ≤ room_of next.place after
+      → ((IsJoin w → ⊥) → CanOpen lines → CanOpen after) → length (objects_or_none left) ≤ room_of next.place after → (AreUsed lines.entries → AreUsed after.entries)
       → (v : Flow) (request : R) → GoesOn (stands next.request).labels (plan_after (stands next.request).plan fed.Passed) v (stands request)
       → IsAdvancing v (record next { request = request }) after left × (waits_left v (stands request).plan < waits_left u (stands r.request).plan)
-  advances (flow.Done reply) r lines due w from to a wants next after left same track opens room v request goes = cc
-  advances flow.More r lines due w from to a wants next after left same track opens room v request goes =
+  advances (flow.Done reply) r lines due w from to a wants next after left same track opens room used v request goes = cc
+  advances flow.More r lines due w from to a wants next after left same track opens room used v request goes =
       let s = stands r.request in
       let t = track_with due r lines in
       let passing = goes_past slot start.extent labels last final s t w a.going wants in
@@ -168,6 +169,7 @@ module _ {R : Type 0} (stands : R → Standing) (slot : ℕ) (start : Running R)
           looked = same.looked ∙ a.looked;
           others = λ other differ site image.
               sym (ap (λ (ls : _). member_of other (ls site image)) lines_are) ∙ passed_leaves slot t w other differ site image ∙ a.others other differ site image;
+          used = λ were. used (a.used were);
         },
         further.less,
       )
@@ -256,11 +258,11 @@ module _ {R : Type 0} (stands : R → Standing) (slot : ℕ) (start : Running R)
 
 pub advancing_begins : {R : Type 0} (stands : R → Standing) (is_ready : R → Answer → Type 0) (slot : ℕ) (start : Running R) (lines : LinesView) (f : Fed) → (w : IsFedWell stands is_ready slot start lines f)
     → (r : Running R) (after : LinesView) (due : Option (List ℕ)) → track_with due r after ≡ past_its_look slot start.looked (track_of start lines) → r ≡ record start { looked = None }
-    → due ≡ start.looked → (CanOpen lines → CanOpen after) → room_of start.place lines ≤ room_of start.place after
+    → due ≡ start.looked → (CanOpen lines → CanOpen after) → room_of start.place lines ≤ room_of start.place after → (AreUsed lines.entries → AreUsed after.entries)
     → (u : Flow) (request : R) → GoesOn (stands r.request).labels (plan_after (stands r.request).plan f) u (stands request)
     → IsAdvancing stands slot start lines (stands start.request).labels (at_operation (stands start.request).labels (plan_after (stands start.request).plan f))
     (run slot (plan_after (stands start.request).plan f) (fed_by slot start.extent (track_of start lines) (stands start.request).plan f)) u (record r { request = request }) after due
-advancing_begins {R} stands is_ready slot start lines f w r after due track is due_is opens room u request goes =
+advancing_begins {R} stands is_ready slot start lines f w r after due track is due_is opens room used u request goes =
     let s = stands start.request in
     let t = track_of start lines in
     let same : track_with due r after ≡ fed_by slot start.extent t s.plan f =
@@ -283,4 +285,5 @@ advancing_begins {R} stands is_ready slot start lines f w r after due track is d
       extent = ap (λ (x : Running R). x.extent) is;
       looked = ap (λ (x : Running R). x.looked) is;
       others = λ other differ site image. sym (ap (λ (ls : _). member_of other (ls site image)) lines_are) ∙ b.others other differ site image;
+      used = used;
     }

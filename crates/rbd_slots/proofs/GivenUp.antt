@@ -8,7 +8,7 @@ use Rattle.rbd_slots.specs.declared.running.Occupant.{Occupant}
 use Rattle.rbd_slots.specs.declared.running.Occupant.TheVariants as occupant
 use Rattle.rbd_slots.specs.declared.running.Running.{Running}
 use Rattle.rbd_slots.specs.Advance.{track_of}
-use Rattle.rbd_slots.specs.Lines.{LinesView, lines_of}
+use Rattle.rbd_slots.specs.Lines.{AreUsed, LinesView, lines_of}
 use Rattle.rbd_slots.specs.OnTrack.{AreFair, LeavesOthers}
 use Rattle.rbd_slots.specs.Session.{SessionView, IsSoundSession, IsLowest, held_in, running_in, running_at}
 use Rattle.rbd_slots.specs.Track.{line_changed_at}
@@ -27,7 +27,7 @@ module _ {R : Type 0} (stands : R → Standing) (s : SessionView R) (sound : IsS
       range None at is = absurd (none-some r is)
 
   -- what it leaves of the lines
-  module _ (after : LinesView) (left : lines_of after ≡ line_changed_at r.place (without slot) (lines_of s.lines)) where
+  module _ (after : LinesView) (left : lines_of after ≡ line_changed_at r.place (without slot) (lines_of s.lines)) (used : AreUsed s.lines.entries → AreUsed after.entries) where
     pub leaves_others : LeavesOthers slot (lines_of s.lines) (lines_of after)
     leaves_others other differ site image = ap (λ (ls : _). member_of other (ls site image)) left ∙ ended_leaves slot (track_of r s.lines) other differ site image
 
@@ -42,4 +42,4 @@ module _ {R : Type 0} (stands : R → Standing) (s : SessionView R) (sound : IsS
         → IsSoundSession stands (record { instance = s.instance; home = s.home; slots = slots; lowest = lowest; lines = after })
     given_up slots lowest are is_lowest =
         subst (λ xs. IsSoundSession stands (record { instance = s.instance; home = s.home; slots = xs; lowest = lowest; lines = after })) (sym are)
-        (set_sound stands s sound slot within.0 within.1 None lowest after leaves_others fair (subst (IsLowest lowest) are is_lowest) in_no_line)
+        (set_sound stands s sound slot within.0 within.1 None lowest after leaves_others fair (used sound.used) (subst (IsLowest lowest) are is_lowest) in_no_line)

@@ -11,7 +11,7 @@ use Rattle.rbd_slots.specs.declared.running.Occupant.{Occupant}
 use Rattle.rbd_slots.specs.declared.running.Occupant.TheVariants as occupant
 use Rattle.rbd_slots.specs.declared.running.Running.{Running}
 use Rattle.rbd_slots.specs.Advance.{track_of, looked_for, IsSameStand, IsFedWell}
-use Rattle.rbd_slots.specs.Lines.{LinesView, lines_of}
+use Rattle.rbd_slots.specs.Lines.{AreUsed, LinesView, lines_of}
 use Rattle.rbd_slots.specs.OnTrack.{IsOnTrack, IsSomewhere, AreFair, LeavesOthers}
 use Rattle.rbd_slots.specs.Session.{SessionView, IsSoundSession, OfRunning, IsAnswered, IsAlikeIn, IsAlike, IsReadied, IsPrepared, held_in, running_in}
 use Rattle.rbd_slots.specs.Waits.{waits}
@@ -56,7 +56,7 @@ module _ {R : Type 0} (stands : R → Standing) where
   alike_itself s = record { instance = refl; home = refl; lowest = refl; slots = λ slot. held_alike_itself (held_in slot s.slots); lines = refl }
 
   module _ (is_ready : R → Answer → Type 0) (s : SessionView R) (sound : IsSoundSession stands s) (slot : ℕ) (f : Fed) (if_ok : Type 0 → Type 0) (o : Option (Occupant R)) (after : LinesView)
-      (lines : lines_of after ≡ lines_of s.lines) (from : OfRunning (IsFrom is_ready slot s.lines f if_ok after o) (held_in slot s.slots)) where
+      (lines : lines_of after ≡ lines_of s.lines) (used : AreUsed s.lines.entries → AreUsed after.entries) (from : OfRunning (IsFrom is_ready slot s.lines f if_ok after o) (held_in slot s.slots)) where
     leaves : LeavesOthers slot (lines_of s.lines) (lines_of after)
     leaves other differ site image = ap (λ (ls : _). member_of other (ls site image)) lines
 
@@ -76,7 +76,7 @@ module _ {R : Type 0} (stands : R → Standing) where
             → IsSoundSession stands (record { instance = s.instance; home = s.home; slots = slice_set s.slots slot o; lowest = s.lowest; lines = after })
         go (Some (occupant.Running r)) is (Some (occupant.Running q)) are both =
             subst (λ p. IsSoundSession stands (record { instance = s.instance; home = s.home; slots = slice_set s.slots slot p; lowest = s.lowest; lines = after })) (sym are)
-            (set_sound stands s sound slot range.0 range.1 (Some (occupant.Running q)) s.lowest after leaves fair
+            (set_sound stands s sound slot range.0 range.1 (Some (occupant.Running q)) s.lowest after leaves fair (used sound.used)
             (stays_lowest s.slots s.lowest slot (occupant.Running r) (occupant.Running q) sound.lowest less is) (
               same_on_track slot r q s.lines after both.0 lines (sound.runs slot r (ap running_in is)),
               subst (λ (t : Standing). IsAsking t.plan) (sym both.0.same) (sound.asks slot r (ap running_in is)),

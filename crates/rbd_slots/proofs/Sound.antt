@@ -21,7 +21,7 @@ use Rattle.rbd_kinds.specs.declared.image_at.ImageAt.{ImageAt}
 use Rattle.rbd_slots.specs.declared.running.Occupant.{Occupant}
 use Rattle.rbd_slots.specs.declared.running.Occupant.TheVariants as occupant
 use Rattle.rbd_slots.specs.declared.running.Running.{Running}
-use Rattle.rbd_slots.specs.Lines.{LinesView, lines_of}
+use Rattle.rbd_slots.specs.Lines.{AreUsed, LinesView, lines_of}
 use Rattle.rbd_slots.specs.OnTrack.{IsOnTrack, IsThere, IsSomewhere, AreFair, LeavesOthers}
 use Rattle.rbd_slots.specs.Track.{Track, line_in, course_in, course_of, run}
 use Rattle.rbd_slots.specs.Advance.{track_of, fed_by, GoesFurther, AdvancesTo}
@@ -40,9 +40,9 @@ fair_none : IsFairLine []
 fair_none = record { apart = tt; each = tt; passing = tt }
 
 pub new_sound : {R : Type 0} (stands : R → Standing) (instance : Instance) (home : SiteId) (slots : List (Option (Occupant R))) (lines : LinesView) → slots ≡ replicate 65 None
-    → ((site : SiteId) (image : ℕ) → lines_of lines site image ≡ [])
+    → ((site : SiteId) (image : ℕ) → lines_of lines site image ≡ []) → AreUsed lines.entries
     → IsSoundSession stands (record { instance = instance; home = home; slots = slots; lowest = 1; lines = lines })
-new_sound {R} stands instance home slots lines are none =
+new_sound {R} stands instance home slots lines are none used =
     let free : (slot : ℕ) → held_in slot slots ≡ None = λ slot. ap (held_in slot) are ∙ all_free 65 slot in
     record {
       slots = ap length are ∙ length-replicate 65 (nothing {T = Occupant R});
@@ -52,6 +52,7 @@ new_sound {R} stands instance home slots lines are none =
       asks = λ slot r is. absurd (none-some r (sym (ap running_in (free slot)) ∙ is));
       others = λ slot is site image. ap (member_of slot) (none site image);
       fair = λ site image. subst IsFairLine (sym (none site image)) fair_none;
+      used = used;
     }
 
 -- ---- the others
@@ -99,9 +100,9 @@ module _ {R : Type 0} (stands : R → Standing) where
   well_rests slot None lines well is = well
 
   pub set_sound : (s : SessionView R) → IsSoundSession stands s → (slot : ℕ) → 1 ≤ slot → slot ≤ 64 → (o : Option (Occupant R)) (lowest : ℕ) (lines : LinesView)
-      → LeavesOthers slot (lines_of s.lines) (lines_of lines) → AreFair (lines_of lines) → IsLowest lowest (slice_set s.slots slot o) → IsWell stands slot o lines
+      → LeavesOthers slot (lines_of s.lines) (lines_of lines) → AreFair (lines_of lines) → AreUsed lines.entries → IsLowest lowest (slice_set s.slots slot o) → IsWell stands slot o lines
       → IsSoundSession stands (record { instance = s.instance; home = s.home; slots = slice_set s.slots slot o; lowest = lowest; lines = lines })
-  set_sound s sound slot from to o lowest lines leaves fair is_lowest well = record {
+  set_sound s sound slot from to o lowest lines leaves fair used is_lowest well = record {
     slots = length-set s.slots slot o ∙ sound.slots;
     zero = get_or-set_other s.slots slot 0 o None (λ same. omega (arith, from, same)) ∙ sound.zero;
     lowest = is_lowest;
@@ -109,6 +110,7 @@ module _ {R : Type 0} (stands : R → Standing) where
     asks = λ n r is. (runs_at n r is).1;
     others = rests_at;
     fair = fair;
+    used = used;
   }
     where
       runs_at : (n : ℕ) (r : Running R) → running_in (held_in n (slice_set s.slots slot o)) ≡ Some r → IsOnTrack n r.extent true (stands r.request) (track_of r lines) × IsAsking (stands r.request).plan
@@ -205,7 +207,7 @@ pub refused_goes : {R : Type 0} (stands : R → Standing) (s : SessionView R) �
 refused_goes {R} stands s sound slot x is slots lowest are is_lowest =
     subst (λ xs. IsSoundSession stands (record { instance = s.instance; home = s.home; slots = xs; lowest = lowest; lines = s.lines })) (sym are)
     (let within = refused_range stands s sound slot x is in
-    set_sound stands s sound slot within.0 within.1 None lowest s.lines (λ other differ site image. refl) sound.fair
+    set_sound stands s sound slot within.0 within.1 None lowest s.lines (λ other differ site image. refl) sound.fair sound.used
     (subst (IsLowest lowest) are is_lowest) (sound.others slot (refused_is (held_in slot s.slots) x is).1))
 
 -- what stands at a place within
@@ -313,9 +315,9 @@ module _ {R : Type 0} (stands : R → Standing) where
 
   pub fed_sound : (s : SessionView R) → IsSoundSession stands s → (slot : ℕ) (f : Fed) (result : Option Reply) (o : Option (Occupant R)) (after : LinesView)
       → OfRunning (λ r. ComesToIn stands slot s.lines f result r o after) (held_in slot s.slots) → KeepsToItsLine stands slot o after
-      → LeavesOthers slot (lines_of s.lines) (lines_of after) → AreFair (lines_of after)
+      → LeavesOthers slot (lines_of s.lines) (lines_of after) → AreFair (lines_of after) → AreUsed after.entries
       → IsSoundSession stands (record { instance = s.instance; home = s.home; slots = slice_set s.slots slot o; lowest = lowest_after s.lowest slot (is_some result); lines = after })
-  fed_sound s sound slot f result o after comes keeps leaves fair = go (held_in slot s.slots) refl comes
+  fed_sound s sound slot f result o after comes keeps leaves fair used = go (held_in slot s.slots) refl comes
     where
       go : (h : Option (Occupant R)) → held_in slot s.slots ≡ h → OfRunning (λ r. ComesToIn stands slot s.lines f result r o after) h
           → IsSoundSession stands (record { instance = s.instance; home = s.home; slots = slice_set s.slots slot o; lowest = lowest_after s.lowest slot (is_some result); lines = after })
@@ -323,7 +325,7 @@ module _ {R : Type 0} (stands : R → Standing) where
           let range = held_range stands s sound slot (occupant.Running r) is in
           let len = sound.slots in
           let to = range.1 in
-          set_sound stands s sound slot range.0 range.1 o (lowest_after s.lowest slot (is_some result)) after leaves fair
+          set_sound stands s sound slot range.0 range.1 o (lowest_after s.lowest slot (is_some result)) after leaves fair used
           (comes_lowest s.slots s.lowest slot f result r o s.lines after sound.lowest (omega (arith, len, to)) range.0 (omega (arith, to)) is comes)
           (comes_well slot f result r o s.lines after comes keeps)
       go (Some (occupant.Refused line refusal)) is comes = elim comes [ ]

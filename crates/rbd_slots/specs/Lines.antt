@@ -1,5 +1,5 @@
 -- The lines of the images that a session's requests change, in a table by image.
-use Rattle.std.specs.Prelude.{◌≡◌, ◌⊎◌, ◌≤◌, true, length, ℕ, ◌<◌, nat_eq, Bool, false, List, [], Option, Some, None, IsSome}
+use Rattle.std.specs.Prelude.{◌≡◌, ◌⊎◌, ◌≤◌, true, length, ℕ, ◌<◌, nat_eq, Bool, false, List, [], Option, Some, None, IfSome, IsFalse, IsSome}
 use Rattle.std.specs.HashMap.{HashMap, get}
 use Rattle.std.specs.Map.{lookup}
 use Rattle.rbd_guard.specs.Order.{AreApart}
@@ -41,6 +41,17 @@ room_at key l = room_or (lookup (nat_eq key) l.entries)
 -- the line of each image
 abbrev pub lines_of : LinesView → SiteId → (image : ℕ) → List Member
 lines_of l site image = members_at (key_of site image) l
+
+-- a line is held only while somebody is in it
+abbrev pub IsUsed : Option LineView → Type 0
+IsUsed o = IfSome o (λ (v : LineView). 0 < length v.members)
+
+abbrev pub AreUsed : List (ℕ × LineView) → Type 0
+AreUsed entries = (key : ℕ) → IsUsed (lookup (nat_eq key) entries)
+
+-- the same of each line but one, which somebody has just left
+abbrev pub AreUsedBut : (key : ℕ) → List (ℕ × LineView) → Type 0
+AreUsedBut key entries = (other : ℕ) → IsFalse (nat_eq key other) → IsUsed (lookup (nat_eq other) entries)
 
 -- the line of the image has a member
 abbrev pub HasMembers : Option ImageAt → LinesView → Type 0

@@ -27,7 +27,7 @@ use Rattle.rbd_slots.specs.declared.running.Occupant.TheVariants as occupant
 use Rattle.rbd_slots.specs.declared.running.Running.{Running}
 use Rattle.rbd_kinds.specs.declared.image_at.ImageAt.{ImageAt}
 use Rattle.rbd_slots.specs.Advance.{objects_or_none, track_of, looked_for, fed_by, IsSameStand, IsFedWell, AdvancesTo}
-use Rattle.rbd_slots.specs.Lines.{LinesView, lines_of, room_of, CanOpen}
+use Rattle.rbd_slots.specs.Lines.{AreUsed, LinesView, lines_of, room_of, CanOpen}
 use Rattle.rbd_slots.specs.OnTrack.{IsOnTrack, AreFair}
 use Rattle.rbd_slots.specs.Track.{run}
 use Rattle.rbd_slots.specs.Waits.{waits, waits_at}
@@ -68,8 +68,8 @@ module _ {R : Type 0} where
   abbrev pub running_at : (slot : ℕ) → SessionView R → Option (Running R)
   running_at slot s = running_in (held_in slot s.slots)
 
-  -- a request that runs keeps to its line and stands at an operation, and who doesn't run is in no
-  -- line
+  -- A request that runs keeps to its line and stands at an operation, and who doesn't run is in no
+  -- line. A line in which nobody is isn't held.
   pub record IsSoundSession (stands : R → Standing) (s : SessionView R) : Type 0 where
     pub slots : length s.slots ≡ 65
     pub zero : held_in 0 s.slots ≡ None
@@ -80,6 +80,7 @@ module _ {R : Type 0} where
     pub others : (slot : ℕ) → running_at slot s ≡ None → (site : SiteId) (image : ℕ)
         → member_of slot (lines_of s.lines site image) ≡ None
     pub fair : AreFair (lines_of s.lines)
+    pub used : AreUsed s.lines.entries
 
 -- the script's line of the request in a slot
 abbrev pub script_line : {R : Type 0} → Option (Occupant R) → Option ℕ

@@ -5,7 +5,7 @@ ghost use Rattle.rbd_machine.specs.Plan.{plan_after};
 ghost use Rattle.rbd_queue.specs.Line.{is_member, changed_member, new_member, without, may_pass};
 ghost use Rattle.rbd_slots.specs.Advance.{objects_or_none, track_with, track_of, past_its_look, fed_by, wanted_by, no_operation, IsGoingOn, IsSameRequest, IsJoin, MayPass, IsFedWell, AdvancesTo, StaysOnTrack};
 ghost use Rattle.rbd_slots.specs.OnTrack.{AreFair, LeavesOthers};
-ghost use Rattle.rbd_slots.specs.Lines.{members_at, members_of, lines_of, room_at, room_of, is_key, CanOpen, MayEnterAll};
+ghost use Rattle.rbd_slots.specs.Lines.{AreUsed, members_at, members_of, lines_of, room_at, room_of, is_key, CanOpen, MayEnterAll};
 ghost use Rattle.rbd_slots.specs.Track.{line_changed_at, done_with, given_tickets, passed_by, run};
 
 use crate::lines::Lines;
@@ -31,6 +31,7 @@ pub fn advance<R: Request>(
     ensures keeps { StaysOnTrack R.stands slot result running.new lines.new }
     ensures others { LeavesOthers slot (lines_of lines.old) (lines_of lines.new) }
     ensures fair { AreFair (lines_of lines.new) }
+    ensures used { AreUsed lines.old.entries → AreUsed lines.new.entries }
 {
     let mut due = look(running, lines, slot);
     let mut turn = running.request.feed(fed);
@@ -77,6 +78,7 @@ fn look<R>(running: &mut Running<R>, lines: &mut Lines, slot: Slot) -> Option<Se
     ensures due { result ≡ running.old.looked }
     ensures open { CanOpen lines.old → CanOpen lines.new }
     ensures room { room_of running.old.place lines.old ≤ room_of running.old.place lines.new }
+    ensures used { AreUsed lines.old.entries → AreUsed lines.new.entries }
 {
     let Some(objects) = running.looked.take() else {
         return None;
@@ -93,6 +95,7 @@ fn note(place: Option<ImageAt>, lines: &mut Lines, slot: Slot, due: &mut Option<
         (members_at key lines.old) }
     ensures due { due.new ≡ None }
     ensures open { CanOpen lines.old → CanOpen lines.new }
+    ensures used { AreUsed lines.old.entries → AreUsed lines.new.entries }
 {
     let Some(objects) = due.take() else {
         return;
@@ -106,6 +109,7 @@ fn end_piece(place: Option<ImageAt>, lines: &mut Lines, slot: Slot, turn: Option
         (changed_member slot (done_with turn) (members_at key lines.old)) (members_at key lines.old) }
     ensures room { (key : ℕ) → room_at key lines.old ≤ room_at key lines.new }
     ensures open { CanOpen lines.old → CanOpen lines.new }
+    ensures used { AreUsed lines.old.entries → AreUsed lines.new.entries }
 {
     if turn.is_some() {
         lines.end_piece(place, slot);
@@ -127,6 +131,7 @@ fn join<R>(
     ensures lines { lines_of lines.new ≡ line_changed_at (Some place)
         (λ members. members ++ new_member slot sharing ∷ []) (lines_of lines.old) }
     ensures running { running.new ≡ record running.old { place = Some place } }
+    ensures used { AreUsed lines.old.entries → AreUsed lines.new.entries }
 {
     lines.join(&place, slot, sharing);
     running.place = Some(place);
@@ -139,6 +144,7 @@ fn turn_to<R>(running: &mut Running<R>, lines: &mut Lines, slot: Slot, turn: Opt
     ensures running { running.new ≡ record running.old { turn = turn } }
     ensures room { room_of running.old.place lines.old ≤ room_of running.old.place lines.new }
     ensures open { CanOpen lines.old → CanOpen lines.new }
+    ensures used { AreUsed lines.old.entries → AreUsed lines.new.entries }
 {
     end_piece(running.place, lines, slot, running.turn);
     running.turn = turn;
@@ -149,6 +155,7 @@ fn leave<R>(running: &mut Running<R>, lines: &mut Lines, slot: Slot)
     ensures lines { lines_of lines.new ≡ line_changed_at running.old.place (without slot) (lines_of lines.old) }
     ensures running { running.new ≡ record running.old { place = None; turn = None } }
     ensures open { CanOpen lines.old → CanOpen lines.new }
+    ensures used { AreUsed lines.old.entries → AreUsed lines.new.entries }
 {
     lines.leave(running.place, slot);
     running.place = None;
@@ -173,6 +180,7 @@ fn pass<R>(
     ensures running { IsSameRequest running.old running.new }
     ensures open { (IsJoin want → ⊥) → CanOpen lines.old → CanOpen lines.new }
     ensures room { length (objects_or_none due.new) ≤ room_of running.new.place lines.new }
+    ensures used { AreUsed lines.old.entries → AreUsed lines.new.entries }
 {
     match want {
         Want::Op { .. } => {}

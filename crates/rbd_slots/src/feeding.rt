@@ -3,7 +3,7 @@ ghost use Rattle.std.specs.Prelude.{◌≡◌, ℕ, None, OnOk};
 ghost use Rattle.rbd_machine.specs.Answers.{CanBeFed};
 ghost use Rattle.rbd_machine.specs.Plan.{IsAsking};
 ghost use Rattle.rbd_slots.specs.Advance.{track_of, IsFedWell, IsSameStand};
-ghost use Rattle.rbd_slots.specs.Lines.{lines_of, members_at};
+ghost use Rattle.rbd_slots.specs.Lines.{AreUsed, lines_of, members_at};
 ghost use Rattle.rbd_slots.specs.OnTrack.{IsSomewhere, AreFair, LeavesOthers};
 ghost use Rattle.rbd_slots.specs.Session.{ComesToIn, OfRunning, IsPrepared, KeepsToItsLine};
 
@@ -31,6 +31,7 @@ pub fn prepare_in<R: Request>(
         (λ q. IsSameStand R.stands r q
         × OnOk result (IsPrepared R.stands R.is_ready slot r lines.old fed.now q lines.new)) occupant.new)
         occupant.old }
+    ensures used { AreUsed lines.old.entries → AreUsed lines.new.entries }
 {
     match occupant {
         Some(Occupant::Running(running)) => prepare(alloc, running, lines, slot, fed),
@@ -51,6 +52,7 @@ pub fn feed_in<R: Request>(
     ensures keeps { KeepsToItsLine R.stands slot occupant.new lines.new }
     ensures others { LeavesOthers slot (lines_of lines.old) (lines_of lines.new) }
     ensures fair { AreFair (lines_of lines.new) }
+    ensures used { AreUsed lines.old.entries → AreUsed lines.new.entries }
 {
     let reply = match occupant {
         Some(Occupant::Running(running)) => advance(running, lines, slot, fed),

@@ -3,7 +3,7 @@ ghost use Rattle.std.specs.Prelude.{◌≡◌, ◌≢◌, ℕ, ◌<◌, ◌≤�
 ghost use Rattle.std.specs.HashMap.{get, spare};
 ghost use Rattle.std.specs.Option.{option_map};
 ghost use Rattle.rbd_queue.specs.Line.{member_of, is_member, any_past, may_pass, has_turn, comes_next, new_member, held, passed, next_piece, changed_member, without};
-ghost use Rattle.rbd_slots.specs.Lines.{members_in, room_in, members_at, room_at, room_of, lines_of, members_of, is_key, CanOpen, IsEmptyLine, HasMembers, MayEnterAll};
+ghost use Rattle.rbd_slots.specs.Lines.{AreUsed, AreUsedBut, members_in, room_in, members_at, room_at, room_of, lines_of, members_of, is_key, CanOpen, IsEmptyLine, HasMembers, MayEnterAll};
 ghost use Rattle.rbd_kinds.specs.Sharing.{is_alone};
 ghost use Rattle.rbd_kinds.specs.declared.id.SiteId.{SiteId};
 ghost use Rattle.rbd_slots.specs.Track.{given_tickets};
@@ -33,6 +33,7 @@ fn enter_all(line: &mut Line, slot: Slot, objects: &[u64])
 fn leave_in(lines: &mut HashMap<u64, Line>, key: u64, slot: Slot)
     ensures members { (k : ℕ) → members_in lines.new k ≡ cond (nat_eq key k) (without slot (members_in lines.old k))
         (members_in lines.old k) }
+    ensures used { AreUsed lines.old.entries → AreUsedBut key lines.new.entries }
     ensures spare { spare lines.new ≡ spare lines.old }
 {
     let Some(line) = lines.get_mut(&key) else {
@@ -52,6 +53,7 @@ fn join_in(lines: &mut HashMap<u64, Line>, key: u64, slot: Slot, sharing: Sharin
     ensures none { IsFalse result → (k : ℕ) → get nat_eq lines.new k ≡ get nat_eq lines.old k }
     ensures absent { IsFalse result → get nat_eq lines.old key ≡ None }
     ensures room { (k : ℕ) → room_in lines.new k ≡ room_in lines.old k }
+    ensures used { AreUsed lines.old.entries → AreUsed lines.new.entries }
     ensures spare { spare lines.new ≡ spare lines.old }
 {
     let Some(line) = lines.get_mut(&key) else {
@@ -66,6 +68,7 @@ fn reserve_in(lines: &mut HashMap<u64, Line>, key: u64, tickets: u32) -> Result<
     ensures members { (k : ℕ) → members_in lines.new k ≡ members_in lines.old k }
     ensures room { (k : ℕ) → room_in lines.old k ≤ room_in lines.new k }
     ensures ok { OnOk result (IsSome (get nat_eq lines.old key) → tickets ≤ room_in lines.new key) }
+    ensures used { AreUsed lines.old.entries → AreUsed lines.new.entries }
     ensures spare { spare lines.new ≡ spare lines.old }
 {
     let Some(line) = lines.get_mut(&key) else {
@@ -87,6 +90,7 @@ fn add(lines: &mut HashMap<u64, Line>, key: u64, line: Line)
 fn forget_empty(lines: &mut HashMap<u64, Line>, unused: &mut Option<Line>, key: u64)
     ensures members { (k : ℕ) → members_in lines.new k ≡ members_in lines.old k }
     ensures gone { members_in lines.new key ≡ [] → get nat_eq lines.new key ≡ None }
+    ensures used { AreUsedBut key lines.old.entries → AreUsed lines.new.entries }
     ensures spare { spare lines.old ≤ spare lines.new }
     ensures unused { IsEmptyLine unused.old → IsEmptyLine unused.new }
 {
@@ -136,7 +140,8 @@ impl Model for Lines {
 impl Lines {
     /// Nobody is in any line. It takes no memory.
     pub fn new(alloc: Global) -> Self
-        ensures { (site : SiteId) (image : ℕ) → lines_of result site image ≡ [] }
+        ensures lines { (site : SiteId) (image : ℕ) → lines_of result site image ≡ [] }
+        ensures used { AreUsed result.entries }
     {
         Lines {
             lines: HashMap::new(alloc),
@@ -153,6 +158,7 @@ impl Lines {
         tickets: u32,
     ) -> Result<(), NoMemory>
         ensures lines { (key : ℕ) → members_at key self.new ≡ members_at key self.old }
+        ensures used { AreUsed self.old.entries → AreUsed self.new.entries }
         ensures open { OnOk result (CanOpen self.new) }
         ensures room { OnOk result (HasMembers place self.old → tickets ≤ room_of place self.new) }
     {
@@ -172,6 +178,7 @@ impl Lines {
         requires open { CanOpen self.old }
         ensures lines { (key : ℕ) → members_at key self.new ≡ cond (is_key (Some place.now) key)
             (members_at key self.old ++ new_member slot sharing ∷ []) (members_at key self.old) }
+        ensures used { AreUsed self.old.entries → AreUsed self.new.entries }
     {
         let key = place.key();
         if join_in(&mut self.lines, key, slot, sharing) {
@@ -186,6 +193,7 @@ impl Lines {
     pub fn hold(&mut self, place: Option<ImageAt>, slot: Slot)
         ensures lines { (key : ℕ) → members_at key self.new ≡ cond (is_key place key)
             (changed_member slot held (members_at key self.old)) (members_at key self.old) }
+        ensures used { AreUsed self.old.entries → AreUsed self.new.entries }
         ensures room { (key : ℕ) → room_at key self.old ≤ room_at key self.new }
         ensures open { CanOpen self.old → CanOpen self.new }
     {
@@ -203,6 +211,7 @@ impl Lines {
         requires { IsTrue (may_pass slot (members_of place self.old)) }
         ensures lines { (key : ℕ) → members_at key self.new ≡ cond (is_key place key)
             (changed_member slot passed (members_at key self.old)) (members_at key self.old) }
+        ensures used { AreUsed self.old.entries → AreUsed self.new.entries }
         ensures room { (key : ℕ) → room_at key self.old ≤ room_at key self.new }
         ensures open { CanOpen self.old → CanOpen self.new }
     {
@@ -220,6 +229,7 @@ impl Lines {
         requires { MayEnterAll slot objects.now (members_of place self.old) (room_of place self.old) }
         ensures lines { (key : ℕ) → members_at key self.new ≡ cond (is_key place key)
             (changed_member slot (given_tickets objects.now) (members_at key self.old)) (members_at key self.old) }
+        ensures used { AreUsed self.old.entries → AreUsed self.new.entries }
         ensures open { CanOpen self.old → CanOpen self.new }
     {
         let Some(place) = place else {
@@ -235,6 +245,7 @@ impl Lines {
     pub fn end_piece(&mut self, place: Option<ImageAt>, slot: Slot)
         ensures lines { (key : ℕ) → members_at key self.new ≡ cond (is_key place key)
             (changed_member slot next_piece (members_at key self.old)) (members_at key self.old) }
+        ensures used { AreUsed self.old.entries → AreUsed self.new.entries }
         ensures room { (key : ℕ) → room_at key self.old ≤ room_at key self.new }
         ensures open { CanOpen self.old → CanOpen self.new }
     {
@@ -251,6 +262,7 @@ impl Lines {
     pub fn leave(&mut self, place: Option<ImageAt>, slot: Slot)
         ensures lines { (key : ℕ) → members_at key self.new ≡ cond (is_key place key)
             (without slot (members_at key self.old)) (members_at key self.old) }
+        ensures used { AreUsed self.old.entries → AreUsed self.new.entries }
         ensures gone { HasMembers place self.new → members_of place self.new ≢ [] }
         ensures open { CanOpen self.old → CanOpen self.new }
     {

@@ -7,7 +7,7 @@ ghost use Rattle.rbd_machine.specs.Answers.{CanBeFed};
 ghost use Rattle.rbd_machine.specs.Plan.{IsAsking};
 ghost use Rattle.rbd_machine.specs.Ready.{IsReadyFor};
 ghost use Rattle.rbd_slots.specs.Advance.{objects_or_none, track_of, looked_for, look_of, IsSameStand};
-ghost use Rattle.rbd_slots.specs.Lines.{members_at, room_of, CanOpen};
+ghost use Rattle.rbd_slots.specs.Lines.{AreUsed, members_at, room_of, CanOpen};
 ghost use Rattle.rbd_slots.specs.OnTrack.{IsSomewhere};
 ghost use Rattle.rbd_slots.specs.Track.{course_of};
 ghost use Rattle.rbd_slots.specs.Waits.{waits_at};
@@ -143,6 +143,7 @@ pub fn prepare<R: Request>(
         (track_of running.old lines.old) (R.stands running.old.request).plan fed.now) }
     ensures open { OnOk result (CanOpen lines.new) }
     ensures room { OnOk result (length (objects_or_none running.new.looked) ≤ room_of running.new.place lines.new) }
+    ensures used { AreUsed lines.old.entries → AreUsed lines.new.entries }
 {
     let looked = due_behind(alloc, running, lines, slot, fed)?;
     lines.reserve(alloc, running.place, tickets(&looked)?)?;

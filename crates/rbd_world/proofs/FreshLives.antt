@@ -1,5 +1,5 @@
 -- A fresh life: what is plain of it makes it sound, and each new client is one.
-use Rattle.std.proofs.Common.{◌≡◌, ℕ, zero, suc, ◌+◌, ◌&&◌, ◌||◌, not, Bool, true, false, List, [], ◌∷◌, is_some, Some, None, refl, sym, ap, ◌∙◌, subst, arith}
+use Rattle.std.proofs.Common.{◌≡◌, ℕ, zero, suc, ◌+◌, ◌<◌, ◌&&◌, ◌||◌, not, Bool, true, false, List, [], ◌∷◌, length, is_some, Some, None, refl, sym, ap, ◌∙◌, subst, arith}
 use Rattle.std.specs.Prelude.{IfSome, IsFalse, nat_eq}
 use Rattle.std.specs.List.Sorted.{IsStrictlySortedBy}
 use Rattle.std.specs.Map.{lookup}
@@ -21,8 +21,8 @@ use Rattle.rbd_lock.specs.Locks.{AreImagesInOrder, AreNoted, IsSoundLocks, Locks
 use Rattle.rbd_lock.specs.Places.{is_among}
 use Rattle.rbd_lock.specs.States.{blank_state as unknown}
 use Rattle.rbd_machine.specs.Plan.{Standing}
-use Rattle.rbd_queue.specs.Line.{IsFairLine, member_of}
-use Rattle.rbd_slots.specs.Lines.{lines_of}
+use Rattle.rbd_queue.specs.Line.{IsFairLine, LineView, member_of}
+use Rattle.rbd_slots.specs.Lines.{AreUsed, IsUsed, LinesView, lines_of, members_or}
 use Rattle.rbd_slots.specs.Session.{IsLowest, held_in, running_in}
 use Rattle.rbd_world.specs.Step.{IsFresh}
 
@@ -92,11 +92,36 @@ sound_locks l noted asked = record {
   few = subst AreNoted (sym noted) (λ key. tt);
 }
 
+-- ---- its lines
+
+-- a line that is held has a member, so where nobody is in any line none is held
+none_held : (l : LinesView) → AreUsed l.entries → ((s : SiteId) (image : ℕ) → lines_of l s image ≡ []) → l.entries ≡ []
+none_held l used none = by l.entries refl
+  where
+    by : (entries : List (ℕ × LineView)) → l.entries ≡ entries → entries ≡ []
+    by [] is = refl
+    by (e ∷ rest) is = absurd (omega (arith, some, empty))
+      where
+        key : IsKey e.0
+        key = is_key e.0
+
+        found : lookup (nat_eq e.0) l.entries ≡ Some e.1
+        found = ap (lookup (nat_eq e.0)) is ∙ lookup_head (nat_eq e.0) e rest (eq-eqb e.0 e.0 refl)
+
+        empty : length e.1.members ≡ 0
+        empty = ap (λ o. length (members_or o)) (sym (ap (λ k. lookup (nat_eq k) l.entries) key.is ∙ found)) ∙ ap length (none key.at key.image)
+
+        some : 0 < length e.1.members
+        some = subst IsUsed found (used e.0)
+
 -- ---- the client
 
 module _ {R : Type 0} (who : Instance) (home : SiteId) (c : ClientView R) where
   pub fresh_locks : IsFresh who home c → (s : SiteId) (image : ℕ) → lock_state_at s image c.locks ≡ unknown
   fresh_locks fresh = nothing_counted c.locks fresh.noted fresh.asked
+
+  pub fresh_lines : IsFresh who home c → (s : SiteId) (image : ℕ) → lines_of c.session.lines s image ≡ []
+  fresh_lines fresh s image = ap (λ entries. members_or (lookup (nat_eq (key_of s image)) entries)) fresh.lines
 
   fair_none : IsFairLine []
   fair_none = record { apart = tt; each = tt; passing = tt }
@@ -110,8 +135,9 @@ module _ {R : Type 0} (who : Instance) (home : SiteId) (c : ClientView R) where
           (record { some = omega arith; most = omega arith; below = λ slot from to. absurd (omega (arith, from, to)); free = fresh.slots 1 });
       runs = λ slot r is. absurd (none-some r (sym (ap running_in (fresh.slots slot)) ∙ is));
       asks = λ slot r is. absurd (none-some r (sym (ap running_in (fresh.slots slot)) ∙ is));
-      others = λ slot is s image. ap (member_of slot) (fresh.lines s image);
-      fair = λ s image. subst IsFairLine (sym (fresh.lines s image)) fair_none;
+      others = λ slot is s image. ap (member_of slot) (fresh_lines fresh s image);
+      fair = λ s image. subst IsFairLine (sym (fresh_lines fresh s image)) fair_none;
+      used = subst AreUsed (sym fresh.lines) (λ key. tt);
     };
     locks = sound_locks c.locks fresh.noted fresh.asked;
     slots = fresh.many.1;
@@ -137,7 +163,7 @@ module _ {R : Type 0} (who : Instance) (home : SiteId) (c : ClientView R) where
     at_home = at_home;
     slots = slots;
     lowest = first_free c.session.lowest sound.session.lowest (slots 1);
-    lines = lines;
+    lines = none_held c.session.lines sound.session.used lines;
     states = λ slot. sound.free slot (slots slot);
     many = (sound.session.slots, sound.slots);
     noted = none_noted c.locks sound.locks.few locks;

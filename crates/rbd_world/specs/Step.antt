@@ -273,14 +273,14 @@ pub record IsSameHouse {R : Type 0} (old new : ClientView R) : Type 0 where
   pub release : new.release ≡ old.release
   pub heard : new.heard ≡ old.heard
 
--- A life without requests, which knows of no lock, lets none go, and has heard nothing: nobody
--- stands in a line, each slot is free, and slot 1 is the first to be given.
+-- A life without requests, which knows of no lock, lets none go, and has heard nothing: no line is
+-- held, each slot is free, and slot 1 is the first to be given.
 pub record IsFresh {R : Type 0} (who : Instance) (home : SiteId) (c : ClientView R) : Type 0 where
   pub instance : c.session.instance ≡ who
   pub at_home : c.session.home ≡ home
   pub slots : (slot : ℕ) → held_in slot c.session.slots ≡ None
   pub lowest : c.session.lowest ≡ 1
-  pub lines : (s : SiteId) (image : ℕ) → lines_of c.session.lines s image ≡ []
+  pub lines : c.session.lines.entries ≡ []
   pub states : (slot : ℕ) → slot_state slot c.slots ≡ blank_slot
   pub many : (length c.session.slots ≡ 65) × (length c.slots ≡ 65)
   pub noted : c.locks.entries ≡ []

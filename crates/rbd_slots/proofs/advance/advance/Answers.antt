@@ -9,7 +9,7 @@ use Rattle.rbd_slots.proofs.advance.advance.Goals as goal
 pub loop-want-init : goal.loop-want-init
 loop-want-init g c =
     advancing_begins g.R.Machine.stands g.R.Machine.is_ready c.args.slot c.args.running.now c.args.lines.now c.args.fed.now c.requires
-    c.look-due.new.running c.look-due.new.lines c.look-due.result c.look-due.ensures.track c.look-due.ensures.running c.look-due.ensures.due c.look-due.ensures.open c.look-due.ensures.room
+    c.look-due.new.running c.look-due.new.lines c.look-due.result c.look-due.ensures.track c.look-due.ensures.running c.look-due.ensures.due c.look-due.ensures.open c.look-due.ensures.room c.look-due.ensures.used
     c.feed-turn.result c.feed-turn.new.self c.feed-turn.ensures
 
 pub wanted-requires : goal.wanted-requires
@@ -43,7 +43,7 @@ loop-want-smaller g c = (advances g.R.Machine.stands c.args.slot c.args.running.
     (run c.args.slot (plan_after (g.R.Machine.stands c.args.running.now.request).plan c.args.fed.now)
     (fed_by c.args.slot c.args.running.now.extent (track_of c.args.running.now c.args.lines.now) (g.R.Machine.stands c.args.running.now.request).plan c.args.fed.now))
     c.loop-want.turn c.loop-want.running c.loop-want.lines c.loop-want.due c.in-Some.want c.requires.from c.requires.to c.loop-want.invariant (sym c.wanted.ensures ∙ c.in-Some.is)
-    c.pass.new.running c.pass.new.lines c.pass.new.due c.pass.ensures.running c.pass.ensures.track c.pass.ensures.open c.pass.ensures.room
+    c.pass.new.running c.pass.new.lines c.pass.new.due c.pass.ensures.running c.pass.ensures.track c.pass.ensures.open c.pass.ensures.room c.pass.ensures.used
     c.feed-turn-in-Some.result c.feed-turn-in-Some.new.self c.feed-turn-in-Some.ensures).1
 
 pub loop-want-preserved : goal.loop-want-preserved
@@ -52,7 +52,7 @@ loop-want-preserved g c = (advances g.R.Machine.stands c.args.slot c.args.runnin
     (run c.args.slot (plan_after (g.R.Machine.stands c.args.running.now.request).plan c.args.fed.now)
     (fed_by c.args.slot c.args.running.now.extent (track_of c.args.running.now c.args.lines.now) (g.R.Machine.stands c.args.running.now.request).plan c.args.fed.now))
     c.loop-want.turn c.loop-want.running c.loop-want.lines c.loop-want.due c.in-Some.want c.requires.from c.requires.to c.loop-want.invariant (sym c.wanted.ensures ∙ c.in-Some.is)
-    c.pass.new.running c.pass.new.lines c.pass.new.due c.pass.ensures.running c.pass.ensures.track c.pass.ensures.open c.pass.ensures.room
+    c.pass.new.running c.pass.new.lines c.pass.new.due c.pass.ensures.running c.pass.ensures.track c.pass.ensures.open c.pass.ensures.room c.pass.ensures.used
     c.feed-turn-in-Some.result c.feed-turn-in-Some.new.self c.feed-turn-in-Some.ensures).0
 
 pub returns-in-Done-clause-comes : goal.returns-in-Done-clause-comes
@@ -103,3 +103,9 @@ returns-clause-others g c = c.loop-want.invariant.others
 
 pub returns-clause-fair : goal.returns-clause-fair
 returns-clause-fair g c = c.loop-want.invariant.fair
+
+pub returns-in-Done-clause-used : goal.returns-in-Done-clause-used
+returns-in-Done-clause-used g c = λ were. c.leave.ensures.used (c.loop-want.invariant.used were)
+
+pub returns-clause-used : goal.returns-clause-used
+returns-clause-used g c = c.loop-want.invariant.used

@@ -52,6 +52,8 @@ is_out c room =
       number = λ p. c.leave_list.ensures.number p ∙ c.leave_queue.ensures.number p;
       queues = c.leave_queue.ensures.ends;
       lists = c.leave_list.ensures.ends;
+      used_queues = c.leave_queue.ensures.used;
+      used_lists = c.leave_list.ensures.used;
       places = c.take_place-at.ensures.places;
       drawn = refl;
     }

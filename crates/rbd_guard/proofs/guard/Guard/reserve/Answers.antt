@@ -1,5 +1,4 @@
-use Rattle.std.proofs.Common.{ap, subst, refl}
-use Rattle.rbd_guard.specs.Order.{ends_or}
+use Rattle.std.proofs.Common.{subst, refl}
 use Rattle.rbd_guard.specs.Tickets.{AreSame, IsSoundGuard}
 use Rattle.rbd_guard.specs.contracts.guard.Guard.{the_view}
 use Rattle.rbd_guard.proofs.Holding.{again, sound}
@@ -29,10 +28,10 @@ returns-clause-same c =
     }) in
     subst (λ g. AreSame g new) c.self.view_is
     (same_tickets (the_view c.self.inside) new c.reserve.ensures.places c.reserve_all.ensures.places
-    (λ k. ap ends_or (c.reserve_all.ensures.queues k)) (λ k. ap ends_or (c.reserve_all.ensures.lists k)) refl)
+    c.reserve_all.ensures.queues c.reserve_all.ensures.lists refl)
 
 pub returns-clause-sound : goal.returns-clause-sound
 returns-clause-sound c =
     sound _
     (same_held (the_view c.self.inside) _ c.reserve.ensures.places c.reserve_all.ensures.places
-    (λ k. ap ends_or (c.reserve_all.ensures.queues k)) (λ k. ap ends_or (c.reserve_all.ensures.lists k)) refl (again _ _ c.self.invariant))
+    c.reserve_all.ensures.queues c.reserve_all.ensures.lists refl (again _ _ c.self.invariant))

@@ -16,6 +16,6 @@ returns c = λ me.
     let r = kept c.args.self.now in
     let image = c.args.image in
     let headers = fun_ext (header_put c.args.self.now.headers c.remove.new.self image None (header_after me (r.headers image) Remove) c.remove.ensures.updates.0 (sym (after_remove me (r.headers image)))) in
-    let watchers = fun_ext (λ i. c.forget.ensures i
+    let watchers = fun_ext (λ i. c.forget.ensures.watchers i
     ∙ ap (λ (w : List Instance). put r.watchers image w i) (sym (removed_watched me (r.headers image) (r.watchers image) (sym c.contains_key.ensures ∙ c.if-not-contains_key.false)))) in
     (λ j. record r { headers = headers j; watchers = watchers j })

@@ -30,7 +30,7 @@ invariant_of-self g c =
     let s : SessionView _ = record { instance = c.self.inside.instance; home = c.self.inside.home; slots = c.self.inside.slots.items; lowest = c.self.inside.lowest; lines = c.self.inside.lines } in
     let sound =
     fed_sound g.R.Machine.stands s c.self.invariant c.args.slot c.args.fed.now c.feed_in-reply.result c.feed_in-reply.new.occupant c.feed_in-reply.new.lines (comes g c)
-    c.feed_in-reply.ensures.keeps c.feed_in-reply.ensures.others c.feed_in-reply.ensures.fair in
+    c.feed_in-reply.ensures.keeps c.feed_in-reply.ensures.others c.feed_in-reply.ensures.fair (c.feed_in-reply.ensures.used c.self.invariant.used) in
     subst (λ k. IsSoundSession g.R.Machine.stands (record { instance = c.self.inside.instance; home = c.self.inside.home; slots = slice_set c.self.inside.slots.items k c.feed_in-reply.new.occupant; lowest = c.lowest_behind-self-inside.result; lines = c.feed_in-reply.new.lines }))
     (sym c.slot.view_is)
     (subst (λ low. IsSoundSession g.R.Machine.stands (record { instance = c.self.inside.instance; home = c.self.inside.home; slots = slice_set c.self.inside.slots.items c.args.slot c.feed_in-reply.new.occupant; lowest = low; lines = c.feed_in-reply.new.lines }))

@@ -26,7 +26,7 @@ left g c = changes_lines c.in-Some.running.now.place (without c.args.slot) c.sel
 
 pub invariant_of-self : goal.invariant_of-self
 invariant_of-self g c =
-    given_up g.R.Machine.stands (before g c) c.self.invariant c.args.slot c.in-Some.running.now (runs g c) c.leave.new.self (left g c) c.free_up.new.slots.items c.free_up.new.lowest
+    given_up g.R.Machine.stands (before g c) c.self.invariant c.args.slot c.in-Some.running.now (runs g c) c.leave.new.self (left g c) c.leave.ensures.used c.free_up.new.slots.items c.free_up.new.lowest
     c.free_up.ensures.slots c.free_up.ensures.lowest
 
 pub returns-clause-left : goal.returns-clause-left
@@ -37,7 +37,7 @@ returns-clause-left g c = λ r is.
 
 pub returns-clause-lines : goal.returns-clause-lines
 returns-clause-lines g c = λ other differ site image.
-    leaves_others g.R.Machine.stands (before g c) c.self.invariant c.args.slot c.in-Some.running.now (runs g c) c.leave.new.self (left g c) other differ site image
+    leaves_others g.R.Machine.stands (before g c) c.self.invariant c.args.slot c.in-Some.running.now (runs g c) c.leave.new.self (left g c) c.leave.ensures.used other differ site image
     ∙ ap (λ (v : SessionView _). member_of other (lines_of v.lines site image)) c.self.view_is
 
 pub returns-clause-sound : goal.returns-clause-sound

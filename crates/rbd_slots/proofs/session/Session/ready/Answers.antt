@@ -52,14 +52,14 @@ pub invariant_of-self : goal.invariant_of-self
 invariant_of-self g c =
     let s : SessionView _ = record { instance = c.self.inside.instance; home = c.self.inside.home; slots = c.self.inside.slots.items; lowest = c.self.inside.lowest; lines = c.self.inside.lines } in
     subst (λ k. IsSoundSession g.R.Machine.stands (record { instance = c.self.inside.instance; home = c.self.inside.home; slots = slice_set c.self.inside.slots.items k c.prepare_in.new.occupant; lowest = c.self.inside.lowest; lines = c.prepare_in.new.lines })) (sym c.slot.view_is)
-    (readied_sound g.R.Machine.stands g.R.Machine.is_ready s c.self.invariant c.args.slot c.args.fed.now (OnOk c.prepare_in.result) c.prepare_in.new.occupant c.prepare_in.new.lines (lines g c) (from g c))
+    (readied_sound g.R.Machine.stands g.R.Machine.is_ready s c.self.invariant c.args.slot c.args.fed.now (OnOk c.prepare_in.result) c.prepare_in.new.occupant c.prepare_in.new.lines (lines g c) c.prepare_in.ensures.used (from g c))
 
 pub returns-clause-alike : goal.returns-clause-alike
 returns-clause-alike g c =
     let s : SessionView _ = record { instance = c.self.inside.instance; home = c.self.inside.home; slots = c.self.inside.slots.items; lowest = c.self.inside.lowest; lines = c.self.inside.lines } in
     rw (← c.self.view_is)
     (subst (λ k. IsAlike g.R.Machine.stands s (record { instance = c.self.inside.instance; home = c.self.inside.home; slots = slice_set c.self.inside.slots.items k c.prepare_in.new.occupant; lowest = c.self.inside.lowest; lines = c.prepare_in.new.lines })) (sym c.slot.view_is)
-    (readied_alike g.R.Machine.stands g.R.Machine.is_ready s c.self.invariant c.args.slot c.args.fed.now (OnOk c.prepare_in.result) c.prepare_in.new.occupant c.prepare_in.new.lines (lines g c) (from g c)))
+    (readied_alike g.R.Machine.stands g.R.Machine.is_ready s c.self.invariant c.args.slot c.args.fed.now (OnOk c.prepare_in.result) c.prepare_in.new.occupant c.prepare_in.new.lines (lines g c) c.prepare_in.ensures.used (from g c)))
 
 pub returns-clause-ready : goal.returns-clause-ready
 returns-clause-ready g c =

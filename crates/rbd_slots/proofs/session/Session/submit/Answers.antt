@@ -15,7 +15,7 @@ invariant_of-self g c =
     let slots = c.as_slice.ensures.value ∙ c.hold.ensures in
     subst (λ xs. IsSoundSession g.R.Machine.stands (record { instance = c.self.inside.instance; home = c.self.inside.home; slots = xs; lowest = c.next_free-self-inside.result; lines = c.self.inside.lines })) (sym c.hold.ensures)
     (set_sound g.R.Machine.stands s c.self.invariant c.self.inside.lowest c.self.invariant.lowest.some (free g c) (Some c.in-Ok.occupant) c.next_free-self-inside.result c.self.inside.lines
-    (λ other differ site image. refl) c.self.invariant.fair
+    (λ other differ site image. refl) c.self.invariant.fair c.self.invariant.used
     (taken c.self.inside.slots.items c.self.inside.lowest c.in-Ok.occupant c.next_free-self-inside.result c.self.invariant.lowest c.self.invariant.slots (free g c)
     c.next_free-self-inside.ensures.from c.next_free-self-inside.ensures.to
     (subst (λ xs. (slot : ℕ) → c.self.inside.lowest + 1 ≤ slot → slot < c.next_free-self-inside.result → IsSome (held_in slot xs)) slots c.next_free-self-inside.ensures.below)
