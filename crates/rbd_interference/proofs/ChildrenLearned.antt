@@ -39,7 +39,7 @@ use Rattle.rbd_registry.proofs.Entries.{entry_total}
 use Rattle.rbd_flat.specs.Flat.{Flat}
 use Rattle.rbd_machine.specs.Ancestors.{ChildBase, ChildLink, IsAmong, SnapPlace}
 use Rattle.rbd_machine.specs.Children.{based_by, childless_by, is_base, is_link, is_snap, is_unprotecting, is_view_unprotecting, linked_by, lists_unprotecting, protected_size, with_childless}
-use Rattle.rbd_machine.specs.Knowledge.{Knowledge, Own, first_told, header_alone, header_told, is_at, is_drawn, learned, learned_of_header, learned_of_map, learned_of_object, looked_behind, looked_by, looked_under_lock, own_of, same_site}
+use Rattle.rbd_machine.specs.Knowledge.{Knowledge, Own, first_told, found, header_alone, header_told, is_at, is_drawn, knows_head, learned, learned_of_header, learned_of_map, learned_of_object, looked_behind, looked_by, looked_under_lock, own_of, same_site, with_objects_where}
 use Rattle.rbd_machine.specs.Permits.{Permits, MayRemove}
 use Rattle.rbd_machine.proofs.AtLeast.{IsNewBase, among_left, base_was}
 use Rattle.rbd_site.specs.ChildrenStep.{entry}
@@ -205,10 +205,17 @@ record KeepsIds (new old : Knowledge) : Type 0 where
 ids_themselves : (k : Knowledge) → KeepsIds k k
 ids_themselves k = record { drawn = refl; owns = refl }
 
+-- whether it counts as there or not
+found_keeps : (k : Knowledge) (site : SiteId) (image number : ℕ) (counts : Bool) → KeepsIds (with_objects_where counts site image (found number) k) k
+found_keeps k site image number true = record { drawn = refl; owns = refl }
+found_keeps k site image number false = ids_themselves k
+
 object_keeps : (k : Knowledge) (site : SiteId) (image number : ℕ) (o : DataOp) (a : Answer) → KeepsIds (learned_of_object k site image number o a) k
 object_keeps k site image number (object.Write context must parts bytes) answer.Done = record { drawn = refl; owns = refl }
 object_keeps k site image number (object.WriteFull context bytes) answer.Done = record { drawn = refl; owns = refl }
+object_keeps k site image number (object.Read snap parts) a = found_keeps k site image number (knows_head k site image number snap a)
 object_keeps k site image number (object.CopyUp bytes) answer.Done = record { drawn = refl; owns = refl }
+object_keeps k site image number (object.CopyUp bytes) answer.Exists = record { drawn = refl; owns = refl }
 object_keeps k site image number (object.Zero context must parts) answer.Done = record { drawn = refl; owns = refl }
 object_keeps k site image number (object.Empty context) answer.Done = record { drawn = refl; owns = refl }
 object_keeps k site image number (object.Remove context) answer.Done = record { drawn = refl; owns = refl }

@@ -37,7 +37,7 @@ use Rattle.rbd_stands.proofs.StoreSteps.{blank_trimmed}
 use Rattle.rbd_flat.specs.Flat.{no_images}
 use Rattle.rbd_interference.specs.Ancestors.{AreSeenTrue, DrewNoneOf}
 use Rattle.rbd_interference.specs.Beside.{AreBeside, GoTogether, MayAct}
-use Rattle.rbd_interference.specs.Truth.{AreMapsTrue, AreObjectsTrue, HasNoStates, is_alone_on, IsCountTrue, IsGoneAt, IsStill, IsTrueAt, IsWaiting, known_header, sharing_of_own, sharing_on, IsStillOwn, IsStillAs}
+use Rattle.rbd_interference.specs.Truth.{AreMapsTrue, AreObjectsTrue, HasNoStates, is_alone_on, IsCountTrue, IsGoneAt, IsStill, IsTrueAt, IsWaiting, known_header, sharing_of_own, sharing_on, IsStillOwn}
 use Rattle.rbd_interference.proofs.Each.{alike_true, objects_alike, of_all}
 use Rattle.rbd_interference.proofs.Children.{children_beside_locks, children_kept, children_there, keeps_header, none_behind}
 use Rattle.rbd_interference.proofs.Fenced.{after_free, was_free}

@@ -410,7 +410,7 @@ module _ (site : SiteId) (r : Records) (me : Instance) (k : Knowledge) (t : IsTr
       let there = owned_there site r me k image _ t free owns in
       let edits = marks image snap status owns in
       subst (λ a. AreImagesTrue site (doing image (header.SnapStatus snap status)) me (learned_of_header k site image (header.SnapStatus snap status) a)) (sym edits.answered)
-      (edited image (header.SnapStatus snap status) _ owns (with_status snap status) (λ h owner. refl) (λ h. refl) there.view (there.still.exact (alone_unshared owns.sharing owns.meets.0)) refl edits.is)
+      (edited image (header.SnapStatus snap status) _ owns (with_status snap status) (λ h owner. refl) (λ h. refl) there.view (there.still.exact (inl (alone_unshared owns.sharing owns.meets.0))) refl edits.is)
 
   -- ---- its size, and its end
 
